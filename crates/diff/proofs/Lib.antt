@@ -1,0 +1,9 @@
+-- Laws on diffs.
+pub mod Reading
+pub mod Derivation
+pub mod Encoding
+pub mod Coded
+pub mod Decoded
+pub mod Prices
+pub mod Making
+pub mod OnlyDiff

@@ -1,0 +1,219 @@
+-- The changes between two states of the pages: they ascend, name what differs, and turn the one into the other; and they
+-- are the only such prices.
+use Prim.Native.Nat.{ℕ, zero, suc, _+_, _-_, _*_, _/_, _%_, _≤_, _<_}
+use mathlib.Core.Path.{_≡_, refl, sym, ap, _∙_}
+use mathlib.Core.Logic.{_≢_}
+use mathlib.Core.List.{List, [], _∷_, _++_}
+use mathlib.Core.Bool.{Bool, true, false, cond, true≢false}
+use native.Mathlib.Omega.{arith}
+use native.Mathlib.Nat.{add-zero}
+use native.Mathlib.Numerals.{add-one}
+use native.Mathlib.Decide.{ℕ-discrete}
+use borrow.Author.Tests.{eq-eqb, ne-eqb}
+use lib.ListN.{length, getD}
+use Rattle.diff.specs.Prices.{Price, labelOf, names}
+use Rattle.diff.specs.Making.{priceAt, changesFrom}
+use Rattle.diff.proofs.Encoding.{Ascending, none, more, ascending-from}
+use Rattle.diff.proofs.Prices.{names-first, names-later, names-more, names-none, names-below}
+use Rattle.diff.proofs.Prices.{laidAt, laid-first, laid-later, laid-none, laid-below}
+
+-- ---- one label
+
+module _ (label w t : ℕ) (ws ts : List ℕ) where
+  pub changes-same : w ≡ t → changesFrom label (w ∷ ws) (t ∷ ts) ≡ changesFrom (label + 1) ws ts
+  unfolding changesFrom
+  changes-same e = simp (eq-eqb w t e)
+
+  pub changes-differ : w ≢ t → changesFrom label (w ∷ ws) (t ∷ ts) ≡ priceAt label w ∷ changesFrom (label + 1) ws ts
+  unfolding changesFrom
+  changes-differ n = simp (ne-eqb w t n)
+
+pub changes-none : (label : ℕ) (ts : List ℕ) → changesFrom label [] ts ≡ []
+unfolding changesFrom
+changes-none label ts = refl
+
+pub label-at : (label w : ℕ) → labelOf (priceAt label w) ≡ label
+label-at label w = omega arith
+
+-- ---- they ascend
+
+pub changes-ascend : (pages : ℕ) (ws ts : List ℕ) (label : ℕ) → length ws ≡ length ts → label + length ws ≤ 32 * pages
+    → Ascending pages label (changesFrom label ws ts)
+changes-ascend pages [] ts label same fits = rw (changes-none label ts) none
+changes-ascend pages (w ∷ ws) [] label same fits = absurd (omega arith)
+changes-ascend pages (w ∷ ws) (t ∷ ts) label same fits =
+    go (ℕ-discrete w t) (changes-ascend pages ws ts (label + 1) (omega arith) (omega arith))
+  where
+    go : Dec (w ≡ t) → Ascending pages (label + 1) (changesFrom (label + 1) ws ts)
+        → Ascending pages label (changesFrom label (w ∷ ws) (t ∷ ts))
+    go (yes e) rest = rw (changes-same label w t ws ts e) (ascending-from {low = label} (omega arith) rest)
+    go (no n) rest =
+        rw (changes-differ label w t ws ts n)
+        (more {next = label} {p = priceAt label w} {ps = changesFrom (label + 1) ws ts} (omega arith) (omega arith)
+        (omega arith) (rw label-at rest))
+
+-- ---- they name what differs
+
+pub changes-name : (ws ts : List ℕ) (label j : ℕ) → length ws ≡ length ts → j < length ws → getD ws j 0 ≢ getD ts j 0
+    → names (changesFrom label ws ts) (label + j) ≡ true
+changes-name [] ts label j same within differ = absurd (omega arith)
+changes-name (w ∷ ws) [] label j same within differ = absurd (omega arith)
+changes-name (w ∷ ws) (t ∷ ts) label zero same within differ =
+    rw (changes-differ label w t ws ts differ, add-zero)
+    (names-first (priceAt label w) (changesFrom (label + 1) ws ts) label (label-at label w))
+changes-name (w ∷ ws) (t ∷ ts) label (suc j) same within differ =
+    go (ℕ-discrete w t) (changes-name ws ts (label + 1) j (omega arith) (omega arith) differ)
+  where
+    at : label + suc j ≡ label + 1 + j
+    at = omega arith
+
+    go : Dec (w ≡ t) → names (changesFrom (label + 1) ws ts) (label + 1 + j) ≡ true
+        → names (changesFrom label (w ∷ ws) (t ∷ ts)) (label + suc j) ≡ true
+    go (yes e) rest = rw (changes-same label w t ws ts e, at) rest
+    go (no n) rest =
+        rw (changes-differ label w t ws ts n, at)
+        (names-more (priceAt label w) (changesFrom (label + 1) ws ts) (label + 1 + j) rest)
+
+-- and nothing else, as indices into the two lists
+pub changes-named : (ws ts : List ℕ) (pages label j : ℕ) → length ws ≡ length ts → label + length ws ≤ 32 * pages
+    → names (changesFrom label ws ts) (label + j) ≡ true → getD ws j 0 ≢ getD ts j 0
+changes-named [] ts pages label j same fits named =
+    absurd (true≢false (sym (rw (changes-none label ts) at named) ∙ names-none (label + j)))
+changes-named (w ∷ ws) [] pages label j same fits named = absurd (omega arith)
+changes-named (w ∷ ws) (t ∷ ts) pages label zero same fits named = λ e.
+    let above = changes-ascend pages ws ts (label + 1) (omega arith) (omega arith) in
+    true≢false (sym (rw (changes-same label w t ws ts e, add-zero) at named) ∙ names-below above label (omega arith))
+changes-named (w ∷ ws) (t ∷ ts) pages label (suc j) same fits named =
+    go (ℕ-discrete w t) (changes-named ws ts pages (label + 1) j (omega arith) (omega arith))
+  where
+    at-next : label + suc j ≡ label + 1 + j
+    at-next = omega arith
+
+    go : Dec (w ≡ t) → (names (changesFrom (label + 1) ws ts) (label + 1 + j) ≡ true → getD ws j 0 ≢ getD ts j 0)
+        → getD ws j 0 ≢ getD ts j 0
+    go (yes e) rest = rest (rw (changes-same label w t ws ts e, at-next) at named)
+    go (no n) rest =
+        rest
+        (sym (names-later (priceAt label w) (changesFrom (label + 1) ws ts) (label + 1 + j) (omega arith))
+        ∙ (rw (changes-differ label w t ws ts n, at-next) at named))
+
+-- ---- they turn the one state into the other
+
+pub changes-laid : (ws ts : List ℕ) (pages label j : ℕ) → length ws ≡ length ts → label + length ws ≤ 32 * pages
+    → j < length ws → laidAt (changesFrom label ws ts) (label + j) (getD ts j 0) ≡ getD ws j 0
+changes-laid [] ts pages label j same fits within = absurd (omega arith)
+changes-laid (w ∷ ws) [] pages label j same fits within = absurd (omega arith)
+changes-laid (w ∷ ws) (t ∷ ts) pages label zero same fits within = go (ℕ-discrete w t)
+  where
+    below : (price : ℕ) → laidAt (changesFrom (label + 1) ws ts) label price ≡ price
+    below price = laid-below (changes-ascend pages ws ts (label + 1) (omega arith) (omega arith)) label price (omega arith)
+
+    go : Dec (w ≡ t) → laidAt (changesFrom label (w ∷ ws) (t ∷ ts)) (label + 0) t ≡ w
+    go (yes e) = rw (changes-same label w t ws ts e, add-zero) (below t ∙ sym e)
+    go (no n) =
+        rw (changes-differ label w t ws ts n, add-zero)
+        (laid-first (priceAt label w) (changesFrom (label + 1) ws ts) label t (label-at label w) ∙ below w)
+changes-laid (w ∷ ws) (t ∷ ts) pages label (suc j) same fits within =
+    go (ℕ-discrete w t) (changes-laid ws ts pages (label + 1) j (omega arith) (omega arith) (omega arith))
+  where
+    at : label + suc j ≡ label + 1 + j
+    at = omega arith
+
+    go : Dec (w ≡ t) → laidAt (changesFrom (label + 1) ws ts) (label + 1 + j) (getD ts j 0) ≡ getD ws j 0
+        → laidAt (changesFrom label (w ∷ ws) (t ∷ ts)) (label + suc j) (getD ts j 0) ≡ getD ws j 0
+    go (yes e) rest = rw (changes-same label w t ws ts e, at) rest
+    go (no n) rest =
+        rw (changes-differ label w t ws ts n, at)
+        (laid-later (priceAt label w) (changesFrom (label + 1) ws ts) (label + 1 + j) (getD ts j 0) (omega arith) ∙ rest)
+
+-- ---- no other prices do
+
+-- prices that turn the words ts from a label on into ws, and name nothing that does not differ
+pub record Turning (label : ℕ) (ps : List Price) (ws ts : List ℕ) : Type 0 where
+  pub even : length ws ≡ length ts
+  pub turn : (j : ℕ) → j < length ws → laidAt ps (label + j) (getD ts j 0) ≡ getD ws j 0
+  pub spare : (j : ℕ) → names ps (label + j) ≡ true → getD ws j 0 ≢ getD ts j 0
+
+module _ (label w t : ℕ) (ws ts : List ℕ) where
+  at-next : (j : ℕ) → label + suc j ≡ label + 1 + j
+  at-next j = omega arith
+
+  -- a label that does not differ is not named
+  skip : {pages : ℕ} {ps : List Price} → w ≡ t → Ascending pages label ps → Turning label ps (w ∷ ws) (t ∷ ts)
+      → Ascending pages (label + 1) ps × Turning (label + 1) ps ws ts
+  skip same up h = (above same up h, later h)
+    where
+      later : {ps : List Price} → Turning label ps (w ∷ ws) (t ∷ ts) → Turning (label + 1) ps ws ts
+      later h =
+          record {
+            even = omega arith;
+            turn = λ j within. rw (at-next j) at (h .turn (suc j) (omega arith));
+            spare = λ j named. h .spare (suc j) (rw (at-next j) named);
+          }
+
+      above : {pages : ℕ} {ps : List Price} → w ≡ t → Ascending pages label ps → Turning label ps (w ∷ ws) (t ∷ ts)
+          → Ascending pages (label + 1) ps
+      above same none h = none
+      above same (more {p = p} {ps = ps} up word fits rest) h =
+          more {next = label + 1} {p = p}
+          (beyond (ℕ-discrete (labelOf p) label)) word fits rest
+        where
+          beyond : Dec (labelOf p ≡ label) → label + 1 ≤ labelOf p
+          beyond (yes here) = absurd (h .spare 0 (names-first p ps (label + 0) (omega arith)) same)
+          beyond (no there) = omega arith
+
+  -- a label that differs is named first, with its price
+  first : {pages : ℕ} {p : Price} {ps : List Price} → w ≢ t → Ascending pages label (p ∷ ps)
+      → Turning label (p ∷ ps) (w ∷ ws) (t ∷ ts)
+      → (p ≡ priceAt label w) × Ascending pages (label + 1) ps × Turning (label + 1) ps ws ts
+  first {p = p} {ps = ps} differ (more up word fits rest) h =
+      let a : label / 32 ≡ p .page = omega (arith, here) in
+      let b : label % 32 ≡ p .word = omega (arith, here) in
+      (rw (a, b, ← price), rw (← here) rest, later)
+    where
+      laid : laidAt (p ∷ ps) label t ≡ w
+      laid = rw (add-zero label) at (h .turn 0 (omega arith))
+
+      here : labelOf p ≡ label
+      here = go (ℕ-discrete (labelOf p) label)
+        where
+          go : Dec (labelOf p ≡ label) → labelOf p ≡ label
+          go (yes e) = e
+          go (no n) =
+              absurd (differ (sym laid ∙ laid-below (more {next = label + 1} {p = p} (omega arith) word fits rest) label t (omega arith)))
+
+      price : p .price ≡ w
+      price =
+          sym (laid-below rest label (p .price) (omega (arith, here))) ∙ sym (laid-first p ps label t here) ∙ laid
+
+      later : Turning (label + 1) ps ws ts
+      later =
+          record {
+            even = omega (arith, h .even);
+            turn = λ j within.
+                sym (laid-later p ps (label + 1 + j) (getD ts j 0) (omega (arith, here)))
+                ∙ (rw (at-next j) at (h .turn (suc j) (omega arith)));
+            spare = λ j named. h .spare (suc j) (rw (at-next j) (names-more p ps (label + 1 + j) named));
+          }
+
+pub only-changes : (pages : ℕ) (ws ts : List ℕ) (label : ℕ) (ps : List Price) → Ascending pages label ps
+    → Turning label ps ws ts → ps ≡ changesFrom label ws ts
+only-changes pages [] ts label [] up h = sym (changes-none label ts)
+only-changes pages [] [] label (p ∷ ps) (more above _ _ _) h =
+    let at : labelOf p ≡ label + (labelOf p - label) = omega arith in
+    absurd (h .spare (labelOf p - label) (names-first p ps (label + (labelOf p - label)) at) refl)
+only-changes pages [] (t ∷ ts) label (p ∷ ps) up h = absurd (omega (arith, h .even))
+only-changes pages (w ∷ ws) [] label ps up h = absurd (omega (arith, h .even))
+only-changes pages (w ∷ ws) (t ∷ ts) label ps up h = go (ℕ-discrete w t) ps up h (only-changes pages ws ts (label + 1))
+  where
+    go : Dec (w ≡ t) → (ps : List Price) → Ascending pages label ps → Turning label ps (w ∷ ws) (t ∷ ts)
+        → ((qs : List Price) → Ascending pages (label + 1) qs → Turning (label + 1) qs ws ts → qs ≡ changesFrom (label + 1) ws ts)
+        → ps ≡ changesFrom label (w ∷ ws) (t ∷ ts)
+    go (yes same) ps up h rest =
+        let on = skip label w t ws ts same up h in
+        rest ps (on .0) (on .1) ∙ sym (changes-same label w t ws ts same)
+    go (no differ) [] up h rest =
+        absurd (differ (sym (h .turn 0 (omega arith)) ∙ laid-none (label + 0) t))
+    go (no differ) (p ∷ ps) up h rest =
+        let f = first label w t ws ts differ up h in
+        rw (changes-differ label w t ws ts differ, f .0, rest ps (f .1) (f .2))

@@ -1,0 +1,63 @@
+-- Reading a diff as a derivation: what each word was, and the prices of the words that follow.
+use Prim.Native.Nat.{ℕ, zero, suc, _+_, _-_, _≤_, _<_}
+use mathlib.Core.Path.{_≡_, refl, sym, ap, _∙_, subst}
+use mathlib.Core.List.{List, [], _∷_, _++_}
+use mathlib.Core.Bool.{Bool, true, false, cond}
+use native.Mathlib.Omega.{arith}
+use native.Mathlib.Numerals.{add-one}
+use borrow.Author.Tests.{ltb-true, ltb-false, eqb-true, eqb-false, lt-ltb, le-ltb, eq-eqb, ne-eqb}
+use lib.ListN.{length}
+use lib.Dec.{ltb, eqb}
+use Rattle.laws.proofs.Bools.{by-cond}
+use Rattle.diff.specs.Format.{kind, low, offset, count, pageWord, runWord, endWord, mostWords}
+use Rattle.diff.specs.Reading.{Cursor, Step, Verdict, pastPrice, pastPage, pastRun, wordStep, afterStep, readFrom}
+use Rattle.diff.specs.Reading.{pageStep, runStep, endStep}
+use Rattle.diff.specs.Prices.{Price, pricedWord, pricesAfter, pricesFrom}
+use Rattle.diff.specs.declared.Step.the-variants.{Next, End, Fault}
+use Rattle.diff.specs.declared.Verdict.the-variants.{Good, Faulty}
+
+-- ---- what a word was, by what it did
+
+pub data WordCase (pages : ℕ) (s : Cursor) (index w : ℕ) : Step → Type 0 where
+  a-price : 0 < s .due → WordCase pages s index w (Next (pastPrice s))
+  a-page : s .due ≡ 0 → kind w ≡ 1 → 0 < s .gap → s .next ≤ low w → low w < pages
+      → WordCase pages s index w (Next (pastPage s (low w)))
+  a-run : s .due ≡ 0 → kind w ≡ 2 → 0 < s .next → 0 < count w → offset w + count w ≤ 32
+      → s .word + s .gap ≤ offset w → WordCase pages s index w (Next (pastRun s (offset w) (count w)))
+  an-end : s .due ≡ 0 → kind w ≡ 15 → 0 < s .gap → low w ≡ index → WordCase pages s index w End
+  a-fault : WordCase pages s index w Fault
+
+module _ (pages : ℕ) (s : Cursor) (index w : ℕ) where
+  pub word-case : WordCase pages s index w (wordStep pages s index w)
+  unfolding wordStep
+  word-case =
+      by-cond P (ltb 0 (s .due)) _ _ (λ t. a-price (omega (arith, ltb-true)))
+      (λ none. by-cond P (eqb (kind w) 1) _ _ (page-case (omega (arith, ltb-false)))
+      (λ _. by-cond P (eqb (kind w) 2) _ _ (run-case (omega (arith, ltb-false)))
+      (λ _. by-cond P (eqb (kind w) 15) _ _ (end-case (omega (arith, ltb-false))) (λ _. a-fault))))
+    where
+      P : Step → Type 0
+      P = WordCase pages s index w
+
+      page-case : s .due ≡ 0 → eqb (kind w) 1 ≡ true → P (pageStep pages s w)
+      page-case none k =
+          by-cond P (eqb (s .gap) 0) _ _ (λ _. a-fault)
+          (λ g. by-cond P (ltb (low w) (s .next)) _ _ (λ _. a-fault)
+          (λ n. by-cond P (ltb (low w) pages) _ _
+          (λ l. a-page none (eqb-true _ _ k) (omega (arith, eqb-false)) (omega (arith, ltb-false)) (omega (arith, ltb-true)))
+          (λ _. a-fault)))
+
+      run-case : s .due ≡ 0 → eqb (kind w) 2 ≡ true → P (runStep s w)
+      run-case none k =
+          by-cond P (eqb (s .next) 0) _ _ (λ _. a-fault)
+          (λ p. by-cond P (eqb (count w) 0) _ _ (λ _. a-fault)
+          (λ c. by-cond P (ltb 32 (offset w + count w)) _ _ (λ _. a-fault)
+          (λ f. by-cond P (ltb (offset w) (s .word + s .gap)) _ _ (λ _. a-fault)
+          (λ g. a-run none (eqb-true _ _ k) (omega (arith, eqb-false)) (omega (arith, eqb-false))
+          (omega (arith, ltb-false)) (omega (arith, ltb-false))))))
+
+      end-case : s .due ≡ 0 → eqb (kind w) 15 ≡ true → P (endStep s index w)
+      end-case none k =
+          by-cond P (eqb (s .gap) 0) _ _ (λ _. a-fault)
+          (λ g. by-cond P (eqb (low w) index) _ _
+          (λ l. an-end none (eqb-true _ _ k) (omega (arith, eqb-false)) (eqb-true _ _ l)) (λ _. a-fault))

@@ -1,0 +1,6 @@
+-- What the contracts on diffs cite. A diff is document 01's list of changes.
+pub mod Format
+pub mod Reading
+pub mod Prices
+pub mod Making
+pub mod OnlyDiff

@@ -1,0 +1,31 @@
+-- Rests on `moved-past-end`: homes past the arrays change nothing.
+use mathlib.Core.Path.{sym}
+use borrow.Author.Needs.{needs}
+use Rattle.directory.proofs.Changes.{moved-past-end}
+use Rattle.directory.proofs.Directory.move_home.Statement.{statement}
+use Rattle.directory.proofs.Directory.move_home.Tie as tie
+
+mul-self : tie.Need-mul-self
+mul-self c = search needs
+
+element-write-self : tie.Need-element-write-self
+element-write-self c = search needs
+
+mul-self-2 : tie.Need-mul-self-2
+mul-self-2 c = search needs
+
+element-write-self-2 : tie.Need-element-write-self-2
+element-write-self-2 c = search needs
+
+returns : tie.Need-returns
+returns c = search needs
+
+returns-2 : tie.Need-returns-2
+returns-2 c =
+    let a = c .before .args in
+    sym (moved-past-end (a .t1) (a .page) (a .primary) (a .secondary) (search needs) (search needs) (c .if1 .left))
+
+pub move-home-spec : {M : Type 1} → statement M
+move-home-spec =
+    tie.close
+    (tie.spec mul-self element-write-self mul-self-2 element-write-self-2 returns returns-2)

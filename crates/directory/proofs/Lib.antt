@@ -1,0 +1,4 @@
+-- Laws of the directory's definitions.
+pub mod Live
+pub mod Table
+pub mod Changes

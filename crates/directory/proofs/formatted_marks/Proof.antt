@@ -1,0 +1,40 @@
+-- Rests on `Filled`: up to the card reached the marks are the table's.
+use Prim.Native.Nat.{_-_}
+use mathlib.Core.Path.{refl}
+use mathlib.Core.Bool.{false}
+use native.Mathlib.Omega.{arith}
+use lib.Dec.{ltb}
+use lib.ListN.{replicate}
+use borrow.Author.Needs.{needs}
+use Rattle.directory.proofs.Table.{Filled, fill-none, fill-more, fill-all}
+use Rattle.directory.proofs.formatted_marks.Statement.{statement}
+use Rattle.directory.proofs.formatted_marks.Tie as tie
+
+abbrev Inv-loop : tie.InvT-loop
+Inv-loop cards marks₀ card₀ marks card = Filled (λ c. ltb c cards) card (replicate 8 false) marks
+
+abbrev μ-loop : tie.MeasureT-loop
+μ-loop cards marks₀ card₀ marks card = 8 - card
+
+loop-holds : tie.Need-loop-holds Inv-loop μ-loop
+loop-holds c = fill-none
+
+array-write-marks : tie.Need-array-write-marks Inv-loop μ-loop
+array-write-marks c = search needs
+
+add-card : tie.Need-add-card Inv-loop μ-loop
+add-card c = omega arith
+
+loop-less : tie.Need-loop-less Inv-loop μ-loop
+loop-less c = omega arith
+
+loop-again : tie.Need-loop-again Inv-loop μ-loop
+loop-again c = fill-more (c .before .loop .inv) (c .loop-test .taken) refl
+
+returns : tie.Need-returns Inv-loop μ-loop
+returns c = fill-all 8 (c .before .loop .inv) refl (c .loop-test .left)
+
+pub formatted-marks-spec : {M : Type 1} → statement M
+formatted-marks-spec =
+    tie.close
+    (tie.spec Inv-loop μ-loop loop-holds array-write-marks add-card loop-less loop-again returns)

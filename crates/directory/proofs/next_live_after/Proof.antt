@@ -1,0 +1,37 @@
+-- Rests on `next-live-up` and `next-live-round`, the two outcomes of the search above the card.
+use Prim.Native.Nat.{_+_, _≤_}
+use mathlib.Core.Path.{sym, _∙_}
+use mathlib.Core.Logic.{⊎-elim}
+use native.Mathlib.Omega.{arith}
+use borrow.Author.Needs.{needs}
+use Rattle.directory.specs.Live.{firstLive}
+use Rattle.directory.proofs.Live.{first-live-end, next-live-up, next-live-round}
+use Rattle.directory.proofs.next_live_after.Statement.{statement}
+use Rattle.directory.proofs.next_live_after.Tie as tie
+
+add-first-live : tie.Need-add-first-live
+add-first-live c = search needs
+
+first-live-requires : tie.Need-first-live-requires
+first-live-requires c κs = search needs
+
+returns : tie.Need-returns
+returns c = c .before .first-live .ensures ∙ sym (next-live-up _ _ _ (omega arith))
+
+first-live-requires-2 : tie.Need-first-live-requires-2
+first-live-requires-2 c κs = search needs
+
+returns-2 : tie.Need-returns-2
+returns-2 c =
+    let a = c .before .before .before .args in
+    let round : a .cards ≤ firstLive (a .marks .now) (a .card + 1) (a .cards) =
+    ⊎-elim
+    (λ up. omega arith)
+    (λ past. omega (arith, first-live-end (a .marks .now) (a .card + 1) (a .cards) (omega arith)))
+    (c .before .if1 .came)
+    in
+    c .first-live2 .ensures ∙ sym (next-live-round _ _ _ round)
+
+pub next-live-after-spec : {M : Type 1} → statement M
+next-live-after-spec =
+    tie.close (tie.spec add-first-live first-live-requires returns first-live-requires-2 returns-2)

@@ -1,0 +1,3 @@
+-- What the directory's contracts cite.
+pub mod Live
+pub mod Directory

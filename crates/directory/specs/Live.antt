@@ -1,0 +1,22 @@
+-- The next live card (document 01, "Cards, pages, memory"). Marks: for each card whether it is live.
+-- Assumes nothing: these are definitions.
+use Prim.Native.Nat.{ℕ, zero, suc, _+_, _-_}
+use mathlib.Core.List.{List}
+use mathlib.Core.Bool.{Bool, false, cond}
+use lib.ListN.{getD}
+use lib.Dec.{ltb}
+
+-- the first live card from `card` on, looking at `count` cards; card + count if none is
+unfoldable pub seekLive : List Bool → ℕ → ℕ → ℕ
+seekLive marks card zero = card
+seekLive marks card (suc count) = cond (getD marks card false) card (seekLive marks (suc card) count)
+
+-- the first live card at or above `from` and below `cards`, or `cards` if there is none
+abbrev pub firstLive : List Bool → ℕ → ℕ → ℕ
+firstLive marks from cards = seekLive marks from (cards - from)
+
+-- "The next live card after c is the first live one going up from c + 1, round the end": the end is the number
+-- of cards, marks past it are never read. A card that alone is live follows itself; none live: the number of cards.
+unfoldable pub nextLive : List Bool → ℕ → ℕ → ℕ
+nextLive marks cards c =
+    cond (ltb (firstLive marks (c + 1) cards) cards) (firstLive marks (c + 1) cards) (firstLive marks 0 cards)

@@ -1,0 +1,239 @@
+// The directory of a rack: a value that every call takes and hands back (document 01,
+// "Cards, pages, memory").
+ghost use mathlib.Core.Path.{_≡_};
+ghost use Prim.Native.Nat.{_+_, _<_, _≤_};
+ghost use lib.ListN.{length};
+ghost use Rattle.directory.specs.Live.{firstLive, nextLive};
+ghost use Rattle.directory.specs.Directory.{isLive, primaryOf, secondaryOf, awaitsCard};
+ghost use Rattle.directory.specs.Directory.{nextLiveOf, backupOf};
+ghost use Rattle.directory.specs.Directory.{markedDead, markedLive, withHomes, withStatus};
+ghost use Rattle.directory.specs.Directory.{formattedMarks, formattedPrimary};
+ghost use Rattle.directory.specs.Directory.{formattedSecondary, table};
+ghost use Rattle.directory.specs.Directory.{formattedDirectory, emptyDirectory};
+
+pub enum Status {
+    Running,
+    // Recovery of this card is awaited.
+    Awaiting(u32),
+}
+
+pub struct Directory {
+    pub cards: u32,
+    pub pages: u32,
+    // Marks past the cards and homes past the pages are never read.
+    pub live: [bool; 8],
+    pub primary: [u32; 64],
+    pub secondary: [u32; 64],
+    pub status: Status,
+}
+
+// The first live card at or above `from` and below `cards`, or `cards` if there is none.
+// It ends with the marks, so that it is short for any number of cards.
+fn first_live(marks: &[bool], from: u32, cards: u32) -> u32
+    requires { ⌜ from ≤ cards ⌝ }
+    ensures { λ r. ⌜ r ≡ firstLive (now (marks .entry)) from cards ⌝ }
+{
+    let mut card = from;
+    while card < cards {
+        let at = card as usize;
+        if marks.len() <= at {
+            return cards;
+        }
+        if marks[at] {
+            return card;
+        }
+        card += 1;
+    }
+    cards
+}
+
+// The next live card after `card`, over marks that are lent: loops use this and not the method,
+// which copies a directory.
+pub fn next_live_after(marks: &[bool], cards: u32, card: u32) -> u32
+    ensures { λ r. ⌜ r ≡ nextLive (now (marks .entry)) cards card ⌝ }
+{
+    if card < cards {
+        let next = first_live(marks, card + 1, cards);
+        if next < cards {
+            return next;
+        }
+    }
+    first_live(marks, 0, cards)
+}
+
+impl Directory {
+    pub fn is_live(self, card: u32) -> bool
+        ensures { λ r. ⌜ r ≡ isLive self card ⌝ }
+    {
+        let at = card as usize;
+        if at < 8 { self.live[at] } else { false }
+    }
+
+    pub fn primary_of(self, page: u32) -> u32
+        ensures { λ r. ⌜ r ≡ primaryOf self page ⌝ }
+    {
+        let at = page as usize;
+        if at < 64 { self.primary[at] } else { 0 }
+    }
+
+    pub fn secondary_of(self, page: u32) -> u32
+        ensures { λ r. ⌜ r ≡ secondaryOf self page ⌝ }
+    {
+        let at = page as usize;
+        if at < 64 { self.secondary[at] } else { 0 }
+    }
+
+    // Whether recovery of `card` is awaited.
+    pub fn awaits(self, card: u32) -> bool
+        ensures { λ r. ⌜ r ≡ awaitsCard (self .status) card ⌝ }
+    {
+        let status = self.status;
+        match status {
+            Status::Running => false,
+            Status::Awaiting(awaited) => awaited == card,
+        }
+    }
+
+    pub fn next_live(self, card: u32) -> u32
+        ensures { λ r. ⌜ r ≡ nextLiveOf self card ⌝ }
+    {
+        let live = self.live;
+        next_live_after(&live, self.cards, card)
+    }
+
+    pub fn backup(self, card: u32) -> u32
+        ensures { λ r. ⌜ r ≡ backupOf self card ⌝ }
+    {
+        self.next_live(card)
+    }
+
+    pub fn mark_dead(mut self, card: u32) -> Self
+        ensures { λ r. ⌜ r ≡ markedDead self card ⌝ }
+    {
+        let at = card as usize;
+        if at < 8 {
+            self.live[at] = false;
+        }
+        self
+    }
+
+    pub fn mark_live(mut self, card: u32) -> Self
+        ensures { λ r. ⌜ r ≡ markedLive self card ⌝ }
+    {
+        let at = card as usize;
+        if at < 8 {
+            self.live[at] = true;
+        }
+        self
+    }
+
+    pub fn move_home(mut self, page: u32, primary: u32, secondary: u32) -> Self
+        ensures { λ r. ⌜ r ≡ withHomes self page primary secondary ⌝ }
+    {
+        let at = page as usize;
+        if at < 64 {
+            self.primary[at] = primary;
+            self.secondary[at] = secondary;
+        }
+        self
+    }
+
+    // A field that is an enum is not stored to: the struct is made anew.
+    pub fn set_status(self, status: Status) -> Self
+        ensures { λ r. ⌜ r ≡ withStatus self status ⌝ }
+    {
+        let live = self.live;
+        let primary = self.primary;
+        let secondary = self.secondary;
+        Directory {
+            cards: self.cards,
+            pages: self.pages,
+            live,
+            primary,
+            secondary,
+            status,
+        }
+    }
+}
+
+// ---- the directory of a newly formatted rack, and of a refused formatting
+
+fn formatted_marks(cards: u32) -> [bool; 8]
+    ensures { λ r. ⌜ r ≡ formattedMarks cards ⌝ }
+{
+    let mut marks = [false; 8];
+    let mut card: usize = 0;
+    while card < 8 {
+        marks[card] = card < cards as usize;
+        card += 1;
+    }
+    marks
+}
+
+fn formatted_primary(cards: u32, pages: u32, page: u32) -> u32
+    requires { ⌜ 0 < cards ⌝ }
+    ensures { λ r. ⌜ r ≡ formattedPrimary cards pages page ⌝ }
+{
+    if page < pages { page % cards } else { 0 }
+}
+
+fn formatted_secondary(marks: &[bool], cards: u32, pages: u32, page: u32) -> u32
+    requires { ⌜ (0 < cards) × (now marks ≡ formattedMarks cards) ⌝ }
+    ensures { λ r. ⌜ r ≡ formattedSecondary cards pages page ⌝ }
+{
+    if page < pages {
+        next_live_after(marks, cards, page % cards)
+    } else {
+        0
+    }
+}
+
+// Fills in both homes of every page.
+fn fill_homes(primary: &mut [u32], secondary: &mut [u32], marks: &[bool], cards: u32, pages: u32)
+    requires { ⌜ (0 < cards) × (now marks ≡ formattedMarks cards) ⌝ }
+    requires { ⌜ (length (now primary) ≡ 64) × (length (now secondary) ≡ 64) ⌝ }
+    ensures primary { λ _. ⌜ now (primary .exit) ≡ table (formattedPrimary cards pages) 64 ⌝ }
+    ensures secondary { λ _. ⌜ now (secondary .exit) ≡ table (formattedSecondary cards pages) 64 ⌝ }
+{
+    let mut page: usize = 0;
+    while page < 64 {
+        primary[page] = formatted_primary(cards, pages, page as u32);
+        secondary[page] = formatted_secondary(marks, cards, pages, page as u32);
+        page += 1;
+    }
+}
+
+impl Directory {
+    // Of a newly formatted rack.
+    pub fn formatted(cards: u32, pages: u32) -> Self
+        requires { ⌜ 0 < cards ⌝ }
+        ensures { λ r. ⌜ r ≡ formattedDirectory cards pages ⌝ }
+    {
+        let live = formatted_marks(cards);
+        let mut primary = [0u32; 64];
+        let mut secondary = [0u32; 64];
+        fill_homes(&mut primary, &mut secondary, &live, cards, pages);
+        Directory {
+            cards,
+            pages,
+            live,
+            primary,
+            secondary,
+            status: Status::Running,
+        }
+    }
+
+    // Of a formatting that was refused.
+    pub fn empty() -> Self
+        ensures { λ r. ⌜ r ≡ emptyDirectory ⌝ }
+    {
+        Directory {
+            cards: 0,
+            pages: 0,
+            live: [false; 8],
+            primary: [0; 64],
+            secondary: [0; 64],
+            status: Status::Running,
+        }
+    }
+}

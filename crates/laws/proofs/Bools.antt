@@ -1,0 +1,22 @@
+-- Choices by a test: a property of both outcomes, and what a conjunction says.
+use mathlib.Core.Path.{_≡_, refl}
+use mathlib.Core.Bool.{Bool, true, false, cond, _&&_, false≢true}
+
+-- what holds of either outcome, each under its test, holds of the choice
+pub by-cond : {A : Type 0} (P : A → Type 0) (test : Bool) (x y : A) → (test ≡ true → P x) → (test ≡ false → P y)
+    → P (cond test x y)
+by-cond P true x y on-true on-false = on-true refl
+by-cond P false x y on-true on-false = on-false refl
+
+pub and-first : (a b : Bool) → a && b ≡ true → a ≡ true
+and-first true b e = refl
+and-first false b e = e
+
+pub and-second : (a b : Bool) → a && b ≡ true → b ≡ true
+and-second true b e = e
+and-second false b e = absurd (false≢true e)
+
+-- a choice that came out as its first value, which the second is not
+pub cond-first : {A : Type 0} (test : Bool) (x y z : A) → cond test x y ≡ z → (y ≡ z → ⊥) → test ≡ true
+cond-first true x y z e other = refl
+cond-first false x y z e other = absurd (other e)

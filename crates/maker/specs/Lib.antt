@@ -1,0 +1,2 @@
+-- What the contracts of the list maker's own functions cite beside the definitions of `diff`.
+pub mod AtLabel

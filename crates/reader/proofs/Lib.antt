@@ -1,0 +1,3 @@
+-- Laws on reading that the reader's loops cite.
+pub mod Turns
+pub mod Keeping

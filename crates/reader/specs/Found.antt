@@ -1,0 +1,13 @@
+-- One price of a diff, by its number.
+-- Assumes nothing: these are definitions.
+use Prim.Native.Nat.{ℕ, zero, suc}
+use mathlib.Core.List.{List, [], _∷_}
+use Rattle.diff.specs.declared.Price.{Price}
+use Rattle.reader.specs.declared.Found.{Found}
+use Rattle.reader.specs.declared.Found.the-variants.{Priced, Nothing}
+
+-- the price numbered n, from 0 on
+unfoldable pub nthPrice : List Price → ℕ → Found
+nthPrice [] n = Nothing
+nthPrice (p ∷ ps) zero = Priced p
+nthPrice (p ∷ ps) (suc n) = nthPrice ps n

@@ -1,0 +1,3 @@
+-- What the contracts of the reader cite beside the definitions of `diff`.
+pub mod Steady
+pub mod Found

@@ -1,0 +1,201 @@
+// Reading a diff (document 01's list of changes): a list handed in, a list that stands in a card's area, and one price.
+ghost use mathlib.Core.Path.{_≡_};
+ghost use Prim.Native.Nat.{_+_, _<_, _≤_};
+ghost use lib.ListN.{length};
+ghost use Rattle.answer.specs.Outcome.{outcome};
+ghost use Rattle.diff.specs.Reading.{start, pastPrice, pageStep, runStep, endStep, wordStep, readDiff, checkDiff};
+ghost use Rattle.diff.specs.Prices.{pricesOf};
+ghost use Rattle.reader.specs.Steady.{Steady};
+ghost use Rattle.reader.specs.Found.{nthPrice};
+use answer::Answer;
+use diff::{Cursor, Price, Step, Verdict};
+
+fn cursor() -> Cursor
+    ensures { λ r. ⌜ r ≡ start ⌝ }
+{
+    Cursor {
+        next: 0,
+        word: 0,
+        gap: 1,
+        due: 0,
+        prices: 0,
+    }
+}
+
+fn price_read(s: Cursor) -> Cursor
+    requires { ⌜ Steady s ⌝ }
+    requires { ⌜ 0 < s .due ⌝ }
+    ensures { λ r. ⌜ r ≡ pastPrice s ⌝ }
+{
+    Cursor {
+        next: s.next,
+        word: s.word + 1,
+        gap: 1,
+        due: s.due - 1,
+        prices: s.prices + 1,
+    }
+}
+
+fn page_word(s: Cursor, w: u32, pages: u32) -> Step
+    ensures { λ r. ⌜ r ≡ pageStep pages s w ⌝ }
+{
+    let page = w % 0x10000000;
+    if s.gap == 0 {
+        return Step::Fault;
+    }
+    if page < s.next {
+        return Step::Fault;
+    }
+    if page < pages {
+        Step::Next(Cursor {
+            next: page + 1,
+            word: 0,
+            gap: 0,
+            due: 0,
+            prices: s.prices,
+        })
+    } else {
+        Step::Fault
+    }
+}
+
+fn run_word(s: Cursor, w: u32) -> Step
+    requires { ⌜ Steady s ⌝ }
+    ensures { λ r. ⌜ r ≡ runStep s w ⌝ }
+{
+    let offset = w / 0x10000 % 0x1000;
+    let count = w % 0x10000;
+    if s.next == 0 {
+        return Step::Fault;
+    }
+    if count == 0 {
+        return Step::Fault;
+    }
+    if 32 < offset + count {
+        return Step::Fault;
+    }
+    if offset < s.word + s.gap {
+        Step::Fault
+    } else {
+        Step::Next(Cursor {
+            next: s.next,
+            word: offset,
+            gap: 1,
+            due: count,
+            prices: s.prices,
+        })
+    }
+}
+
+fn end_word(s: Cursor, w: u32, index: usize) -> Step
+    ensures { λ r. ⌜ r ≡ endStep s index w ⌝ }
+{
+    let own = (w % 0x10000000) as usize;
+    if s.gap == 0 {
+        return Step::Fault;
+    }
+    if own == index { Step::End } else { Step::Fault }
+}
+
+fn read_word(s: Cursor, w: u32, index: usize, pages: u32) -> Step
+    requires { ⌜ Steady s ⌝ }
+    ensures { λ r. ⌜ r ≡ wordStep pages s index w ⌝ }
+{
+    if 0 < s.due {
+        return Step::Next(price_read(s));
+    }
+    let kind = w / 0x10000000;
+    match kind {
+        1 => page_word(s, w, pages),
+        2 => run_word(s, w),
+        15 => end_word(s, w, index),
+        0 | 3..=14 | 16..=4294967295 => Step::Fault,
+    }
+}
+
+// Reads a diff from its first word to its end word, as those in a card's area are read.
+pub fn read(list: &[u32], pages: u32) -> Verdict
+    ensures { λ r. ⌜ r ≡ readDiff pages (now (list .entry)) ⌝ }
+{
+    let mut s = cursor();
+    let mut index: usize = 0;
+    while index < list.len() {
+        if index == 512 {
+            return Verdict::Faulty(512);
+        }
+        match read_word(s, list[index], index, pages) {
+            Step::Next(t) => {
+                s = t;
+                index += 1;
+            }
+            Step::End => {
+                return Verdict::Good(s.prices, (index + 1) as u32);
+            }
+            Step::Fault => {
+                return Verdict::Faulty(index as u32);
+            }
+        }
+    }
+    Verdict::Faulty(index as u32)
+}
+
+// Checks a list handed in: gives the number of its prices, or refusal 7 with its place.
+pub fn check(list: &[u32], pages: u32) -> Answer
+    ensures { λ r. ⌜ outcome r ≡ checkDiff pages (now (list .entry)) ⌝ }
+{
+    match read(list, pages) {
+        Verdict::Good(prices, words) => {
+            if (words as usize) < list.len() {
+                Answer::Refused(answer::FAULTY_LIST, words as u64)
+            } else {
+                Answer::Given(prices as u64)
+            }
+        }
+        Verdict::Faulty(place) => Answer::Refused(answer::FAULTY_LIST, place as u64),
+    }
+}
+
+// A price of a diff, or that there is none of this number.
+pub enum Found {
+    Priced(Price),
+    Nothing,
+}
+
+// The price numbered `n` of a diff, from 0 on.
+pub fn nth_price(list: &[u32], pages: u32, n: u32) -> Found
+    requires { ⌜ length (now list) ≤ 512 ⌝ }
+    ensures { λ r. ⌜ r ≡ nthPrice (pricesOf pages (now (list .entry))) n ⌝ }
+{
+    let mut s = cursor();
+    let mut left = n;
+    let mut index: usize = 0;
+    while index < list.len() {
+        let w = list[index];
+        if 0 < s.due {
+            if left == 0 {
+                return Found::Priced(Price {
+                    page: s.next - 1,
+                    word: s.word,
+                    price: w,
+                });
+            }
+            left -= 1;
+            s = price_read(s);
+            index += 1;
+        } else {
+            match read_word(s, w, index, pages) {
+                Step::Next(t) => {
+                    s = t;
+                    index += 1;
+                }
+                Step::End => {
+                    return Found::Nothing;
+                }
+                Step::Fault => {
+                    return Found::Nothing;
+                }
+            }
+        }
+    }
+    Found::Nothing
+}
