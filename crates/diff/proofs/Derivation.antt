@@ -6,7 +6,7 @@ use mathlib.Core.Bool.{Bool, true, false, cond}
 use native.Mathlib.Nat.{add-zero}
 use native.Mathlib.Omega.{arith}
 use native.Mathlib.Numerals.{add-one}
-use borrow.Author.Tests.{lt-ltb, le-ltb, eq-eqb, ne-eqb}
+use borrow.Author.Tests.{lt-ltb, le-ltb, lt-leb, eq-eqb, ne-eqb}
 use lib.ListN.{length}
 use lib.Dec.{ltb, eqb}
 use Rattle.diff.specs.Format.{kind, low, offset, count, pageWord, runWord, endWord, mostWords}
@@ -41,7 +41,7 @@ module _ (pages : ℕ) (s : Cursor) (index : ℕ) where
   step-page p none gap up fits small =
       let k : kind (pageWord p) ≡ 1 = omega arith in
       let l : low (pageWord p) ≡ p = omega arith in
-      simp (none, k, l, ne-eqb (s .gap) 0 (omega arith), le-ltb p (s .next) up, lt-ltb p pages fits)
+      simp (none, k, l, ne-eqb (s .gap) 0 (omega arith), le-ltb p (s .next) up, lt-leb pages p fits)
 
   pub step-run : (o n : ℕ) → s .due ≡ 0 → 0 < s .next → 0 < n → o + n ≤ 32 → s .word + s .gap ≤ o
       → wordStep pages s index (runWord o n) ≡ Next (pastRun s o n)

@@ -11,11 +11,11 @@ use native.Mathlib.Numerals.{add-one}
 use native.Mathlib.Decide.{ℕ-discrete}
 use borrow.Author.Tests.{eq-eqb, ne-eqb}
 use lib.ListN.{length, getD}
-use Rattle.diff.specs.Prices.{Price, labelOf, names}
+use Rattle.diff.specs.Prices.{Price, labelOf, names, laidAt}
 use Rattle.diff.specs.Making.{priceAt, changesFrom}
 use Rattle.diff.proofs.Encoding.{Ascending, none, more, ascending-from}
 use Rattle.diff.proofs.Prices.{names-first, names-later, names-more, names-none, names-below}
-use Rattle.diff.proofs.Prices.{laidAt, laid-first, laid-later, laid-none, laid-below}
+use Rattle.diff.proofs.Prices.{laid-first, laid-later, laid-none, laid-below}
 
 -- ---- one label
 

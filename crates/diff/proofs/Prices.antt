@@ -10,7 +10,7 @@ use borrow.Author.Tests.{eq-eqb, ne-eqb}
 use lib.ListN.{length, getD, set, length-set}
 use lib.Seq.{getD-set-same, getD-set-other}
 use lib.Dec.{eqb}
-use Rattle.diff.specs.Prices.{Price, labelOf, names, lay}
+use Rattle.diff.specs.Prices.{Price, labelOf, names, laidAt, lay}
 use Rattle.diff.proofs.Encoding.{Ascending, none, more}
 
 -- ---- a label that prices name
@@ -37,10 +37,6 @@ unfolding names
 names-none label = refl
 
 -- ---- the price of a label after prices are laid on it
-
-unfoldable pub laidAt : List Price → ℕ → ℕ → ℕ
-laidAt [] label price = price
-laidAt (p ∷ ps) label price = laidAt ps label (cond (eqb (labelOf p) label) (p .price) price)
 
 module _ (p : Price) (ps : List Price) (label price : ℕ) where
   pub laid-first : labelOf p ≡ label → laidAt (p ∷ ps) label price ≡ laidAt ps label (p .price)

@@ -5,13 +5,14 @@ use mathlib.Core.List.{List, [], _∷_, _++_}
 use mathlib.Core.Bool.{Bool, true, false, cond}
 use native.Mathlib.Omega.{arith}
 use native.Mathlib.Numerals.{add-one}
-use borrow.Author.Tests.{ltb-true, ltb-false, eqb-true, eqb-false, lt-ltb, le-ltb, eq-eqb, ne-eqb}
+use borrow.Author.Tests.{ltb-true, ltb-false, leb-false, eqb-true, eqb-false, lt-ltb, le-ltb, eq-eqb, ne-eqb}
 use lib.ListN.{length}
 use lib.Dec.{ltb, eqb}
 use Rattle.laws.proofs.Bools.{by-cond}
 use Rattle.diff.specs.Format.{kind, low, offset, count, pageWord, runWord, endWord, mostWords}
 use Rattle.diff.specs.Reading.{Cursor, Step, Verdict, pastPrice, pastPage, pastRun, wordStep, afterStep, readFrom}
-use Rattle.diff.specs.Reading.{pageStep, runStep, endStep}
+use Rattle.diff.specs.Reading.{pageStep, runStep, endStep, lacksRun, pageBehind, noSuchPage}
+use Rattle.diff.specs.Reading.{beforeFirstPage, emptyRun, pastPageEnd, touchesRun, ownIndex}
 use Rattle.diff.specs.Prices.{Price, pricedWord, pricesAfter, pricesFrom}
 use Rattle.diff.specs.declared.Step.the-variants.{Next, End, Fault}
 use Rattle.diff.specs.declared.Verdict.the-variants.{Good, Faulty}
@@ -41,23 +42,21 @@ module _ (pages : ℕ) (s : Cursor) (index w : ℕ) where
 
       page-case : s .due ≡ 0 → eqb (kind w) 1 ≡ true → P (pageStep pages s w)
       page-case none k =
-          by-cond P (eqb (s .gap) 0) _ _ (λ _. a-fault)
-          (λ g. by-cond P (ltb (low w) (s .next)) _ _ (λ _. a-fault)
-          (λ n. by-cond P (ltb (low w) pages) _ _
-          (λ l. a-page none (eqb-true _ _ k) (omega (arith, eqb-false)) (omega (arith, ltb-false)) (omega (arith, ltb-true)))
-          (λ _. a-fault)))
-
+          by-cond P (lacksRun s) _ _ (λ _. a-fault)
+          (λ run. by-cond P (pageBehind s w) _ _ (λ _. a-fault)
+          (λ up. by-cond P (noSuchPage pages w) _ _ (λ _. a-fault)
+          (λ fits. a-page none (eqb-true _ _ k) (omega (arith, eqb-false)) (omega (arith, ltb-false))
+            (omega (arith, leb-false)))))
       run-case : s .due ≡ 0 → eqb (kind w) 2 ≡ true → P (runStep s w)
       run-case none k =
-          by-cond P (eqb (s .next) 0) _ _ (λ _. a-fault)
-          (λ p. by-cond P (eqb (count w) 0) _ _ (λ _. a-fault)
-          (λ c. by-cond P (ltb 32 (offset w + count w)) _ _ (λ _. a-fault)
-          (λ f. by-cond P (ltb (offset w) (s .word + s .gap)) _ _ (λ _. a-fault)
-          (λ g. a-run none (eqb-true _ _ k) (omega (arith, eqb-false)) (omega (arith, eqb-false))
-          (omega (arith, ltb-false)) (omega (arith, ltb-false))))))
-
+          by-cond P (beforeFirstPage s) _ _ (λ _. a-fault)
+          (λ named. by-cond P (emptyRun w) _ _ (λ _. a-fault)
+          (λ some. by-cond P (pastPageEnd w) _ _ (λ _. a-fault)
+          (λ fits. by-cond P (touchesRun s w) _ _ (λ _. a-fault)
+          (λ apart. a-run none (eqb-true _ _ k) (omega (arith, eqb-false)) (omega (arith, eqb-false))
+            (omega (arith, ltb-false)) (omega (arith, ltb-false))))))
       end-case : s .due ≡ 0 → eqb (kind w) 15 ≡ true → P (endStep s index w)
       end-case none k =
-          by-cond P (eqb (s .gap) 0) _ _ (λ _. a-fault)
-          (λ g. by-cond P (eqb (low w) index) _ _
-          (λ l. an-end none (eqb-true _ _ k) (omega (arith, eqb-false)) (eqb-true _ _ l)) (λ _. a-fault))
+          by-cond P (lacksRun s) _ _ (λ _. a-fault)
+          (λ run. by-cond P (ownIndex index w) _ _
+            (λ own. an-end none (eqb-true _ _ k) (omega (arith, eqb-false)) (omega (arith, eqb-true))) (λ _. a-fault))

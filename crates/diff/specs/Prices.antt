@@ -38,6 +38,11 @@ unfoldable pub names : List Price → ℕ → Bool
 names [] label = false
 names (p ∷ ps) label = cond (eqb (labelOf p) label) true (names ps label)
 
+-- a label's price after prices are laid on it in order
+unfoldable pub laidAt : List Price → ℕ → ℕ → ℕ
+laidAt [] label price = price
+laidAt (p ∷ ps) label price = laidAt ps label (cond (eqb (labelOf p) label) (p .price) price)
+
 -- pages, one after the other, with prices laid on them in order
 unfoldable pub lay : List Price → List ℕ → List ℕ
 lay [] pages = pages

@@ -4,7 +4,7 @@ use Prim.Native.Nat.{ℕ, _+_, _-_}
 use mathlib.Core.List.{List, [], _∷_}
 use mathlib.Core.Bool.{Bool, cond}
 use lib.ListN.{length}
-use lib.Dec.{ltb, eqb}
+use lib.Dec.{ltb, leb, eqb}
 use Rattle.answer.specs.declared.Outcome.{Outcome}
 use Rattle.answer.specs.Outcome.{given, refusedAt, faultyList}
 use Rattle.diff.specs.Format.{kind, low, offset, count, mostWords}
@@ -29,24 +29,58 @@ pastPage s page = record { next = page + 1; word = 0; gap = 0; due = 0; prices =
 abbrev pub pastRun : Cursor → ℕ → ℕ → Cursor
 pastRun s offset count = record { next = s .next; word = offset; gap = 1; due = count; prices = s .prices }
 
--- "Pages ascend strictly, each below the rack's pages and with at least one run."
+-- ---- the rules, each as the test that it is broken
+
+-- "Pages .. with at least one run": the page named last has none yet
+abbrev pub lacksRun : Cursor → Bool
+lacksRun s = eqb (s .gap) 0
+
+-- "Pages ascend strictly"
+abbrev pub pageBehind : Cursor → ℕ → Bool
+pageBehind s w = ltb (low w) (s .next)
+
+-- "each below the rack's pages"
+abbrev pub noSuchPage : ℕ → ℕ → Bool
+noSuchPage pages w = leb pages (low w)
+
+-- "a run before the first page word"
+abbrev pub beforeFirstPage : Cursor → Bool
+beforeFirstPage s = eqb (s .next) 0
+
+-- "A run has count 1 or more"
+abbrev pub emptyRun : ℕ → Bool
+emptyRun w = eqb (count w) 0
+
+-- "and offset + count at most 32"
+abbrev pub pastPageEnd : ℕ → Bool
+pastPageEnd w = ltb 32 (offset w + count w)
+
+-- "On one page a run's offset is greater than the end (offset + count) of the run before"
+abbrev pub touchesRun : Cursor → ℕ → Bool
+touchesRun s w = ltb (offset w) (s .word + s .gap)
+
+-- "its low 28 bits are its own index"
+abbrev pub ownIndex : ℕ → ℕ → Bool
+ownIndex index w = eqb (low w) index
+
+-- ---- one word
+
+-- "Kind 1 names a page"
 abbrev pub pageStep : ℕ → Cursor → ℕ → Step
 pageStep pages s w =
-    cond (eqb (s .gap) 0) Fault
-    (cond (ltb (low w) (s .next)) Fault (cond (ltb (low w) pages) (Next (pastPage s (low w))) Fault))
+    cond (lacksRun s) Fault
+    (cond (pageBehind s w) Fault (cond (noSuchPage pages w) Fault (Next (pastPage s (low w)))))
 
--- "A run before the first page word" is a fault. "A run has count 1 or more and offset + count at most 32. On one
--- page a run's offset is greater than the end of the run before."
+-- "Kind 2 is a run"
 abbrev pub runStep : Cursor → ℕ → Step
 runStep s w =
-    cond (eqb (s .next) 0) Fault
-    (cond (eqb (count w) 0) Fault
-    (cond (ltb 32 (offset w + count w)) Fault
-    (cond (ltb (offset w) (s .word + s .gap)) Fault (Next (pastRun s (offset w) (count w))))))
+    cond (beforeFirstPage s) Fault
+    (cond (emptyRun w) Fault
+    (cond (pastPageEnd w) Fault (cond (touchesRun s w) Fault (Next (pastRun s (offset w) (count w))))))
 
--- "Kind 15 ends the list; its low 28 bits are its own index." The page before it has a run.
+-- "Kind 15 ends the list"
 abbrev pub endStep : Cursor → ℕ → ℕ → Step
-endStep s index w = cond (eqb (s .gap) 0) Fault (cond (eqb (low w) index) End Fault)
+endStep s index w = cond (lacksRun s) Fault (cond (ownIndex index w) End Fault)
 
 -- The word at an index. "Any other kind is a fault."
 unfoldable pub wordStep : ℕ → Cursor → ℕ → ℕ → Step

@@ -13,8 +13,11 @@ use Rattle.directory.specs.declared.Status.the-variants.{Running, Awaiti
 -- ---- what it says
 
 -- whether card c is live; no card past the marks is
+abbrev pub liveAt : List Bool → ℕ → Bool
+liveAt marks c = getD marks c false
+
 abbrev pub isLive : Directory → ℕ → Bool
-isLive d c = getD (d .live) c false
+isLive d c = liveAt (d .live) c
 
 abbrev pub primaryOf : Directory → ℕ → ℕ
 primaryOf d page = getD (d .primary) page 0

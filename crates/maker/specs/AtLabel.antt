@@ -1,10 +1,16 @@
 -- The part of the made diff that one label, which differs, brings.
 -- Assumes nothing: these are definitions.
-use Prim.Native.Nat.{ℕ, _+_}
+use Prim.Native.Nat.{ℕ, _+_, _≤_}
+use mathlib.Core.Path.{_≡_}
 use mathlib.Core.List.{List}
-use lib.ListN.{drop, getD}
+use lib.ListN.{length, drop, getD}
 use Rattle.diff.specs.declared.Price.{Price}
-use Rattle.diff.specs.Making.{priceAt, changesFrom, runLength, header}
+use Rattle.diff.specs.Making.{priceAt, changesFrom, runLength, header, encodeFrom}
+
+-- working pages lent with their twins
+pub record Lent (working twins : List ℕ) : Type 0 where
+  pub even : length working ≡ length twins
+  pub most : length working ≤ 2048
 
 -- the changes from a label on
 abbrev pub changesOn : List ℕ → List ℕ → ℕ → List Price
@@ -20,3 +26,7 @@ runAt working twins label = runLength (workingPrice working label) (changesOn wo
 -- what stands before the label's price
 abbrev pub headerAt : List ℕ → List ℕ → ℕ → ℕ → List ℕ
 headerAt working twins next label = header next (workingPrice working label) (runAt working twins label)
+
+-- the words that the labels from one on bring, the end word not among them
+abbrev pub bodyOn : List ℕ → List ℕ → ℕ → ℕ → List ℕ
+bodyOn working twins next label = encodeFrom next (changesOn working twins label)

@@ -1,17 +1,19 @@
 // The list maker: the diff between working pages and their twins, written into a lent buffer.
 ghost use mathlib.Core.Path.{_≡_};
-ghost use Prim.Native.Nat.{_+_, _<_, _≤_};
+ghost use Prim.Native.Nat.{ℕ, _+_, _%_, _<_, _≤_};
 ghost use lib.ListN.{length};
 ghost use lib.Seq.{sets};
 ghost use Rattle.answer.specs.Outcome.{outcome};
+ghost use Rattle.diff.specs.Format.{runWord};
 ghost use Rattle.diff.specs.Making.{priceAt, header, madeDiff, lentPages, makeDiff, bufferAfter};
-ghost use Rattle.maker.specs.AtLabel.{runAt, headerAt};
+ghost use Rattle.maker.specs.AtLabel.{Lent, runAt, headerAt};
 use answer::Answer;
 
-// How many words stand before the price of a label that differs. `next` is one more than the label
-// named last, 0 before the first.
+// How many words stand before the price of a label that differs, whatever the price and the run are.
+// `next` is one more than the label named last, 0 before the first.
 fn header_length(next: usize, label: usize) -> usize
-    ensures { λ r. ⌜ r ≡ length (header next (priceAt label 0) 0) ⌝ }
+    ensures short { λ r. ⌜ r ≤ 2 ⌝ }
+    ensures counted { λ r. ⌜ ((price run : ℕ) → r ≡ length (header next (priceAt label price) run)) ⌝ }
 {
     if next <= label / 32 * 32 {
         return 2;
@@ -21,7 +23,7 @@ fn header_length(next: usize, label: usize) -> usize
 
 // The number of words of the diff, its end word among them.
 fn count_words(working: &[u32], twins: &[u32]) -> usize
-    requires { ⌜ (length (now working) ≤ 2048) × (length (now twins) ≡ length (now working)) ⌝ }
+    requires { ⌜ Lent (now working) (now twins) ⌝ }
     ensures { λ r. ⌜ r ≡ length (madeDiff (now (working .entry)) (now (twins .entry))) ⌝ }
 {
     let mut next: usize = 0;
@@ -41,25 +43,37 @@ fn count_words(working: &[u32], twins: &[u32]) -> usize
 
 // How many words, a label that differs first, differ one after the other on its page.
 fn run_length(working: &[u32], twins: &[u32], label: usize) -> usize
-    requires { ⌜ (label < length (now working)) × (length (now twins) ≡ length (now working)) ⌝ }
-    ensures { λ r. ⌜ r ≡ runAt (now (working .entry)) (now (twins .entry)) label ⌝ }
+    requires { ⌜ Lent (now working) (now twins) ⌝ }
+    requires { ⌜ label < length (now working) ⌝ }
+    ensures within { λ r. ⌜ label % 32 + r ≤ 32 ⌝ }
+    ensures counted { λ r. ⌜ r ≡ runAt (now (working .entry)) (now (twins .entry)) label ⌝ }
 {
-    let mut run: usize = 1;
-    let mut at = label + 1;
-    while at < working.len() {
-        if at % 32 == 0 {
-            return run;
+    let mut last = label;
+    while last + 1 < working.len() {
+        let next = last + 1;
+        if next % 32 == 0 {
+            break;
         }
-        if working[at] == twins[at] {
-            return run;
+        if working[next] == twins[next] {
+            break;
         }
-        run += 1;
-        at += 1;
+        last = next;
     }
-    run
+    last + 1 - label
 }
 
-// Writes what stands before the price of a label that differs, from `at` on, and says where it stopped.
+// The word of the run that a label that differs starts.
+fn run_word(working: &[u32], twins: &[u32], label: usize) -> u32
+    requires { ⌜ Lent (now working) (now twins) ⌝ }
+    requires { ⌜ label < length (now working) ⌝ }
+    ensures { λ r. ⌜ r ≡ runWord (label % 32) (runAt (now (working .entry)) (now (twins .entry)) label) ⌝ }
+{
+    let run = run_length(working, twins, label);
+    0x20000000 + ((label % 32) * 0x10000 + run) as u32
+}
+
+// Writes what stands before the price of a label that differs, from `at` on, and says where it stopped: there
+// is room for the price.
 fn write_header(
     working: &[u32],
     twins: &[u32],
@@ -68,39 +82,33 @@ fn write_header(
     buffer: &mut [u32],
     at: usize,
 ) -> usize
-    requires { ⌜ (label < length (now working)) × (length (now twins) ≡ length (now working)) ⌝ }
-    requires { ⌜ length (now working) ≤ 2048 ⌝ }
-    requires { ⌜ at + length (headerAt (now working) (now twins) next label) ≤ length (now buffer) ⌝ }
+    requires { ⌜ Lent (now working) (now twins) ⌝ }
+    requires { ⌜ label < length (now working) ⌝ }
+    requires { ⌜ at + length (headerAt (now working) (now twins) next label) < length (now buffer) ⌝ }
+    ensures room { λ r. ⌜ r < length (now (buffer .entry)) ⌝ }
     ensures stopped { λ r. ⌜ r ≡ at + length (headerAt (now (working .entry)) (now (twins .entry)) next label) ⌝ }
-    ensures written {
-        λ _. ⌜ now (buffer .exit)
-        ≡ sets (now (buffer .entry)) at (headerAt (now (working .entry)) (now (twins .entry)) next label) ⌝
-    }
+    ensures written { λ _. ⌜ now (buffer .exit)
+        ≡ sets (now (buffer .entry)) at (headerAt (now (working .entry)) (now (twins .entry)) next label) ⌝ }
 {
-    let page = label / 32 * 32;
-    if page < next {
-        if next == label {
-            return at;
-        }
-        let run = run_length(working, twins, label);
-        buffer[at] = 0x20000000 + ((label % 32) * 0x10000 + run) as u32;
-        return at + 1;
+    if next <= label / 32 * 32 {
+        buffer[at] = 0x10000000 + (label / 32) as u32;
+        buffer[at + 1] = run_word(working, twins, label);
+        return at + 2;
     }
-    let run = run_length(working, twins, label);
-    buffer[at] = 0x10000000 + (label / 32) as u32;
-    buffer[at + 1] = 0x20000000 + ((label % 32) * 0x10000 + run) as u32;
-    at + 2
+    if next == label {
+        return at;
+    }
+    buffer[at] = run_word(working, twins, label);
+    at + 1
 }
 
 // Writes the diff into a buffer that has room for it.
 fn write_diff(working: &[u32], twins: &[u32], buffer: &mut [u32])
-    requires { ⌜ (length (now working) ≤ 2048) × (length (now twins) ≡ length (now working)) ⌝ }
+    requires { ⌜ Lent (now working) (now twins) ⌝ }
     requires { ⌜ length (madeDiff (now working) (now twins)) ≤ length (now buffer) ⌝ }
     requires { ⌜ length (madeDiff (now working) (now twins)) ≤ 512 ⌝ }
-    ensures {
-        λ _. ⌜ now (buffer .exit)
-        ≡ sets (now (buffer .entry)) 0 (madeDiff (now (working .entry)) (now (twins .entry))) ⌝
-    }
+    ensures { λ _. ⌜ now (buffer .exit)
+        ≡ sets (now (buffer .entry)) 0 (madeDiff (now (working .entry)) (now (twins .entry))) ⌝ }
 {
     let mut next: usize = 0;
     let mut at: usize = 0;
@@ -135,14 +143,10 @@ fn lent_pages(working: usize, twins: usize) -> bool
 // Makes the diff from the twins to the working pages: gives its length, or refusal 1 or 17. The
 // words of the buffer past it are kept, and all of them if it is refused.
 pub fn make(working: &[u32], twins: &[u32], buffer: &mut [u32]) -> Answer
-    ensures answer {
-        λ r. ⌜ outcome r
-        ≡ makeDiff (now (working .entry)) (now (twins .entry)) (length (now (buffer .entry))) ⌝
-    }
-    ensures written {
-        λ _. ⌜ now (buffer .exit)
-        ≡ bufferAfter (now (working .entry)) (now (twins .entry)) (now (buffer .entry)) ⌝
-    }
+    ensures answer { λ r. ⌜ outcome r
+        ≡ makeDiff (now (working .entry)) (now (twins .entry)) (length (now (buffer .entry))) ⌝ }
+    ensures written { λ _. ⌜ now (buffer .exit)
+        ≡ bufferAfter (now (working .entry)) (now (twins .entry)) (now (buffer .entry)) ⌝ }
 {
     if lent_pages(working.len(), twins.len()) {
         let words = count_words(working, twins);

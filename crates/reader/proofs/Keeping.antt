@@ -1,5 +1,5 @@
 -- A word keeps the bounds of the reading.
-use Prim.Native.Nat.{ℕ, _+_, _≤_}
+use Prim.Native.Nat.{ℕ, _+_, _*_, _≤_}
 use mathlib.Core.Path.{_≡_, sym, subst}
 use native.Mathlib.Omega.{arith}
 use Rattle.diff.specs.declared.Cursor.{Cursor}
@@ -11,7 +11,7 @@ use Rattle.reader.specs.Steady.{Steady}
 
 -- what is left after a word: a state within bounds, of at most so many prices
 abbrev pub Kept : ℕ → Step → Type 0
-Kept prices (Next t) = (t .word + t .due ≤ 32) × (t .gap ≤ 1) × (t .prices ≤ prices)
+Kept prices (Next t) = (t .word + t .due ≤ 32) × (t .gap ≤ 1) × (t .prices ≤ prices) × (t .due ≤ 32 * t .next)
 Kept prices End = Unit {0}
 Kept prices Fault = Unit {0}
 

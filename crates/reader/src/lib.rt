@@ -46,7 +46,9 @@ fn page_word(s: Cursor, w: u32, pages: u32) -> Step
     if page < s.next {
         return Step::Fault;
     }
-    if page < pages {
+    if pages <= page {
+        Step::Fault
+    } else {
         Step::Next(Cursor {
             next: page + 1,
             word: 0,
@@ -54,8 +56,6 @@ fn page_word(s: Cursor, w: u32, pages: u32) -> Step
             due: 0,
             prices: s.prices,
         })
-    } else {
-        Step::Fault
     }
 }
 

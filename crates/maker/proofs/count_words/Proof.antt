@@ -1,78 +1,83 @@
+-- `maker::count_words` meets its contract. The loop's invariant: the words counted, and those that the labels left bring,
+-- are the words of the whole.
+use borrow.Author.Needs.{needs}
+use Prim.Native.Nat.{_+_, _-_, _*_, _≤_}
+use mathlib.Core.Path.{_≡_, ap}
+use native.Mathlib.Omega.{arith}
+use lib.ListN.{length}
+use Rattle.diff.specs.Making.{madeDiff}
+use Rattle.maker.specs.AtLabel.{bodyOn}
+use Rattle.maker.proofs.Turns.{body-end, body-same, length-body-differ, length-made}
 use Rattle.maker.proofs.count_words.Statement.{statement}
 use Rattle.maker.proofs.count_words.Tie as tie
-use Rattle.maker.proofs.count_words.Reads as reads
-use Rattle.maker.proofs.count_words.Lts as lts
-use Rattle.maker.proofs.header_length.Reads as header-length-reads
 
 abbrev Inv-loop : tie.InvT-loop
-Inv-loop working twins next₀ words₀ label₀ next words label = ?
+Inv-loop working twins next₀ words₀ label₀ next words label =
+    (label ≤ length working) × (words ≤ 3 * label)
+    × (words + length (bodyOn working twins next label) + 1 ≡ length (madeDiff working twins))
 
 abbrev μ-loop : tie.MeasureT-loop
-μ-loop working twins next₀ words₀ label₀ next words label = ?
+μ-loop working twins next₀ words₀ label₀ next words label = length working - label
 
--- src/lib.rt:30:5
 loop-holds : tie.Need-loop-holds Inv-loop μ-loop
-loop-holds c = ?
+loop-holds c = omega (arith, length-made (c .before .before .pre))
 
--- src/lib.rt:31:12
 mul-if1 : tie.Need-mul-if1 Inv-loop μ-loop
-mul-if1 c = ?
+mul-if1 c = search needs
 
--- src/lib.rt:31:12
 shared-slice-read-if1 : tie.Need-shared-slice-read-if1 Inv-loop μ-loop
-shared-slice-read-if1 c = ?
+shared-slice-read-if1 c = search needs
 
--- src/lib.rt:31:30
 mul-if1-2 : tie.Need-mul-if1-2 Inv-loop μ-loop
-mul-if1-2 c = ?
+mul-if1-2 c = search needs
 
--- src/lib.rt:31:30
 shared-slice-read-if1-2 : tie.Need-shared-slice-read-if1-2 Inv-loop μ-loop
-shared-slice-read-if1-2 c = ?
+shared-slice-read-if1-2 c = search needs
 
--- src/lib.rt:32:13
 add-label : tie.Need-add-label Inv-loop μ-loop
-add-label c = ?
+add-label c = search needs
 
--- src/lib.rt:30:5
 loop-less : tie.Need-loop-less Inv-loop μ-loop
-loop-less c = ?
+loop-less c = search needs
 
--- src/lib.rt:30:5
 loop-again : tie.Need-loop-again Inv-loop μ-loop
-loop-again c = ?
+loop-again c =
+    let turn = c .before .before .before in
+    let at = turn .before .loop in
+    let same = body-same (turn .before .before .before .before .pre) (at .next) _ (turn .loop-test .taken) (c .if1 .taken) in
+    omega (arith, ap length same)
 
--- src/lib.rt:34:22
 header-length-requires : tie.Need-header-length-requires Inv-loop μ-loop
-header-length-requires c κs = ?
+header-length-requires c κs = search needs
 
--- src/lib.rt:34:22
 add-words : tie.Need-add-words Inv-loop μ-loop
-add-words c = ?
+add-words c = search needs
 
--- src/lib.rt:34:13
 add-words-2 : tie.Need-add-words-2 Inv-loop μ-loop
-add-words-2 c = ?
+add-words-2 c = search needs
 
--- src/lib.rt:35:13
 add-label-2 : tie.Need-add-label-2 Inv-loop μ-loop
-add-label-2 c = ?
+add-label-2 c = search needs
 
--- src/lib.rt:30:5
 loop-less-2 : tie.Need-loop-less-2 Inv-loop μ-loop
-loop-less-2 c = ?
+loop-less-2 c = search needs
 
--- src/lib.rt:30:5
 loop-again-2 : tie.Need-loop-again-2 Inv-loop μ-loop
-loop-again-2 c = ?
+loop-again-2 c =
+    let turn = c .before .before .before .before in
+    let at = turn .before .loop in
+    let counted = c .header-length .ensures .1 in
+    let more =
+    length-body-differ (turn .before .before .before .before .pre) (at .next) _ (turn .loop-test .taken) (counted _ _) (c .before .if1 .left) in
+    omega arith
 
--- src/lib.rt:39:5
 add-result : tie.Need-add-result Inv-loop μ-loop
-add-result c = ?
+add-result c = search needs
 
--- src/lib.rt:23:1
 returns : tie.Need-returns Inv-loop μ-loop
-returns c = ?
+returns c =
+    let none = body-end (c .before .before .before .before .pre) (c .before .loop .next) _ (c .loop-test .left) in
+    omega (arith, ap length none)
 
 pub count-words-spec : {M : Type 1} → statement M
 count-words-spec =

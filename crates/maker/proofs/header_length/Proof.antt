@@ -1,24 +1,30 @@
+-- `maker::header_length` meets its contract: its tests tell the three kinds of header apart.
+use mathlib.Core.Path.{sym, ap}
+use native.Mathlib.Omega.{arith}
+use lib.ListN.{length}
+use Rattle.diff.specs.Making.{priceAt}
+use Rattle.diff.proofs.Encoding.{header-page, header-run, header-none}
 use borrow.Author.Needs.{needs}
 use Rattle.maker.proofs.header_length.Statement.{statement}
 use Rattle.maker.proofs.header_length.Tie as tie
-use Rattle.maker.proofs.header_length.Reads as reads
-use Rattle.maker.proofs.header_length.Lts as lts
 
--- src/lib.rt:16:16
 mul-if1 : tie.Need-mul-if1
 mul-if1 c = search needs
 
--- src/lib.rt:17:9
 returns : tie.Need-returns
-returns c = ?
+returns c =
+    let label = c .before .args .label in
+    (omega arith, λ price run. sym (ap length (header-page _ (priceAt label price) run (omega arith))))
 
--- src/lib.rt:13:1
 returns-2 : tie.Need-returns-2
-returns-2 c = ?
+returns-2 c =
+    let label = c .before .before .args .label in
+    (omega arith, λ price run. sym (ap length (header-none _ (priceAt label price) run (omega arith) (omega arith))))
 
--- src/lib.rt:13:1
 returns-3 : tie.Need-returns-3
-returns-3 c = ?
+returns-3 c =
+    let label = c .before .before .args .label in
+    (omega arith, λ price run. sym (ap length (header-run _ (priceAt label price) run (omega arith) (omega arith))))
 
 pub header-length-spec : {M : Type 1} → statement M
 header-length-spec = tie.close (tie.spec mul-if1 returns returns-2 returns-3)

@@ -1,65 +1,69 @@
+-- `maker::run_length` meets its contract. The loop's invariant: the run from the last of the words passed on ends where the
+-- run of the label does.
+use borrow.Author.Needs.{needs}
+use Prim.Native.Nat.{_+_, _-_, _/_, _≤_, _<_}
+use mathlib.Core.Path.{_≡_}
+use mathlib.Core.Logic.{⊎-elim}
+use native.Mathlib.Omega.{arith}
+use lib.ListN.{length}
+use Rattle.maker.specs.AtLabel.{runAt}
+use Rattle.maker.proofs.Turns.{run-at-end, run-at-page-end, run-at-same, run-at-differ}
 use Rattle.maker.proofs.run_length.Statement.{statement}
 use Rattle.maker.proofs.run_length.Tie as tie
-use Rattle.maker.proofs.run_length.Reads as reads
-use Rattle.maker.proofs.run_length.Lts as lts
 
 abbrev Inv-loop : tie.InvT-loop
-Inv-loop working twins label run₀ at₀ run at = ?
+Inv-loop working twins label last₀ last =
+    (label ≤ last) × (last < length working) × (last / 32 ≡ label / 32)
+    × (last + runAt working twins last ≡ label + runAt working twins label)
 
 abbrev μ-loop : tie.MeasureT-loop
-μ-loop working twins label run₀ at₀ run at = ?
+μ-loop working twins label last₀ last = length working - last
 
--- src/lib.rt:48:18
-add-at : tie.Need-add-at Inv-loop μ-loop
-add-at c = ?
-
--- src/lib.rt:49:5
 loop-holds : tie.Need-loop-holds Inv-loop μ-loop
-loop-holds c = ?
+loop-holds c = search needs
 
--- src/lib.rt:51:13
-returns : tie.Need-returns Inv-loop μ-loop
-returns c = ?
+add-loop : tie.Need-add-loop Inv-loop μ-loop
+add-loop c = search needs
 
--- src/lib.rt:53:12
+add-next : tie.Need-add-next Inv-loop μ-loop
+add-next c = search needs
+
 mul-if2 : tie.Need-mul-if2 Inv-loop μ-loop
-mul-if2 c = ?
+mul-if2 c = search needs
 
--- src/lib.rt:53:12
 shared-slice-read-if2 : tie.Need-shared-slice-read-if2 Inv-loop μ-loop
-shared-slice-read-if2 c = ?
+shared-slice-read-if2 c = search needs
 
--- src/lib.rt:53:27
 mul-if2-2 : tie.Need-mul-if2-2 Inv-loop μ-loop
-mul-if2-2 c = ?
+mul-if2-2 c = search needs
 
--- src/lib.rt:53:27
 shared-slice-read-if2-2 : tie.Need-shared-slice-read-if2-2 Inv-loop μ-loop
-shared-slice-read-if2-2 c = ?
+shared-slice-read-if2-2 c = search needs
 
--- src/lib.rt:54:13
-returns-2 : tie.Need-returns-2 Inv-loop μ-loop
-returns-2 c = ?
-
--- src/lib.rt:56:9
-add-run : tie.Need-add-run Inv-loop μ-loop
-add-run c = ?
-
--- src/lib.rt:57:9
-add-at-2 : tie.Need-add-at-2 Inv-loop μ-loop
-add-at-2 c = ?
-
--- src/lib.rt:49:5
 loop-less : tie.Need-loop-less Inv-loop μ-loop
-loop-less c = ?
+loop-less c = search needs
 
--- src/lib.rt:49:5
 loop-again : tie.Need-loop-again Inv-loop μ-loop
-loop-again c = ?
+loop-again c =
+    let turn = c .before .before .before .before in
+    let more = run-at-differ (turn .before .before .pre .0) _ (turn .loop-test .taken) (c .before .before .before .if1 .left) (c .if2 .left) in
+    omega arith
 
--- src/lib.rt:43:1
-returns-3 : tie.Need-returns-3 Inv-loop μ-loop
-returns-3 c = ?
+add-result : tie.Need-add-result Inv-loop μ-loop
+add-result c = search needs
+
+sub-result : tie.Need-sub-result Inv-loop μ-loop
+sub-result c = search needs
+
+returns : tie.Need-returns Inv-loop μ-loop
+returns c =
+    let lent = c .before .before .pre .0 in
+    let last =
+    ⊎-elim (λ end. run-at-end lent _ (end .left))
+    (⊎-elim (λ page. run-at-page-end lent _ (page .0 .taken) (page .1 .taken))
+    (λ same. run-at-same lent _ (same .0 .taken) (same .4 .taken)))
+    (c .loop-test .came) in
+    omega arith
 
 pub run-length-spec : {M : Type 1} → statement M
 run-length-spec =
@@ -67,16 +71,15 @@ run-length-spec =
     (tie.spec
     Inv-loop
     μ-loop
-    add-at
     loop-holds
-    returns
+    add-loop
+    add-next
     mul-if2
     shared-slice-read-if2
     mul-if2-2
     shared-slice-read-if2-2
-    returns-2
-    add-run
-    add-at-2
     loop-less
     loop-again
-    returns-3)
+    add-result
+    sub-result
+    returns)

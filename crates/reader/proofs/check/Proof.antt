@@ -1,49 +1,49 @@
+-- `reader::check` meets its contract: it goes by what `read` finds.
+use mathlib.Core.Path.{sym, _∙_}
+use borrow.Author.Tests.{lt-ltb, le-ltb}
+use Rattle.diff.specs.Reading.{checkDiff}
 use borrow.Author.Needs.{needs}
 use Rattle.reader.proofs.check.Statement.{statement}
 use Rattle.reader.proofs.check.Tie as tie
-use Rattle.reader.proofs.check.Reads as reads
-use Rattle.reader.proofs.check.Lts as lts
-use Rattle.reader.proofs.read.Reads as read-reads
 
--- src/lib.rt:146:11
 read-requires : tie.Need-read-requires
 read-requires c κs = search needs
 
--- src/lib.rt:147:23
 enum-known-prices : tie.Need-enum-known-prices
 enum-known-prices c = search needs
 
--- src/lib.rt:148:17
 cast-if1 : tie.Need-cast-if1
 cast-if1 c = search needs
 
--- src/lib.rt:149:54
 cast-t12 : tie.Need-cast-t12
 cast-t12 c = search needs
 
--- src/lib.rt:151:31
 cast-t13 : tie.Need-cast-t13
 cast-t13 c = search needs
 
--- src/lib.rt:154:25
 enum-known-place : tie.Need-enum-known-place
 enum-known-place c = search needs
 
--- src/lib.rt:154:72
 cast-t14 : tie.Need-cast-t14
 cast-t14 c = search needs
 
--- src/lib.rt:143:1
 returns : tie.Need-returns
-returns c = ?
+unfolding checkDiff
+returns c =
+    let read = sym (c .before .before .prices .given .1) ∙ c .before .before .before .before .read .ensures in
+    rw (← read) (simp (lt-ltb _ _ (c .if1 .taken)))
 
--- src/lib.rt:143:1
 returns-2 : tie.Need-returns-2
-returns-2 c = ?
+unfolding checkDiff
+returns-2 c =
+    let read = sym (c .before .before .prices .given .1) ∙ c .before .before .before .before .read .ensures in
+    rw (← read) (simp (le-ltb _ _ (c .if1 .left)))
 
--- src/lib.rt:143:1
 returns-3 : tie.Need-returns-3
-returns-3 c = ?
+unfolding checkDiff
+returns-3 c =
+    let read = sym (c .before .place .given .1) ∙ c .before .before .before .read .ensures in
+    rw (← read)
 
 pub check-spec : {M : Type 1} → statement M
 check-spec =

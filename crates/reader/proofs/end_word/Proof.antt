@@ -1,23 +1,18 @@
+-- `reader::end_word` meets its contract: each return is the definition's case, by the tests that led to it.
 use borrow.Author.Tests.{eq-eqb, ne-eqb}
 use borrow.Author.Needs.{needs}
 use Rattle.reader.proofs.end_word.Statement.{statement}
 use Rattle.reader.proofs.end_word.Tie as tie
-use Rattle.reader.proofs.end_word.Reads as reads
-use Rattle.reader.proofs.end_word.Lts as lts
 
--- src/lib.rt:93:15
 cast-own : tie.Need-cast-own
 cast-own c = search needs
 
--- src/lib.rt:95:9
 returns : tie.Need-returns
 returns c = simp (eq-eqb _ _ (c .if1 .taken))
 
--- src/lib.rt:90:1
 returns-2 : tie.Need-returns-2
 returns-2 c = simp (ne-eqb _ _ (c .before .if1 .left), eq-eqb _ _ (c .if2 .taken))
 
--- src/lib.rt:90:1
 returns-3 : tie.Need-returns-3
 returns-3 c = simp (ne-eqb _ _ (c .before .if1 .left), ne-eqb _ _ (c .if2 .left))
 

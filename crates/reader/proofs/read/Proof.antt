@@ -10,10 +10,6 @@ use Rattle.reader.proofs.Turns.{read-end, read-long, read-turn}
 use borrow.Author.Needs.{needs}
 use Rattle.reader.proofs.read.Statement.{statement}
 use Rattle.reader.proofs.read.Tie as tie
-use Rattle.reader.proofs.read.Reads as reads
-use Rattle.reader.proofs.read.Lts as lts
-use Rattle.reader.proofs.cursor.Reads as cursor-reads
-use Rattle.reader.proofs.read_word.Reads as read-word-reads
 
 abbrev Inv-loop : tie.InvT-loop
 Inv-loop list pages s₀ index₀ s index =
@@ -23,92 +19,73 @@ Inv-loop list pages s₀ index₀ s index =
 abbrev μ-loop : tie.MeasureT-loop
 μ-loop list pages s₀ index₀ s index = length list - index
 
--- src/lib.rt:120:9
 cursor-requires : tie.Need-cursor-requires Inv-loop μ-loop
 cursor-requires c κs = search needs
 
--- src/lib.rt:122:5
 loop-holds : tie.Need-loop-holds Inv-loop μ-loop
 loop-holds c = rw (c .cursor .ensures) (search needs)
 
--- src/lib.rt:124:13
 returns : tie.Need-returns Inv-loop μ-loop
 returns c =
     let at = c .before .before .loop in
     sym (read-long _ _ _ (at .s) (c .before .loop-test .taken) (c .if1 .taken)) ∙ at .inv .4
 
--- src/lib.rt:126:28
 mul-read-word : tie.Need-mul-read-word Inv-loop μ-loop
 mul-read-word c = search needs
 
--- src/lib.rt:126:28
 shared-slice-read-read-word : tie.Need-shared-slice-read-read-word Inv-loop μ-loop
 shared-slice-read-read-word c = search needs
 
--- src/lib.rt:126:15
 read-word-requires : tie.Need-read-word-requires Inv-loop μ-loop
 read-word-requires c κs = search needs
 
--- src/lib.rt:127:24
 enum-known-t : tie.Need-enum-known-t Inv-loop μ-loop
 enum-known-t c = search needs
 
--- src/lib.rt:129:17
 add-index : tie.Need-add-index Inv-loop μ-loop
 add-index c = search needs
 
--- src/lib.rt:122:5
 loop-less : tie.Need-loop-less Inv-loop μ-loop
 loop-less c = search needs
 
--- src/lib.rt:122:5
 loop-again : tie.Need-loop-again Inv-loop μ-loop
 loop-again c =
     let at = c .before .before .before .before .before .before .before .loop in
     let does = sym (c .before .t .given .1) ∙ c .before .before .before .read-word .ensures in
     let kept = word-kept _ _ _ _ (at .inv .2) _ does in
-    (search needs, search needs, record { within = kept .0; one = kept .1; few = search needs }, search needs,
+    (search needs, search needs, record { within = kept .0; one = kept .1; few = search needs; named = kept .3 }, search needs,
       sym (read-turn _ _ _ _ _ does (c .before .before .before .before .before .before .loop-test .taken) (c .before .before .before .before .before .if1 .left)) ∙ at .inv .4)
 
--- src/lib.rt:132:49
 enum-told : tie.Need-enum-told Inv-loop μ-loop
 enum-told c = search needs
 
--- src/lib.rt:132:49
 add-t11 : tie.Need-add-t11 Inv-loop μ-loop
 add-t11 c = search needs
 
--- src/lib.rt:132:48
 cast-t12 : tie.Need-cast-t12 Inv-loop μ-loop
 cast-t12 c = search needs
 
--- src/lib.rt:132:17
 returns-2 : tie.Need-returns-2 Inv-loop μ-loop
 returns-2 c =
     let at = c .before .before .before .before .before .before .loop in
     let does = sym (c .enum-told .given .1) ∙ c .before .before .read-word .ensures in
     sym (read-turn _ _ _ _ _ does (c .before .before .before .before .before .loop-test .taken) (c .before .before .before .before .if1 .left)) ∙ at .inv .4
 
--- src/lib.rt:135:40
 enum-told-2 : tie.Need-enum-told-2 Inv-loop μ-loop
 enum-told-2 c = search needs
 
--- src/lib.rt:135:40
 cast-t13 : tie.Need-cast-t13 Inv-loop μ-loop
 cast-t13 c = search needs
 
--- src/lib.rt:135:17
 returns-3 : tie.Need-returns-3 Inv-loop μ-loop
 returns-3 c =
     let at = c .before .before .before .before .before .before .loop in
     let does = sym (c .enum-told2 .given .1) ∙ c .before .before .read-word .ensures in
     sym (read-turn _ _ _ _ _ does (c .before .before .before .before .before .loop-test .taken) (c .before .before .before .before .if1 .left)) ∙ at .inv .4
 
--- src/lib.rt:139:21
 cast-t14 : tie.Need-cast-t14 Inv-loop μ-loop
 cast-t14 c = search needs
 
--- src/lib.rt:117:1
 returns-4 : tie.Need-returns-4 Inv-loop μ-loop
 returns-4 c = sym (read-end _ _ _ _ (c .loop-test .left)) ∙ c .before .loop .inv .4
 

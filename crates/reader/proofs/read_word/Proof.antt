@@ -1,57 +1,42 @@
+-- `reader::read_word` meets its contract: the kind decides which of its callees' definitions applies.
 use borrow.Author.Tests.{le-ltb, lt-ltb, ne-eqb}
 use borrow.Author.Needs.{needs}
 use Rattle.diff.specs.Reading.{wordStep}
 use Rattle.reader.proofs.read_word.Statement.{statement}
 use Rattle.reader.proofs.read_word.Tie as tie
-use Rattle.reader.proofs.read_word.Reads as reads
-use Rattle.reader.proofs.read_word.Lts as lts
-use Rattle.reader.proofs.end_word.Reads as end-word-reads
-use Rattle.reader.proofs.page_word.Reads as page-word-reads
-use Rattle.reader.proofs.price_read.Reads as price-read-reads
-use Rattle.reader.proofs.run_word.Reads as run-word-reads
 
--- src/lib.rt:105:27
 price-read-requires : tie.Need-price-read-requires
 price-read-requires c κs = search needs
 
--- src/lib.rt:105:9
 returns : tie.Need-returns
 unfolding wordStep
 returns c = simp (c .price-read .ensures, lt-ltb _ _ (c .before .if1 .taken))
 
--- src/lib.rt:109:14
 page-word-requires : tie.Need-page-word-requires
 page-word-requires c κs = search needs
 
--- src/lib.rt:110:14
 run-word-requires : tie.Need-run-word-requires
 run-word-requires c κs = search needs
 
--- src/lib.rt:111:15
 end-word-requires : tie.Need-end-word-requires
 end-word-requires c κs = search needs
 
--- src/lib.rt:100:1
 returns-2 : tie.Need-returns-2
 unfolding wordStep
 returns-2 c = simp (c .page-word .ensures, le-ltb _ _ (c .before .before .if1 .left), c .before .match .keys1)
 
--- src/lib.rt:100:1
 returns-3 : tie.Need-returns-3
 unfolding wordStep
 returns-3 c = simp (c .run-word .ensures, le-ltb _ _ (c .before .before .if1 .left), c .before .match .keys2)
 
--- src/lib.rt:100:1
 returns-4 : tie.Need-returns-4
 unfolding wordStep
 returns-4 c = simp (c .end-word .ensures, le-ltb _ _ (c .before .before .if1 .left), c .before .match .keys3)
 
--- src/lib.rt:100:1
 returns-5 : tie.Need-returns-5
 unfolding wordStep
 returns-5 c = simp (le-ltb _ _ (c .before .if1 .left), c .match .keys4)
 
--- src/lib.rt:100:1
 returns-6 : tie.Need-returns-6
 unfolding wordStep
 returns-6 c =

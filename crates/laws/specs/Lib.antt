@@ -1,0 +1,2 @@
+-- Definitions that several crates cite.
+pub mod Search

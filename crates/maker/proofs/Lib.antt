@@ -1,0 +1,2 @@
+-- Laws on making that the maker's loops cite.
+pub mod Turns

@@ -1,0 +1,142 @@
+-- `maker::write_diff` meets its contract. The loop's invariant: the words that the labels left bring, stored from here on,
+-- give the buffer with the whole.
+use borrow.Author.Needs.{needs}
+use Prim.Native.Nat.{_+_, _-_, _≤_}
+use mathlib.Core.Path.{_≡_, refl, ap, _∙_}
+use native.Mathlib.Omega.{arith}
+use lib.ListN.{length, length-set}
+use lib.Seq.{sets}
+use Rattle.diff.specs.Making.{madeDiff}
+use Rattle.maker.specs.AtLabel.{bodyOn}
+use Rattle.maker.proofs.Turns.{body-end, body-same, length-body-differ, body-stored, length-made, end-stored}
+use Rattle.maker.proofs.write_diff.Statement.{statement}
+use Rattle.maker.proofs.write_diff.Tie as tie
+
+abbrev Inv-loop : tie.InvT-loop
+Inv-loop working twins buffer₀ next₀ at₀ label₀ buffer next at label =
+    (label ≤ length working) × (length buffer ≡ length buffer₀)
+    × (at + length (bodyOn working twins next label) + 1 ≡ length (madeDiff working twins))
+    × (sets buffer at (bodyOn working twins next label) ≡ sets buffer₀ 0 (bodyOn working twins 0 0))
+
+abbrev μ-loop : tie.MeasureT-loop
+μ-loop working twins buffer₀ next₀ at₀ label₀ buffer next at label = length working - label
+
+loop-holds : tie.Need-loop-holds Inv-loop μ-loop
+loop-holds c = (omega arith, refl, omega (arith, length-made (c .before .before .before .pre .0)), refl)
+
+mul-if1 : tie.Need-mul-if1 Inv-loop μ-loop
+mul-if1 c = search needs
+
+shared-slice-read-if1 : tie.Need-shared-slice-read-if1 Inv-loop μ-loop
+shared-slice-read-if1 c = search needs
+
+mul-if1-2 : tie.Need-mul-if1-2 Inv-loop μ-loop
+mul-if1-2 c = search needs
+
+shared-slice-read-if1-2 : tie.Need-shared-slice-read-if1-2 Inv-loop μ-loop
+shared-slice-read-if1-2 c = search needs
+
+add-label : tie.Need-add-label Inv-loop μ-loop
+add-label c = search needs
+
+loop-less : tie.Need-loop-less Inv-loop μ-loop
+loop-less c = search needs
+
+loop-again : tie.Need-loop-again Inv-loop μ-loop
+loop-again c =
+    let turn = c .before .before .before in
+    let at = turn .before .loop in
+    let same = body-same (turn .before .before .before .before .before .pre .0) (at .next) _ (turn .loop-test .taken) (c .if1 .taken) in
+    (omega arith, at .inv .1, omega (arith, ap length same), rw (← same) (at .inv .3))
+
+write-header-requires : tie.Need-write-header-requires Inv-loop μ-loop
+write-header-requires c κs =
+    let turn = c .before .before .before .before in
+    let lent = turn .before .before .before .before .before .pre .0 in
+    let at = turn .before .loop in
+    let more = length-body-differ lent (at .next) _ (turn .loop-test .taken) refl (c .before .if1 .left) in
+    (lent, (search needs, omega arith))
+
+mul-buffer : tie.Need-mul-buffer Inv-loop μ-loop
+mul-buffer c = search needs
+
+shared-slice-read-buffer : tie.Need-shared-slice-read-buffer Inv-loop μ-loop
+shared-slice-read-buffer c = search needs
+
+mul-buffer-2 : tie.Need-mul-buffer-2 Inv-loop μ-loop
+mul-buffer-2 c = search needs
+
+slice-write-buffer : tie.Need-slice-write-buffer Inv-loop μ-loop
+slice-write-buffer c = search needs
+
+add-at : tie.Need-add-at Inv-loop μ-loop
+add-at c = search needs
+
+add-label-2 : tie.Need-add-label-2 Inv-loop μ-loop
+add-label-2 c = search needs
+
+loop-less-2 : tie.Need-loop-less-2 Inv-loop μ-loop
+loop-less-2 c = search needs
+
+loop-again-2 : tie.Need-loop-again-2 Inv-loop μ-loop
+loop-again-2 c =
+    let turn = c .before .before .before .before .before .before .before .before in
+    let lent = turn .before .before .before .before .before .pre .0 in
+    let at = turn .before .loop in
+    let differ = c .before .before .before .before .before .if1 .left in
+    let wrote = c .before .before .before .write-header .ensures .1 in
+    let more = length-body-differ lent (at .next) _ (turn .loop-test .taken) refl differ in
+    let stored = body-stored lent (at .next) _ (turn .loop-test .taken) (at .buffer) (at .at) differ in
+    (omega arith, simp length-set (search needs), omega arith, rw (wrote .0, wrote .1) (stored ∙ at .inv .3))
+
+cast-buffer : tie.Need-cast-buffer Inv-loop μ-loop
+cast-buffer c = search needs
+
+add-buffer : tie.Need-add-buffer Inv-loop μ-loop
+add-buffer c = search needs
+
+mul-buffer-3 : tie.Need-mul-buffer-3 Inv-loop μ-loop
+mul-buffer-3 c = search needs
+
+slice-write-buffer-2 : tie.Need-slice-write-buffer-2 Inv-loop μ-loop
+slice-write-buffer-2 c = search needs
+
+same-length : tie.Need-same-length Inv-loop μ-loop
+same-length c = simp length-set (search needs)
+
+returns : tie.Need-returns Inv-loop μ-loop
+returns c =
+    let lent = c .before .before .before .before .before .pre .0 in
+    let at = c .before .loop in
+    let none = body-end lent (at .next) _ (c .loop-test .left) in
+    end-stored lent _ _ _ (omega (arith, ap length none, length-made lent)) (rw none at (at .inv .3))
+
+pub write-diff-spec : {M : Type 1} → statement M
+write-diff-spec =
+    tie.close
+    (tie.spec
+    Inv-loop
+    μ-loop
+    loop-holds
+    mul-if1
+    shared-slice-read-if1
+    mul-if1-2
+    shared-slice-read-if1-2
+    add-label
+    loop-less
+    loop-again
+    write-header-requires
+    mul-buffer
+    shared-slice-read-buffer
+    mul-buffer-2
+    slice-write-buffer
+    add-at
+    add-label-2
+    loop-less-2
+    loop-again-2
+    cast-buffer
+    add-buffer
+    mul-buffer-3
+    slice-write-buffer-2
+    same-length
+    returns)

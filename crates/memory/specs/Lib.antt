@@ -1,0 +1,3 @@
+-- What the contracts on the lent memory cite.
+pub mod Layout
+pub mod Area

@@ -1,0 +1,26 @@
+-- The failure of a card (document 01, "Failure, recovery, join": "A failure marks the card dead"; refusals 1, 2, 11, 3, 13).
+-- Assumes nothing: these are definitions.
+use Prim.Native.Nat.{ℕ}
+use mathlib.Core.List.{List, [], _∷_, _++_}
+use lib.Dec.{leb}
+use Rattle.laws.specs.Search.{countBelow}
+use Rattle.answer.specs.declared.Outcome.{Outcome}
+use Rattle.answer.specs.Outcome.{noCard, twoLive}
+use Rattle.directory.specs.declared.Directory.{Directory}
+use Rattle.directory.specs.declared.Status.the-variants.{Awaiting}
+use Rattle.directory.specs.Directory.{isLive, markedDead, withStatus}
+use Rattle.protocol.specs.Checks.{Check, check, firstRefusal, runningChecks, noLiveCard}
+use Rattle.protocol.specs.Result.{Result, resultOf}
+
+abbrev pub failureChecks : Directory → List ℕ → ℕ → List Check
+failureChecks d m c =
+    runningChecks d m ++ check (noLiveCard d c) noCard ∷ check (leb (countBelow (isLive d) (d .cards)) 2) twoLive ∷ []
+
+-- the card is dead, and its recovery awaited
+abbrev pub failedDirectory : Directory → ℕ → Directory
+failedDirectory d c = withStatus (markedDead d c) (Awaiting c)
+
+unfoldable pub failure : Directory → List ℕ → ℕ → Result
+failure d m c =
+    let o : Outcome = firstRefusal (failureChecks d m c) 0 in
+    resultOf o (record { outcome = o; directory = failedDirectory d c; memory = m; words = [] }) d m []

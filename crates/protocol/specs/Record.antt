@@ -1,0 +1,29 @@
+-- A card's record on another card: stamp, done mark, even desk, odd desk (document 01, "Cards, pages, memory").
+-- Assumes nothing: these are definitions.
+use Prim.Native.Nat.{ℕ, _%_}
+use mathlib.Core.List.{List, _∷_, _++_}
+use mathlib.Core.Bool.{Bool, true, false, cond}
+use lib.Dec.{eqb}
+use Rattle.memory.specs.Layout.{deskSize, recordStamp, recordDone, recordDesk}
+use Rattle.memory.specs.Area.{load, loadRun, storeRun, zeros}
+use Rattle.protocol.specs.Release.{Release}
+
+-- the release that the record on `holder` tells of card c: its stamp, and the desk by the stamp's evenness
+unfoldable pub recordedRelease : ℕ → List ℕ → ℕ → ℕ → Release
+recordedRelease size m holder c =
+    record {
+      number = load size m holder (recordStamp c);
+      desk = loadRun size m holder (recordDesk c (load size m holder (recordStamp c))) deskSize;
+    }
+
+-- the second phase of the release is under way: "stamp and done mark differ"
+unfoldable pub underWay : ℕ → List ℕ → ℕ → ℕ → Bool
+underWay size m holder c = cond (eqb (load size m holder (recordStamp c)) (load size m holder (recordDone c))) false true
+
+-- "stamp, done mark equal to it, desk by evenness, other desk 0"
+unfoldable pub settledRecord : Release → List ℕ
+settledRecord r =
+    r .number ∷ r .number ∷ cond (eqb (r .number % 2) 0) (r .desk ++ zeros deskSize) (zeros deskSize ++ r .desk)
+
+unfoldable pub writeRecord : ℕ → List ℕ → ℕ → ℕ → Release → List ℕ
+writeRecord size m holder c r = storeRun size m holder (recordStamp c) (settledRecord r)

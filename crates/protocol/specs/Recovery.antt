@@ -1,0 +1,130 @@
+-- Recovery of a failed card (document 01, "Failure, recovery, join"; refusals 1, 2, 12).
+-- Assumes nothing: these are definitions.
+use Prim.Native.Nat.{ℕ, zero, suc, _+_, _-_, _*_}
+use mathlib.Core.List.{List, [], _∷_, _++_}
+use mathlib.Core.Bool.{Bool, true, false, cond, not, _&&_, _||_}
+use lib.ListN.{length}
+use lib.Dec.{eqb}
+use Rattle.laws.specs.Search.{inTurn}
+use Rattle.answer.specs.declared.Outcome.{Outcome}
+use Rattle.answer.specs.Outcome.{noneAwaited}
+use Rattle.memory.specs.Layout.{deskSize, pageSize, tentative, committed}
+use Rattle.memory.specs.Area.{copyRun, zeros}
+use Rattle.directory.specs.declared.Directory.{Directory}
+use Rattle.directory.specs.declared.Status.{Status}
+use Rattle.directory.specs.declared.Status.the-variants.{Running, Awaiting}
+use Rattle.directory.specs.Directory.{isLive, primaryOf, secondaryOf, nextLiveOf, backupOf, markedLive, withHomes, withStatus}
+use Rattle.protocol.specs.Release.{Release, sizeOf, ownRelease, openPrices, stepsOf, isOpen, stepsIn, stepMemory}
+use Rattle.protocol.specs.Record.{recordedRelease, underWay, writeRecord}
+use Rattle.protocol.specs.Checks.{Check, check, firstRefusal, fittingChecks, awaitsRecovery}
+use Rattle.protocol.specs.Result.{Result, resultOf}
+
+-- "Homes and backups are here those from before the failure": a card's backup with f counted as live
+abbrev pub backupBefore : Directory → ℕ → ℕ → ℕ
+backupBefore d f c = backupOf (markedLive d f) c
+
+-- ---- "Each open release on a live card, ascending, is run to its close."
+
+unfoldable pub stepTimes : Directory → ℕ → ℕ → ℕ → List ℕ → List ℕ
+stepTimes d backup c zero m = m
+stepTimes d backup c (suc n) m = stepTimes d backup c n (stepMemory d backup m c)
+
+unfoldable pub runToClose : Directory → ℕ → ℕ → List ℕ → List ℕ
+runToClose d f c m =
+    cond (isOpen (d .live) (sizeOf d) m c)
+    (stepTimes d (backupBefore d f c) c (stepsIn (length (openPrices (d .pages) m c)) - stepsOf (sizeOf d) m c) m)
+    m
+
+unfoldable pub closeReleases : Directory → ℕ → List ℕ → List ℕ
+closeReleases d f m = inTurn (runToClose d f) (d .cards) m
+
+-- ---- "If stamp and done mark differ, each live home of each page copies tentative to committed. If they agree,
+-- committed to tentative."
+
+unfoldable pub restoreHome : Directory → Bool → ℕ → ℕ → List ℕ → List ℕ
+restoreHome d forward page home m =
+    cond (isLive d home)
+    (cond forward
+    (copyRun (sizeOf d) m home (tentative page) home (committed page) pageSize)
+    (copyRun (sizeOf d) m home (committed page) home (tentative page) pageSize))
+    m
+
+unfoldable pub restorePage : Directory → Bool → ℕ → List ℕ → List ℕ
+restorePage d forward page m =
+    restoreHome d forward page (primaryOf d page) (restoreHome d forward page (secondaryOf d page) m)
+
+unfoldable pub restorePages : Directory → Bool → List ℕ → List ℕ
+restorePages d forward m = inTurn (restorePage d forward) (d .pages) m
+
+-- ---- "A page whose primary was f takes its secondary as primary. A page that lost a home gets as secondary the next
+-- live after its primary, with both copies."
+
+unfoldable pub lostHome : Directory → ℕ → ℕ → Bool
+lostHome d f page = eqb (primaryOf d page) f || eqb (secondaryOf d page) f
+
+unfoldable pub keptHome : Directory → ℕ → ℕ → ℕ
+keptHome d f page = cond (eqb (primaryOf d page) f) (secondaryOf d page) (primaryOf d page)
+
+unfoldable pub newHome : Directory → ℕ → ℕ → ℕ
+newHome d f page = nextLiveOf d (keptHome d f page)
+
+unfoldable pub copyToNewHome : Directory → ℕ → ℕ → List ℕ → List ℕ
+copyToNewHome d f page m =
+    cond (lostHome d f page)
+    (copyRun (sizeOf d) m (keptHome d f page) (tentative page) (newHome d f page) (tentative page) (pageSize + pageSize))
+    m
+
+unfoldable pub copyToNewHomes : Directory → ℕ → List ℕ → List ℕ
+copyToNewHomes d f m = inTurn (copyToNewHome d f) (d .pages) m
+
+unfoldable pub moveHome : Directory → ℕ → ℕ → Directory → Directory
+moveHome d f page moved = cond (lostHome d f page) (withHomes moved page (keptHome d f page) (newHome d f page)) moved
+
+-- the directory after recovery: homes moved, and running
+unfoldable pub recoveredDirectory : Directory → ℕ → Directory
+recoveredDirectory d f = withStatus (inTurn (moveHome d f) (d .pages) d) Running
+
+-- ---- "f's record .. is written on every live card. Each live card whose backup was f has its record written likewise on
+-- its new backup, from its own stamp and desk."
+
+unfoldable pub writeFailed : Directory → ℕ → Release → ℕ → List ℕ → List ℕ
+writeFailed d f r holder m = cond (isLive d holder) (writeRecord (sizeOf d) m holder f r) m
+
+unfoldable pub writeBackedUp : Directory → ℕ → ℕ → List ℕ → List ℕ
+writeBackedUp d f c m =
+    cond (isLive d c && eqb (backupBefore d f c) f)
+    (writeRecord (sizeOf d) m (backupOf d c) c (ownRelease (sizeOf d) m c))
+    m
+
+unfoldable pub writeRecords : Directory → ℕ → Release → List ℕ → List ℕ
+writeRecords d f r m = inTurn (writeBackedUp d f) (d .cards) (inTurn (writeFailed d f r) (d .cards) m)
+
+-- ---- the whole
+
+-- "f's record is read at the next live after f", the releases being closed
+unfoldable pub failedRelease : Directory → ℕ → List ℕ → Release
+failedRelease d f m = recordedRelease (sizeOf d) (closeReleases d f m) (nextLiveOf d f) f
+
+unfoldable pub recoveredMemory : Directory → ℕ → List ℕ → List ℕ
+recoveredMemory d f m =
+    let closed : List ℕ = closeReleases d f m in
+    let restored : List ℕ = restorePages d (underWay (sizeOf d) closed (nextLiveOf d f) f) closed in
+    writeRecords d f (failedRelease d f m) (copyToNewHomes d f restored)
+
+-- the card whose recovery is awaited; 0 if none
+unfoldable pub awaitedCard : Status → ℕ
+awaitedCard Running = 0
+awaitedCard (Awaiting f) = f
+
+-- "The answer is f's stamp and desk."
+unfoldable pub recovery : Directory → List ℕ → Result
+recovery d m =
+    let f : ℕ = awaitedCard (d .status) in
+    let o : Outcome =
+          firstRefusal (fittingChecks d m ++ check (not (awaitsRecovery (d .status))) noneAwaited ∷ [])
+            (failedRelease d f m .number) in
+    resultOf o
+    (record {
+      outcome = o; directory = recoveredDirectory d f; memory = recoveredMemory d f m; words = failedRelease d f m .desk
+    })
+    d m (zeros deskSize)

@@ -1,0 +1,117 @@
+-- A release and its 4k + 11 steps (document 01, "A release and its 4k + 11 steps").
+-- Assumes nothing: these are definitions.
+use Prim.Native.Nat.{ℕ, zero, suc, _+_, _-_, _*_, _%_}
+use mathlib.Core.List.{List, [], _∷_, _++_}
+use mathlib.Core.Bool.{Bool, true, false, cond, _&&_}
+use lib.ListN.{length, getD}
+use lib.Dec.{ltb, leb, eqb}
+use Rattle.memory.specs.Layout.{areaSize, deskSize, ownStamp, ownDesk, releaseOpen, stepsMade, releaseNumber}
+use Rattle.memory.specs.Layout.{releaseDesk, releaseSize, recordStamp, recordDone, recordDesk}
+use Rattle.memory.specs.Layout.{listStart, listSize, tentative, committed}
+use Rattle.memory.specs.Area.{load, store, loadRun, storeRun, clearRun}
+use Rattle.directory.specs.declared.Directory.{Directory}
+use Rattle.directory.specs.Directory.{liveAt, primaryOf, secondaryOf}
+use Rattle.diff.specs.declared.Price.{Price}
+use Rattle.diff.specs.Prices.{pricesOf}
+
+-- ---- what a card's area says of its release
+
+abbrev pub sizeOf : Directory → ℕ
+sizeOf d = areaSize (d .pages)
+
+-- a release's number and the 8 words that its desk wants back
+pub record Release : Type 0 where
+  pub number : ℕ
+  pub desk : List ℕ
+
+-- the last release that the card closed, as its own stamp and desk; number 0 if none
+unfoldable pub ownRelease : ℕ → List ℕ → ℕ → Release
+ownRelease size m c = record { number = load size m c ownStamp; desk = loadRun size m c ownDesk deskSize }
+
+-- the open one
+unfoldable pub openRelease : ℕ → List ℕ → ℕ → Release
+openRelease size m c = record { number = load size m c releaseNumber; desk = loadRun size m c releaseDesk deskSize }
+
+unfoldable pub openList : ℕ → List ℕ → ℕ → List ℕ
+openList size m c = loadRun size m c listStart listSize
+
+abbrev pub openPrices : ℕ → List ℕ → ℕ → List Price
+openPrices pages m c = pricesOf pages (openList (areaSize pages) m c)
+
+unfoldable pub stepsOf : ℕ → List ℕ → ℕ → ℕ
+stepsOf size m c = load size m c stepsMade
+
+-- "An open release always means one on a live card."
+unfoldable pub isOpen : List Bool → ℕ → List ℕ → ℕ → Bool
+isOpen marks size m c = liveAt marks c && eqb (load size m c releaseOpen) 1
+
+-- ---- its stores in order
+
+-- a word to be stored in a card's area
+pub record Write : Type 0 where
+  pub card : ℕ
+  pub offset : ℕ
+  pub value : ℕ
+
+abbrev pub priceWrite : (ℕ → ℕ) → (ℕ → ℕ) → Price → Write
+priceWrite home copy p = record { card = home (p .page); offset = copy (p .page) + p .word; value = p .price }
+
+-- "for each price in order, the .. word at the secondary, then at the primary"
+abbrev pub priceWrites : Directory → (ℕ → ℕ) → List Price → List Write
+priceWrites d copy [] = []
+priceWrites d copy (p ∷ ps) = priceWrite (secondaryOf d) copy p ∷ priceWrite (primaryOf d) copy p ∷ priceWrites d copy ps
+
+-- words stored at a card one after the other
+abbrev pub runWrites : ℕ → ℕ → List ℕ → List Write
+runWrites card offset [] = []
+runWrites card offset (v ∷ vs) = record { card = card; offset = offset; value = v } ∷ runWrites card (suc offset) vs
+
+-- the stores of card c's release, numbered as document 01 numbers them
+unfoldable pub releaseWrites : Directory → ℕ → ℕ → Release → List Price → List Write
+releaseWrites d backup c r ps =
+    -- 1. the tentative words
+    priceWrites d tentative ps
+    -- 2. "the desk words in order to the backup, even desk if the number is even, else odd"
+    ++ (runWrites backup (recordDesk c (r .number)) (r .desk)
+    -- 3. "the stamp at the backup (step 2k + 9; from here the release counts)"
+    ++ (runWrites backup (recordStamp c) (r .number ∷ [])
+    -- 4. the committed words
+    ++ (priceWrites d committed ps
+    -- 5. "the done mark at the backup"
+    ++ runWrites backup (recordDone c) (r .number ∷ []))))
+
+-- "step 2k + 9; from here the release counts"
+abbrev pub countsAt : ℕ → ℕ
+countsAt k = 2 * k + 9
+
+-- the steps of a release of k prices, the close among them
+abbrev pub stepsIn : ℕ → ℕ
+stepsIn k = 4 * k + 11
+
+-- ---- one step
+
+-- A store meant for a dead card is dropped ("Failure, recovery, join"). On a running rack the homes and the backup of a
+-- live card are live.
+unfoldable pub makeWrite : List Bool → ℕ → List ℕ → Write → List ℕ
+makeWrite marks size m w = cond (liveAt marks (w .card)) (store size m (w .card) (w .offset) (w .value)) m
+
+-- 6. the close: "own stamp and desk are set and words 9 to 675 apart from 20 to 163 become 0"
+unfoldable pub close : ℕ → List ℕ → ℕ → List ℕ
+close size m c =
+    clearRun size
+    (clearRun size
+    (storeRun size m c ownStamp (openRelease size m c .number ∷ openRelease size m c .desk))
+    c releaseOpen releaseSize)
+    c listStart listSize
+
+abbrev pub noWrite : Write
+noWrite = record { card = 0; offset = 0; value = 0 }
+
+-- "Each step makes one store and, but for the close, adds 1 to word 10."
+unfoldable pub stepMemory : Directory → ℕ → List ℕ → ℕ → List ℕ
+stepMemory d backup m c =
+    let writes : List Write = releaseWrites d backup c (openRelease (sizeOf d) m c) (openPrices (d .pages) m c) in
+    let steps : ℕ = stepsOf (sizeOf d) m c in
+    cond (ltb steps (length writes))
+    (store (sizeOf d) (makeWrite (d .live) (sizeOf d) m (getD writes steps noWrite)) c stepsMade (steps + 1))
+    (close (sizeOf d) m c)
