@@ -10,6 +10,18 @@ pub use Rattle.directory.specs.declared.Directory.{Directory}
 pub use Rattle.directory.specs.declared.Status.{Status}
 use Rattle.directory.specs.declared.Status.the-variants.{Running, Awaiting}
 
+-- a directory by its parts
+abbrev pub directoryOf : ℕ → ℕ → List Bool → List ℕ → List ℕ → Status → Directory
+directoryOf cards pages live primary secondary status =
+    record {
+      cards = cards;
+      pages = pages;
+      live = live;
+      primary = primary;
+      secondary = secondary;
+      status = status;
+    }
+
 -- ---- what it says
 
 -- whether card c is live; no card past the marks is

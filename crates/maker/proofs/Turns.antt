@@ -117,7 +117,8 @@ module _ {working twins : List ℕ} (lent : Lent working twins) where
 
   -- it is stored behind the others
   pub end-stored : (start buffer : List ℕ) (at : ℕ) → at ≡ length (bodyOn working twins 0 0)
-      → buffer ≡ sets start 0 (bodyOn working twins 0 0) → set buffer at (endWord at) ≡ sets start 0 (madeDiff working twins)
+      → buffer ≡ sets start 0 (bodyOn working twins 0 0)
+      → set buffer at (endWord at) ≡ sets start 0 (madeDiff working twins)
   unfolding madeDiff
   end-stored start buffer at whole stored = rw (sets-append, zero-add, whole, stored)
 

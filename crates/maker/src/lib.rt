@@ -9,11 +9,12 @@ ghost use Rattle.diff.specs.Making.{priceAt, header, madeDiff, lentPages, makeD
 ghost use Rattle.maker.specs.AtLabel.{Lent, runAt, headerAt};
 use answer::Answer;
 
-// How many words stand before the price of a label that differs, whatever the price and the run are.
+// How many words stand before the price of a label that differs, whatever the price and the run.
 // `next` is one more than the label named last, 0 before the first.
 fn header_length(next: usize, label: usize) -> usize
     ensures short { λ r. ⌜ r ≤ 2 ⌝ }
-    ensures counted { λ r. ⌜ ((price run : ℕ) → r ≡ length (header next (priceAt label price) run)) ⌝ }
+    ensures counted { λ r. ⌜ ((price run : ℕ)
+        → r ≡ length (header next (priceAt label price) run)) ⌝ }
 {
     if next <= label / 32 * 32 {
         return 2;
@@ -66,14 +67,15 @@ fn run_length(working: &[u32], twins: &[u32], label: usize) -> usize
 fn run_word(working: &[u32], twins: &[u32], label: usize) -> u32
     requires { ⌜ Lent (now working) (now twins) ⌝ }
     requires { ⌜ label < length (now working) ⌝ }
-    ensures { λ r. ⌜ r ≡ runWord (label % 32) (runAt (now (working .entry)) (now (twins .entry)) label) ⌝ }
+    ensures { λ r. ⌜ r
+        ≡ runWord (label % 32) (runAt (now (working .entry)) (now (twins .entry)) label) ⌝ }
 {
     let run = run_length(working, twins, label);
     0x20000000 + ((label % 32) * 0x10000 + run) as u32
 }
 
-// Writes what stands before the price of a label that differs, from `at` on, and says where it stopped: there
-// is room for the price.
+// Writes what stands before the price of a label that differs, from `at` on, and says where it
+// stopped: there is room for the price.
 fn write_header(
     working: &[u32],
     twins: &[u32],
@@ -84,11 +86,14 @@ fn write_header(
 ) -> usize
     requires { ⌜ Lent (now working) (now twins) ⌝ }
     requires { ⌜ label < length (now working) ⌝ }
-    requires { ⌜ at + length (headerAt (now working) (now twins) next label) < length (now buffer) ⌝ }
+    requires { ⌜ at + length (headerAt (now working) (now twins) next label)
+        < length (now buffer) ⌝ }
     ensures room { λ r. ⌜ r < length (now (buffer .entry)) ⌝ }
-    ensures stopped { λ r. ⌜ r ≡ at + length (headerAt (now (working .entry)) (now (twins .entry)) next label) ⌝ }
+    ensures stopped { λ r. ⌜ r
+        ≡ at + length (headerAt (now (working .entry)) (now (twins .entry)) next label) ⌝ }
     ensures written { λ _. ⌜ now (buffer .exit)
-        ≡ sets (now (buffer .entry)) at (headerAt (now (working .entry)) (now (twins .entry)) next label) ⌝ }
+        ≡ sets (now (buffer .entry)) at
+        (headerAt (now (working .entry)) (now (twins .entry)) next label) ⌝ }
 {
     if next <= label / 32 * 32 {
         buffer[at] = 0x10000000 + (label / 32) as u32;
@@ -127,6 +132,7 @@ fn write_diff(working: &[u32], twins: &[u32], buffer: &mut [u32])
     buffer[at] = 0xF0000000 + at as u32;
 }
 
+// Whether a list is made of so many words of working pages and so many of their twins.
 fn lent_pages(working: usize, twins: usize) -> bool
     ensures { λ r. ⌜ r ≡ lentPages working twins ⌝ }
 {

@@ -1,5 +1,5 @@
--- `maker::count_words` meets its contract. The loop's invariant: the words counted, and those that the labels left bring,
--- are the words of the whole.
+-- `maker::count_words` meets its contract. The loop's invariant: the words counted, those that the labels left bring,
+-- and the end word are the words of the diff.
 use borrow.Author.Needs.{needs}
 use Prim.Native.Nat.{_+_, _-_, _*_, _≤_}
 use mathlib.Core.Path.{_≡_, ap}
@@ -43,8 +43,9 @@ loop-less c = search needs
 loop-again : tie.Need-loop-again Inv-loop μ-loop
 loop-again c =
     let turn = c .before .before .before in
+    let start = turn .before .before .before .before in
     let at = turn .before .loop in
-    let same = body-same (turn .before .before .before .before .pre) (at .next) _ (turn .loop-test .taken) (c .if1 .taken) in
+    let same = body-same (start .pre) (at .next) _ (turn .loop-test .taken) (c .if1 .taken) in
     omega (arith, ap length same)
 
 header-length-requires : tie.Need-header-length-requires Inv-loop μ-loop
@@ -65,10 +66,11 @@ loop-less-2 c = search needs
 loop-again-2 : tie.Need-loop-again-2 Inv-loop μ-loop
 loop-again-2 c =
     let turn = c .before .before .before .before in
+    let start = turn .before .before .before .before in
     let at = turn .before .loop in
     let counted = c .header-length .ensures .1 in
     let more =
-    length-body-differ (turn .before .before .before .before .pre) (at .next) _ (turn .loop-test .taken) (counted _ _) (c .before .if1 .left) in
+    length-body-differ (start .pre) (at .next) _ (turn .loop-test .taken) (counted _ _) (c .before .if1 .left) in
     omega arith
 
 add-result : tie.Need-add-result Inv-loop μ-loop

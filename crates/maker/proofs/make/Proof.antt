@@ -16,30 +16,32 @@ lent-pages-requires c κs = search needs
 count-words-requires : tie.Need-count-words-requires
 count-words-requires c κs =
     let lent = lent-pages _ _ (sym (c .before .lent-pages .ensures) ∙ c .if1 .taken) in
-    record { even = lent .even; most = lent .most }
+    search needs
 
 returns : tie.Need-returns
 unfolding makeDiff
 returns c =
-    let lent = sym (c .before .before .before .lent-pages .ensures) ∙ c .before .before .if1 .taken in
-    let words = sym (c .before .count-words .ensures) in
+    let counted = c .before in
+    let lent = sym (counted .before .before .lent-pages .ensures) ∙ counted .before .if1 .taken in
+    let words = sym (counted .count-words .ensures) in
     let long = lt-ltb _ _ (c .if2 .taken) in
     (simp (lent, words, long), simp (lent, words, long))
 
 returns-2 : tie.Need-returns-2
 unfolding makeDiff
 returns-2 c =
-    let lent = sym (c .before .before .before .before .lent-pages .ensures) ∙ c .before .before .before .if1 .taken in
-    let words = sym (c .before .before .count-words .ensures) in
+    let counted = c .before .before in
+    let lent = sym (counted .before .before .lent-pages .ensures) ∙ counted .before .if1 .taken in
+    let words = sym (counted .count-words .ensures) in
     let few = le-ltb _ _ (c .before .if2 .left) in
     let short = lt-ltb _ _ (c .if3 .taken) in
     (simp (lent, words, few, short), simp (lent, words, few, short))
 
 write-diff-requires : tie.Need-write-diff-requires
 write-diff-requires c κs =
-    let lent = lent-pages _ _ (sym (c .before .before .before .before .before .lent-pages .ensures) ∙ c .before .before .before .before .if1 .taken) in
-    let words = c .before .before .before .count-words .ensures in
-    (record { even = lent .even; most = lent .most }, (omega arith, omega arith))
+    let counted = c .before .before .before in
+    let lent = lent-pages _ _ (sym (counted .before .before .lent-pages .ensures) ∙ counted .before .if1 .taken) in
+    search needs
 
 same-length : tie.Need-same-length
 same-length c = search needs
@@ -47,13 +49,15 @@ same-length c = search needs
 returns-3 : tie.Need-returns-3
 unfolding makeDiff
 returns-3 c =
-    let pages = c .before .before .before .before .before .before .before .before .before .before .before .before .args in
-    let lent = sym (c .before .before .before .before .before .before .before .before .lent-pages .ensures) ∙ c .before .before .before .before .before .before .before .if1 .taken in
-    let words = sym (c .before .before .before .before .before .before .count-words .ensures) in
+    let counted = c .before .before .before .before .before .before in
+    let pages = counted .before .before .before .before .before .before .args in
+    let lent = sym (counted .before .before .lent-pages .ensures) ∙ counted .before .if1 .taken in
+    let words = sym (counted .count-words .ensures) in
     let few = le-ltb _ _ (c .before .before .before .before .before .if2 .left) in
     let room = le-ltb _ _ (c .before .before .before .before .if3 .left) in
     let front = sets-front (madeDiff (now (pages .working)) (now (pages .twins))) (now (pages .buffer)) (omega arith) in
-    (simp (lent, words, few, room), simp (lent, words, few, room) (rw words at (c .before .before .write-diff .ensures ∙ front)))
+    let written = c .before .before .write-diff .ensures ∙ front in
+    (simp (lent, words, few, room), simp (lent, words, few, room) (rw words at written))
 
 returns-4 : tie.Need-returns-4
 unfolding makeDiff

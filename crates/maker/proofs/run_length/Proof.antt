@@ -1,5 +1,5 @@
--- `maker::run_length` meets its contract. The loop's invariant: the run from the last of the words passed on ends where the
--- run of the label does.
+-- `maker::run_length` meets its contract. The loop's invariant: the run of the last word passed ends where the run of
+-- the label does.
 use borrow.Author.Needs.{needs}
 use Prim.Native.Nat.{_+_, _-_, _/_, _≤_, _<_}
 use mathlib.Core.Path.{_≡_}
@@ -46,7 +46,9 @@ loop-less c = search needs
 loop-again : tie.Need-loop-again Inv-loop μ-loop
 loop-again c =
     let turn = c .before .before .before .before in
-    let more = run-at-differ (turn .before .before .pre .0) _ (turn .loop-test .taken) (c .before .before .before .if1 .left) (c .if2 .left) in
+    let start = turn .before .before in
+    let inside = c .before .before .before .if1 .left in
+    let more = run-at-differ (start .pre .0) _ (turn .loop-test .taken) inside (c .if2 .left) in
     omega arith
 
 add-result : tie.Need-add-result Inv-loop μ-loop

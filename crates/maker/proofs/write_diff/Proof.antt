@@ -1,5 +1,5 @@
--- `maker::write_diff` meets its contract. The loop's invariant: the words that the labels left bring, stored from here on,
--- give the buffer with the whole.
+-- `maker::write_diff` meets its contract. The loop's invariant: what the labels left bring, stored from here on, gives
+-- the buffer with the words of all labels.
 use borrow.Author.Needs.{needs}
 use Prim.Native.Nat.{_+_, _-_, _≤_}
 use mathlib.Core.Path.{_≡_, refl, ap, _∙_}
@@ -45,8 +45,9 @@ loop-less c = search needs
 loop-again : tie.Need-loop-again Inv-loop μ-loop
 loop-again c =
     let turn = c .before .before .before in
+    let lent = turn .before .before .before .before .before .pre .0 in
     let at = turn .before .loop in
-    let same = body-same (turn .before .before .before .before .before .pre .0) (at .next) _ (turn .loop-test .taken) (c .if1 .taken) in
+    let same = body-same lent (at .next) _ (turn .loop-test .taken) (c .if1 .taken) in
     (omega arith, at .inv .1, omega (arith, ap length same), rw (← same) (at .inv .3))
 
 write-header-requires : tie.Need-write-header-requires Inv-loop μ-loop

@@ -53,7 +53,8 @@ returns c =
 
 returns-2 : tie.Need-returns-2
 returns-2 c =
-    let none = header-at-none (c .before .before .before .before .before .pre .0) _ _ (c .before .if1 .left) (c .if2 .taken) in
+    let start = c .before .before .before .before .before in
+    let none = header-at-none (start .pre .0) _ _ (c .before .if1 .left) (c .if2 .taken) in
     (search needs, (omega (arith, ap length none), rw none))
 
 run-word-requires-2 : tie.Need-run-word-requires-2
@@ -64,7 +65,8 @@ mul-buffer-3 c = search needs
 
 slice-write-buffer-3 : tie.Need-slice-write-buffer-3
 slice-write-buffer-3 c =
-    let run = header-at-run (c .before .before .before .before .before .before .pre .0) _ _ (c .before .before .if1 .left) (c .before .if2 .left) in
+    let start = c .before .before .before .before .before .before in
+    let run = header-at-run (start .pre .0) _ _ (c .before .before .if1 .left) (c .before .if2 .left) in
     omega (arith, ap length run)
 
 add-result-2 : tie.Need-add-result-2
@@ -75,7 +77,8 @@ same-length-2 c = search needs
 
 returns-3 : tie.Need-returns-3
 returns-3 c =
-    let run = header-at-run (c .before .before .before .before .before .before .pre .0) _ _ (c .before .before .if1 .left) (c .before .if2 .left) in
+    let start = c .before .before .before .before .before .before in
+    let run = header-at-run (start .pre .0) _ _ (c .before .before .if1 .left) (c .before .if2 .left) in
     (omega (arith, ap length run), (rw run, rw (run, c .run-word2 .ensures)))
 
 pub write-header-spec : {M : Type 1} → statement M
