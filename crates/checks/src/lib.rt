@@ -9,8 +9,6 @@ ghost use Rattle.memory.specs.Area.{AreaIn};
 ghost use Rattle.directory.specs.Directory.{directoryOf, liveAt, awaitsCard};
 ghost use Rattle.protocol.specs.Checks.{outsideLimits, badHome, badPage, badStatus, badRelease, badCard};
 ghost use Rattle.protocol.specs.Checks.{firstRefusal, fittingChecks, runningChecks};
-ghost use Rattle.protocol.specs.Release.{openList};
-ghost use Rattle.diff.specs.Reading.{readDiff};
 use diff::Verdict;
 use directory::Status;
 
@@ -162,16 +160,6 @@ fn bad_release(verdict: Verdict, steps: u32) -> bool
     }
 }
 
-// Reads the list of a card's open release.
-pub fn read_open(memory: &[u32], pages: u32, card: usize) -> Verdict
-    requires { ⌜ (pages ≤ 64) × AreaIn (length (now memory)) (areaSize pages) card ⌝ }
-    ensures { λ r. ⌜ r ≡ readDiff pages (openList (areaSize pages) (now (memory .entry)) card) ⌝ }
-{
-    let from = card * memory::area_size(pages) + memory::LIST_START;
-    let end = from + memory::LIST_SIZE;
-    reader::read(&memory[from..end], pages)
-}
-
 fn bad_card(memory: &[u32], pages: u32, live: &[bool], card: usize) -> bool
     requires { ⌜ (pages ≤ 64) × AreaIn (length (now memory)) (areaSize pages) card ⌝ }
     requires { ⌜ card < length (now live) ⌝ }
@@ -185,7 +173,7 @@ fn bad_card(memory: &[u32], pages: u32, live: &[bool], card: usize) -> bool
         }
         if open == 1 {
             let steps = memory::load_word(memory, size, card, memory::STEPS_MADE);
-            return bad_release(read_open(memory, pages, card), steps);
+            return bad_release(reader::read_stored(memory, size, card, pages), steps);
         }
     }
     false

@@ -126,11 +126,14 @@ reads-some (reads-price due rest) = omega arith
 
 -- ---- what reading finds is a derivation
 
-not-good : {place k n : ℕ} → Faulty place ≡ Good k n → ⊥
+pub not-good : {place k n : ℕ} → Faulty place ≡ Good k n → ⊥
 not-good e = let z : _≡_ {A = ℕ} 0 1 = cc in omega arith
 
-good-words : {k k′ n n′ : ℕ} → Good k n ≡ Good k′ n′ → n ≡ n′
+pub good-words : {k k′ n n′ : ℕ} → Good k n ≡ Good k′ n′ → n ≡ n′
 good-words e = cc
+
+pub good-prices : {k k′ n n′ : ℕ} → Good k n ≡ Good k′ n′ → k ≡ k′
+good-prices e = cc
 
 no-words : (ws : List ℕ) → length ws ≡ 0 → ws ≡ []
 no-words [] e = refl
@@ -138,7 +141,7 @@ no-words (w ∷ ws) e = absurd (omega arith)
 
 -- reading goes well only within 512 words
 module _ (pages k n w : ℕ) (ws : List ℕ) (s : Cursor) (index : ℕ) where
-  after-word : readFrom pages (w ∷ ws) index s ≡ Good k n
+  pub after-word : readFrom pages (w ∷ ws) index s ≡ Good k n
       → afterStep (readFrom pages ws (index + 1)) s index (wordStep pages s index w) ≡ Good k n
   unfolding readFrom
   after-word read = go (eqb index mostWords) read
@@ -146,6 +149,10 @@ module _ (pages k n w : ℕ) (ws : List ℕ) (s : Cursor) (index : ℕ) where
       go : {v : Verdict} (over : Bool) → cond over (Faulty mostWords) v ≡ Good k n → v ≡ Good k n
       go true e = absurd (not-good e)
       go false e = e
+
+  pub before-limit : readFrom pages (w ∷ ws) index s ≡ Good k n → index ≡ mostWords → ⊥
+  unfolding readFrom
+  before-limit read full = not-good (simp (eq-eqb index mostWords full) at read)
 
 -- and the end word is one of the words
 pub good-within : (pages k n : ℕ) (ws : List ℕ) (s : Cursor) (index : ℕ) → readFrom pages ws index s ≡ Good k n
@@ -189,7 +196,7 @@ module _ (pages : ℕ) where
         let word : w ≡ endWord index = omega arith in
         let last : ws ≡ [] = no-words ws (omega (arith, good-words read)) in
         rw (prices-word pages s index w ws _ does, le-ltb 0 (s .due) (omega arith), word, last) (reads-end none gap)
-    by-word _ does a-fault read rest = absurd (not-good read)
+    by-word _ does (a-fault none) read rest = absurd (not-good read)
 
   pub reads-derived : (k : ℕ) (ws : List ℕ) (s : Cursor) (index : ℕ) → ReadsWhole k ws index s
       → Reads pages s index ws (pricesFrom pages ws index s)

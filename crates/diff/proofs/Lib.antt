@@ -1,6 +1,7 @@
 -- Laws on diffs.
 pub mod Reading
 pub mod Derivation
+pub mod Stored
 pub mod Encoding
 pub mod Coded
 pub mod Decoded

@@ -1,11 +1,13 @@
--- Runs of stores in a list, beside those of `lib.Seq`.
+-- Runs of stores in a list, and parts of parts, beside those of `lib.Seq`.
 use mathlib.Core.Path.{_≡_, refl, sym, ap, _∙_}
-use mathlib.Core.List.{List, [], _∷_, _++_}
-use Prim.Native.Nat.{ℕ, zero, suc, _+_, _≤_}
-use native.Mathlib.Nat.{add-zero, zero-add}
+use mathlib.Core.Logic.{_≢_}
+use mathlib.Core.List.{List, [], _∷_, _++_, append-nil}
+use Prim.Native.Nat.{ℕ, zero, suc, _+_, _-_, _≤_, _<_}
+use native.Mathlib.Nat.{add-zero, zero-add, suc-add}
+use native.Mathlib.Numerals.{add-one}
 use native.Mathlib.Omega.{arith}
-use lib.ListN.{length, take, drop}
-use lib.Seq.{sets, sets-eq}
+use lib.ListN.{length, getD, set, take, drop, length-set, drop-of-length-le}
+use lib.Seq.{sets, sets-eq, getD-set-same, getD-set-other, take-suc, length-take-le, take-nil, take-take, drop-drop}
 
 -- two runs of stores, one after the other
 pub sets-append : (us vs l : List ℕ) (i : ℕ) → sets l i (us ++ vs) ≡ sets (sets l i us) (i + length us) vs
@@ -17,3 +19,50 @@ sets-append (u ∷ us) vs l i =
 -- a run stored from the front on
 pub sets-front : (vs l : List ℕ) → length vs ≤ length l → sets l 0 vs ≡ vs ++ drop (length vs) l
 sets-front vs l fits = sets-eq vs l 0 (omega arith) ∙ rw (zero-add)
+
+-- a run stored over the whole list
+pub sets-whole : (vs l : List ℕ) → length vs ≡ length l → sets l 0 vs ≡ vs
+sets-whole vs l same =
+    sets-front vs l (omega arith) ∙ rw (drop-of-length-le l {i = length vs} (omega arith), append-nil)
+
+-- one element more of ws stored
+pub sets-take-more : (ws l : List ℕ) (i j : ℕ) → j < length ws
+    → set (sets l i (take j ws)) (i + j) (getD ws j 0) ≡ sets l i (take (j + 1) ws)
+sets-take-more ws l i j inside =
+    let stored : length (take j ws) ≡ j = length-take-le j ws (omega arith) in
+    rw (add-one, take-suc ws j 0 inside, sets-append, stored)
+
+-- what stands after a run of stores: outside it, what stood there
+pub getD-sets-outside : (vs l : List ℕ) (i k : ℕ) → ((j : ℕ) → j < length vs → k ≢ i + j)
+    → getD (sets l i vs) k 0 ≡ getD l k 0
+getD-sets-outside [] l i k apart = refl
+getD-sets-outside (v ∷ vs) l i k apart =
+    getD-sets-outside vs (set l i v) (suc i) k (λ j h e. apart (suc j) (omega arith) (omega arith))
+    ∙ getD-set-other l i k v 0 (λ e. apart 0 (omega arith) (omega arith))
+
+-- inside it, what was stored
+pub getD-sets-inside : (vs l : List ℕ) (i j : ℕ) → i + j < length l → j < length vs
+    → getD (sets l i vs) (i + j) 0 ≡ getD vs j 0
+getD-sets-inside [] l i j fits inside = absurd (omega arith)
+getD-sets-inside (v ∷ vs) l i zero fits inside =
+    rw add-zero
+    (getD-sets-outside vs (set l i v) (suc i) i (λ j h e. omega arith) ∙ getD-set-same l i v 0 (omega arith))
+getD-sets-inside (v ∷ vs) l i (suc j) fits inside =
+    let e : i + suc j ≡ suc i + j = omega arith in
+    rw e (getD-sets-inside vs (set l i v) (suc i) j (simp length-set (omega arith)) (omega arith))
+
+-- a front without its first i elements
+pub drop-take : (i n : ℕ) (l : List ℕ) → drop i (take (i + n) l) ≡ take n (drop i l)
+drop-take zero n l = rw zero-add
+drop-take (suc i) n [] = rw suc-add (sym (take-nil n))
+drop-take (suc i) n (x ∷ l) = rw suc-add (drop-take i n l)
+
+-- n elements from i on of the part of k elements from a on
+pub part-of-part : (l : List ℕ) (a k i n : ℕ) → i + n ≤ k
+    → take n (drop i (take k (drop a l))) ≡ take n (drop (a + i) l)
+part-of-part l a k i n fits =
+    let e : k ≡ i + (k - i) = omega arith in
+    ap (λ (j : ℕ). take n (drop i (take j (drop a l)))) e
+    ∙ ap (take n) (drop-take i (k - i) (drop a l))
+    ∙ take-take n (k - i) (drop i (drop a l)) (omega arith)
+    ∙ ap (take n) (drop-drop i a l)

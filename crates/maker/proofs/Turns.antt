@@ -22,29 +22,34 @@ use Rattle.maker.specs.AtLabel.{Lent, changesOn, workingPrice, runAt, he
 
 -- ---- the changes
 
-module _ (working twins : List ℕ) (label : ℕ) where
-  pub changes-end : length working ≤ label → changesOn working twins label ≡ []
-  changes-end end = rw (drop-of-length-le working end) (changes-none label (drop label twins))
+changes-on-end : (working twins : List ℕ) (label : ℕ) → length working ≤ label → changesOn working twins label ≡ []
+changes-on-end working twins label end = rw (drop-of-length-le working end) (changes-none label (drop label twins))
 
 module _ {working twins : List ℕ} (lent : Lent working twins) (label : ℕ) (within : label < length working) where
   in-twins : label < length twins
   in-twins = omega arith
 
-  pub changes-turn-same : getD working label 0 ≡ getD twins label 0
+  changes-on-same : getD working label 0 ≡ getD twins label 0
       → changesOn working twins label ≡ changesOn working twins (label + 1)
-  changes-turn-same same =
+  changes-on-same same =
       rw (drop-cons working label 0 within, drop-cons twins label 0 in-twins, ← add-one label)
       (changes-same label _ _ _ _ same)
 
-  pub changes-turn-differ : getD working label 0 ≢ getD twins label 0
+  changes-on-differ : getD working label 0 ≢ getD twins label 0
       → changesOn working twins label ≡ workingPrice working label ∷ changesOn working twins (label + 1)
-  changes-turn-differ differ =
+  changes-on-differ differ =
       rw (drop-cons working label 0 within, drop-cons twins label 0 in-twins, ← add-one label)
       (changes-differ label _ _ _ _ differ)
 
+module _ {working twins : List ℕ} (lent : Lent working twins) (label : ℕ) where
+  changes-on-ascend : label ≤ length working → Ascending (length working) label (changesOn working twins label)
+  changes-on-ascend within =
+      changes-ascend (length working) (drop label working) (drop label twins) label
+      (simp length-drop (omega arith)) (simp length-drop (omega arith))
+
 -- ---- the run of a label that differs
 
--- a run of one price: no later price follows it
+-- a run that no later price goes on with
 run-alone : {pages next : ℕ} (p : Price) {ps : List Price} → Ascending pages next ps
     → ((q : Price) → next ≤ labelOf q → q .word < 32 → follows p q ≡ true → ⊥) → runLength p ps ≡ 1
 run-alone p none apart = run-last p
@@ -55,27 +60,22 @@ run-alone p (more {p = q} {ps = qs} up word _ rest) apart = go (follows p q) ref
     go false off = run-stops p q qs off
 
 module _ {working twins : List ℕ} (lent : Lent working twins) (label : ℕ) where
-  changes-above : label ≤ length working → Ascending (length working) label (changesOn working twins label)
-  changes-above within =
-      changes-ascend (length working) (drop label working) (drop label twins) label
-      (simp length-drop (omega arith)) (simp length-drop (omega arith))
-
-module _ {working twins : List ℕ} (lent : Lent working twins) (label : ℕ) where
-  -- it ends at the end of the pages, at the end of a page, and before a word that does not differ
+  -- it ends at the end of the pages, at the end of its page and before a word that does not differ
   pub run-at-end : length working ≤ label + 1 → runAt working twins label ≡ 1
-  run-at-end end = rw (changes-end working twins (label + 1) end) (run-last (workingPrice working label))
+  run-at-end end = rw (changes-on-end working twins (label + 1) end) (run-last (workingPrice working label))
 
   pub run-at-page-end : label + 1 < length working → (label + 1) % 32 ≡ 0 → runAt working twins label ≡ 1
   run-at-page-end within last =
       let p = workingPrice working label in
-      run-alone p (changes-above lent (label + 1) (omega arith)) (λ q up word on. omega (arith, follows-word p q on))
+      run-alone p (changes-on-ascend lent (label + 1) (omega arith))
+      (λ q up word on. omega (arith, follows-word p q on))
 
   pub run-at-same : label + 1 < length working → getD working (label + 1) 0 ≡ getD twins (label + 1) 0
       → runAt working twins label ≡ 1
   run-at-same within same =
       let p = workingPrice working label in
-      rw (changes-turn-same lent (label + 1) within same)
-      (run-alone p (changes-above lent (label + 1 + 1) (omega arith))
+      rw (changes-on-same lent (label + 1) within same)
+      (run-alone p (changes-on-ascend lent (label + 1 + 1) (omega arith))
       (λ q up word on. omega (arith, follows-page p q on, follows-word p q on)))
 
   pub run-at-differ : label + 1 < length working → (label + 1) % 32 ≢ 0
@@ -84,12 +84,12 @@ module _ {working twins : List ℕ} (lent : Lent working twins) (label : ℕ) wh
   run-at-differ within inside differ =
       let p = workingPrice working label in
       let q = workingPrice working (label + 1) in
-      rw (changes-turn-differ lent (label + 1) within differ)
+      rw (changes-on-differ lent (label + 1) within differ)
       (run-goes-on p q _ (follows-yes p q (omega arith) (omega arith)))
 
 -- ---- what stands before the price of a label that differs
 
-module _ {working twins : List ℕ} (lent : Lent working twins) (next label : ℕ) where
+module _ (working twins : List ℕ) (next label : ℕ) where
   pub header-at-page : next ≤ label / 32 * 32
       → headerAt working twins next label
       ≡ pageWord (label / 32) ∷ runWord (label % 32) (runAt working twins label) ∷ []
@@ -107,15 +107,15 @@ module _ {working twins : List ℕ} (lent : Lent working twins) (next label : �
 -- ---- the words of the diff
 
 module _ {working twins : List ℕ} (lent : Lent working twins) where
-  pub body-end : (next label : ℕ) → length working ≤ label → bodyOn working twins next label ≡ []
-  body-end next label end = rw (changes-end working twins label end) (encode-none next)
+  pub body-on-end : (next label : ℕ) → length working ≤ label → bodyOn working twins next label ≡ []
+  body-on-end next label end = rw (changes-on-end working twins label end) (encode-none next)
 
-  -- the end word is one more
+  -- the diff has one word more, the end word
   pub length-made : length (madeDiff working twins) ≡ length (bodyOn working twins 0 0) + 1
   unfolding madeDiff
   length-made = simp length-append
 
-  -- it is stored behind the others
+  -- which is stored last
   pub end-stored : (start buffer : List ℕ) (at : ℕ) → at ≡ length (bodyOn working twins 0 0)
       → buffer ≡ sets start 0 (bodyOn working twins 0 0)
       → set buffer at (endWord at) ≡ sets start 0 (madeDiff working twins)
@@ -123,27 +123,27 @@ module _ {working twins : List ℕ} (lent : Lent working twins) where
   end-stored start buffer at whole stored = rw (sets-append, zero-add, whole, stored)
 
 module _ {working twins : List ℕ} (lent : Lent working twins) (next label : ℕ) (within : label < length working) where
-  pub body-same : getD working label 0 ≡ getD twins label 0
+  pub body-on-same : getD working label 0 ≡ getD twins label 0
       → bodyOn working twins next label ≡ bodyOn working twins next (label + 1)
-  body-same same = rw (changes-turn-same lent label within same)
+  body-on-same same = rw (changes-on-same lent label within same)
 
-  pub body-differ : getD working label 0 ≢ getD twins label 0
+  body-on-differ : getD working label 0 ≢ getD twins label 0
       → bodyOn working twins next label
       ≡ headerAt working twins next label ++ getD working label 0 ∷ bodyOn working twins (label + 1) (label + 1)
-  body-differ differ =
-      rw (changes-turn-differ lent label within differ)
+  body-on-differ differ =
+      rw (changes-on-differ lent label within differ)
       (rw label-at at (encode-price next (workingPrice working label) (changesOn working twins (label + 1)) _ refl))
 
-  pub length-body-differ : {words : ℕ} → words ≡ length (headerAt working twins next label)
+  pub length-body-on : {words : ℕ} → words ≡ length (headerAt working twins next label)
       → getD working label 0 ≢ getD twins label 0
       → length (bodyOn working twins next label) ≡ words + 1 + length (bodyOn working twins (label + 1) (label + 1))
-  length-body-differ counted differ = rw (counted, body-differ differ, length-append) (omega arith)
+  length-body-on counted differ = rw (counted, body-on-differ differ, length-append) (omega arith)
 
   -- a label's words are stored, and those of the labels after it are still to be stored behind them
-  pub body-stored : (buffer : List ℕ) (at : ℕ) → getD working label 0 ≢ getD twins label 0
+  pub body-on-stored : (buffer : List ℕ) (at : ℕ) → getD working label 0 ≢ getD twins label 0
       → let after = at + length (headerAt working twins next label) in
       sets (set (sets buffer at (headerAt working twins next label)) after (getD working label 0)) (after + 1)
       (bodyOn working twins (label + 1) (label + 1))
       ≡ sets buffer at (bodyOn working twins next label)
-  body-stored buffer at differ =
-      rw (body-differ differ, sets-append, add-one (at + length (headerAt working twins next label)))
+  body-on-stored buffer at differ =
+      rw (body-on-differ differ, sets-append, add-one (at + length (headerAt working twins next label)))

@@ -1,4 +1,4 @@
--- The part of the made diff that one label, which differs, brings.
+-- What one label that differs, and the labels from one on, bring to the made diff.
 -- Assumes nothing: these are definitions.
 use Prim.Native.Nat.{ℕ, _+_, _≤_}
 use mathlib.Core.Path.{_≡_}
@@ -7,7 +7,7 @@ use lib.ListN.{length, drop, getD}
 use Rattle.diff.specs.declared.Price.{Price}
 use Rattle.diff.specs.Making.{priceAt, changesFrom, runLength, header, encodeFrom}
 
--- working pages lent with their twins
+-- working pages lent with their twins: as many words of each, 64 pages at most
 pub record Lent (working twins : List ℕ) : Type 0 where
   pub even : length working ≡ length twins
   pub most : length working ≤ 2048
@@ -16,6 +16,7 @@ pub record Lent (working twins : List ℕ) : Type 0 where
 abbrev pub changesOn : List ℕ → List ℕ → ℕ → List Price
 changesOn working twins label = changesFrom label (drop label working) (drop label twins)
 
+-- a label's price on the working pages
 abbrev pub workingPrice : List ℕ → ℕ → Price
 workingPrice working label = priceAt label (getD working label 0)
 

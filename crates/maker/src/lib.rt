@@ -1,20 +1,21 @@
 // The list maker: the diff between working pages and their twins, written into a lent buffer.
 ghost use mathlib.Core.Path.{_≡_};
 ghost use Prim.Native.Nat.{ℕ, _+_, _%_, _<_, _≤_};
+ghost use mathlib.Core.List.{List};
 ghost use lib.ListN.{length};
 ghost use lib.Seq.{sets};
 ghost use Rattle.answer.specs.Outcome.{outcome};
 ghost use Rattle.diff.specs.Format.{runWord};
-ghost use Rattle.diff.specs.Making.{priceAt, header, madeDiff, lentPages, makeDiff, bufferAfter};
+ghost use Rattle.diff.specs.Making.{madeDiff, lentPages, makeDiff, bufferAfter};
 ghost use Rattle.maker.specs.AtLabel.{Lent, runAt, headerAt};
 use answer::Answer;
 
-// How many words stand before the price of a label that differs, whatever the price and the run.
-// `next` is one more than the label named last, 0 before the first.
+// How many words stand before the price of a label that differs, whatever the pages hold. `next` is
+// one more than the label named last, 0 before the first.
 fn header_length(next: usize, label: usize) -> usize
     ensures short { λ r. ⌜ r ≤ 2 ⌝ }
-    ensures counted { λ r. ⌜ ((price run : ℕ)
-        → r ≡ length (header next (priceAt label price) run)) ⌝ }
+    ensures counted { λ r. ⌜ ((working twins : List ℕ)
+        → r ≡ length (headerAt working twins next label)) ⌝ }
 {
     if next <= label / 32 * 32 {
         return 2;

@@ -64,8 +64,18 @@ listSize = 512
 abbrev pub pageSize : ℕ
 pageSize = 32
 
+abbrev pub pageStart : ℕ → ℕ
+pageStart p = 676 + 64 * p
+
+-- where each half of a page starts in it
+abbrev pub tentativeHalf : ℕ
+tentativeHalf = 0
+
+abbrev pub committedHalf : ℕ
+committedHalf = 32
+
 abbrev pub tentative : ℕ → ℕ
-tentative p = 676 + 64 * p
+tentative p = pageStart p
 
 abbrev pub committed : ℕ → ℕ
-committed p = 676 + 64 * p + 32
+committed p = pageStart p + 32

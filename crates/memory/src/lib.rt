@@ -1,22 +1,30 @@
-// The lent memory: one area per card, ascending (document 01, "Cards, pages, memory"). Words and runs
-// of words are loaded, stored, copied and cleared here; a card's area, and a page in it, are lent on as
-// parts of the memory.
+// The lent memory: one area per card, ascending (document 01, "Cards, pages, memory"). Words and
+// runs of words are loaded, stored, copied and cleared here; a card's area, and a page in it, are
+// lent on as parts of the memory.
 ghost use mathlib.Core.Path.{_≡_};
 ghost use mathlib.Core.Logic.{_≢_, _⊎_};
 ghost use Prim.Native.Nat.{_+_, _*_, _<_, _≤_};
 ghost use lib.ListN.{length, set, take, drop};
 ghost use lib.Seq.{sets};
 ghost use Rattle.memory.specs.Layout.{areaSize};
-ghost use Rattle.memory.specs.Area.{AreaIn, load, store, loadRun, storeRun, zeros, clearRun, copyRun};
+ghost use Rattle.memory.specs.Area.{AreaIn, load, store, loadRun, storeRun};
+ghost use Rattle.memory.specs.Area.{zeros, clearRun, copyRun};
 
 // specs/Layout.antt has the same table.
 pub const OWN_STAMP: usize = 0;
+
 pub const OWN_DESK: usize = 1;
+
 pub const RELEASE_OPEN: usize = 9;
+
 pub const STEPS_MADE: usize = 10;
+
 pub const RELEASE_NUMBER: usize = 11;
+
 pub const RELEASE_DESK: usize = 12;
+
 pub const LIST_START: usize = 164;
+
 pub const LIST_SIZE: usize = 512;
 
 // The number of words of one area.
@@ -70,15 +78,13 @@ pub fn store_word(memory: &mut [u32], size: usize, card: usize, offset: usize, v
     memory[at] = v;
 }
 
-// ---- a run of words: the card's area is lent on as a part of the memory, and the run as a part of it
+// ---- a run of words: the card's area is lent on as a part of the memory, the run as a part of it
 
 pub fn load_run(memory: &[u32], size: usize, card: usize, offset: usize, buffer: &mut [u32])
     requires { ⌜ AreaIn (length (now memory)) size card ⌝ }
     requires { ⌜ offset + length (now buffer) ≤ size ⌝ }
-    ensures {
-        λ _. ⌜ now (buffer .exit)
-        ≡ loadRun size (now (memory .entry)) card offset (length (now (buffer .entry))) ⌝
-    }
+    ensures { λ _. ⌜ now (buffer .exit)
+        ≡ loadRun size (now (memory .entry)) card offset (length (now (buffer .entry))) ⌝ }
 {
     let from = card * size + offset;
     let end = from + buffer.len();
@@ -96,10 +102,8 @@ fn store_run_in(area: &mut [u32], offset: usize, words: &[u32])
 pub fn store_run(memory: &mut [u32], size: usize, card: usize, offset: usize, words: &[u32])
     requires { ⌜ AreaIn (length (now memory)) size card ⌝ }
     requires { ⌜ offset + length (now words) ≤ size ⌝ }
-    ensures {
-        λ _. ⌜ now (memory .exit)
-        ≡ storeRun size (now (memory .entry)) card offset (now (words .entry)) ⌝
-    }
+    ensures { λ _. ⌜ now (memory .exit)
+        ≡ storeRun size (now (memory .entry)) card offset (now (words .entry)) ⌝ }
 {
     let area = card * size;
     let end = area + size;
@@ -129,9 +133,8 @@ pub fn copy_run(memory: &mut [u32], size: usize, from: usize, to: usize, offset:
     requires { ⌜ AreaIn (length (now memory)) size from ⌝ }
     requires { ⌜ AreaIn (length (now memory)) size to ⌝ }
     requires { ⌜ (from ≢ to) × (offset + n ≤ size) ⌝ }
-    ensures {
-        λ _. ⌜ now (memory .exit) ≡ copyRun size (now (memory .entry)) from offset to offset n ⌝
-    }
+    ensures { λ _. ⌜ now (memory .exit)
+        ≡ copyRun size (now (memory .entry)) from offset to offset n ⌝ }
 {
     let source = from * size + offset;
     let target = to * size + offset;
@@ -143,9 +146,9 @@ pub fn copy_run(memory: &mut [u32], size: usize, from: usize, to: usize, offset:
     }
 }
 
-// ---- a page's 64 words: the card's area is lent on as a part of the memory, and the page as a part
-// of it. `page` is the page's offset in the area; words 0 to 31 are its tentative ones, 32 to 63 its
-// committed ones.
+// ---- a page's 64 words: the card's area is lent on as a part of the memory, and the page as a
+// part of it. `page` is the page's offset in the area; words 0 to 31 are its tentative ones, 32 to
+// 63 its committed ones.
 
 fn store_in_page(page: &mut [u32], word: usize, v: u32)
     requires { ⌜ word < length (now page) ⌝ }
@@ -176,10 +179,8 @@ pub fn store_price(memory: &mut [u32], size: usize, card: usize, page: usize, wo
 fn copy_in_page(page: &mut [u32], from: usize, to: usize)
     requires { ⌜ (from + 32 ≤ length (now page)) × (to + 32 ≤ length (now page)) ⌝ }
     requires { ⌜ ((from + 32 ≤ to) ⊎ (to + 32 ≤ from)) ⌝ }
-    ensures {
-        λ _. ⌜ now (page .exit)
-        ≡ sets (now (page .entry)) to (take 32 (drop from (now (page .entry)))) ⌝
-    }
+    ensures { λ _. ⌜ now (page .exit)
+        ≡ sets (now (page .entry)) to (take 32 (drop from (now (page .entry)))) ⌝ }
 {
     let mut i = 0;
     while i < 32 {
@@ -192,23 +193,27 @@ fn copy_in_page(page: &mut [u32], from: usize, to: usize)
 fn copy_prices_in(area: &mut [u32], page: usize, from: usize, to: usize)
     requires { ⌜ (page + 64 ≤ length (now area)) × (from + 32 ≤ 64) × (to + 32 ≤ 64) ⌝ }
     requires { ⌜ ((from + 32 ≤ to) ⊎ (to + 32 ≤ from)) ⌝ }
-    ensures {
-        λ _. ⌜ now (area .exit)
-        ≡ sets (now (area .entry)) (page + to) (take 32 (drop (page + from) (now (area .entry)))) ⌝
-    }
+    ensures { λ _. ⌜ now (area .exit)
+        ≡ sets (now (area .entry)) (page + to)
+        (take 32 (drop (page + from) (now (area .entry)))) ⌝ }
 {
     let end = page + 64;
     copy_in_page(&mut area[page..end], from, to);
 }
 
-pub fn copy_prices(memory: &mut [u32], size: usize, card: usize, page: usize, from: usize, to: usize)
+pub fn copy_prices(
+    memory: &mut [u32],
+    size: usize,
+    card: usize,
+    page: usize,
+    from: usize,
+    to: usize,
+)
     requires { ⌜ AreaIn (length (now memory)) size card ⌝ }
     requires { ⌜ (page + 64 ≤ size) × (from + 32 ≤ 64) × (to + 32 ≤ 64) ⌝ }
     requires { ⌜ ((from + 32 ≤ to) ⊎ (to + 32 ≤ from)) ⌝ }
-    ensures {
-        λ _. ⌜ now (memory .exit)
-        ≡ copyRun size (now (memory .entry)) card (page + from) card (page + to) 32 ⌝
-    }
+    ensures { λ _. ⌜ now (memory .exit)
+        ≡ copyRun size (now (memory .entry)) card (page + from) card (page + to) 32 ⌝ }
 {
     let area = card * size;
     let end = area + size;

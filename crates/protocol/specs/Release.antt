@@ -7,7 +7,7 @@ use lib.ListN.{length, getD}
 use lib.Dec.{ltb, leb, eqb}
 use Rattle.memory.specs.Layout.{areaSize, deskSize, ownStamp, ownDesk, releaseOpen, stepsMade, releaseNumber}
 use Rattle.memory.specs.Layout.{releaseDesk, releaseSize, recordStamp, recordDone, recordDesk}
-use Rattle.memory.specs.Layout.{listStart, listSize, tentative, committed}
+use Rattle.memory.specs.Layout.{listStart, listSize, pageStart, tentativeHalf, committedHalf}
 use Rattle.memory.specs.Area.{load, store, loadRun, storeRun, clearRun}
 use Rattle.directory.specs.declared.Directory.{Directory}
 use Rattle.directory.specs.Directory.{liveAt, primaryOf, secondaryOf}
@@ -23,6 +23,9 @@ sizeOf d = areaSize (d .pages)
 pub record Release : Type 0 where
   pub number : ℕ
   pub desk : List ℕ
+
+abbrev pub releaseOf : ℕ → List ℕ → Release
+releaseOf number desk = record { number = number; desk = desk }
 
 -- the last release that the card closed, as its own stamp and desk; number 0 if none
 unfoldable pub ownRelease : ℕ → List ℕ → ℕ → Release
@@ -53,30 +56,34 @@ pub record Write : Type 0 where
   pub offset : ℕ
   pub value : ℕ
 
-abbrev pub priceWrite : (ℕ → ℕ) → (ℕ → ℕ) → Price → Write
-priceWrite home copy p = record { card = home (p .page); offset = copy (p .page) + p .word; value = p .price }
+abbrev pub writeOf : ℕ → ℕ → ℕ → Write
+writeOf card offset value = record { card = card; offset = offset; value = value }
+
+-- a price at a home of its page, in the tentative or the committed half of the page
+abbrev pub priceWrite : (ℕ → ℕ) → ℕ → Price → Write
+priceWrite home half p = writeOf (home (p .page)) (pageStart (p .page) + (half + p .word)) (p .price)
 
 -- "for each price in order, the .. word at the secondary, then at the primary"
-abbrev pub priceWrites : Directory → (ℕ → ℕ) → List Price → List Write
-priceWrites d copy [] = []
-priceWrites d copy (p ∷ ps) = priceWrite (secondaryOf d) copy p ∷ priceWrite (primaryOf d) copy p ∷ priceWrites d copy ps
+abbrev pub priceWrites : Directory → ℕ → List Price → List Write
+priceWrites d half [] = []
+priceWrites d half (p ∷ ps) = priceWrite (secondaryOf d) half p ∷ priceWrite (primaryOf d) half p ∷ priceWrites d half ps
 
 -- words stored at a card one after the other
 abbrev pub runWrites : ℕ → ℕ → List ℕ → List Write
 runWrites card offset [] = []
-runWrites card offset (v ∷ vs) = record { card = card; offset = offset; value = v } ∷ runWrites card (suc offset) vs
+runWrites card offset (v ∷ vs) = writeOf card offset v ∷ runWrites card (suc offset) vs
 
 -- the stores of card c's release, numbered as document 01 numbers them
 unfoldable pub releaseWrites : Directory → ℕ → ℕ → Release → List Price → List Write
 releaseWrites d backup c r ps =
     -- 1. the tentative words
-    priceWrites d tentative ps
+    priceWrites d tentativeHalf ps
     -- 2. "the desk words in order to the backup, even desk if the number is even, else odd"
     ++ (runWrites backup (recordDesk c (r .number)) (r .desk)
     -- 3. "the stamp at the backup (step 2k + 9; from here the release counts)"
     ++ (runWrites backup (recordStamp c) (r .number ∷ [])
     -- 4. the committed words
-    ++ (priceWrites d committed ps
+    ++ (priceWrites d committedHalf ps
     -- 5. "the done mark at the backup"
     ++ runWrites backup (recordDone c) (r .number ∷ []))))
 
@@ -105,7 +112,7 @@ close size m c =
     c listStart listSize
 
 abbrev pub noWrite : Write
-noWrite = record { card = 0; offset = 0; value = 0 }
+noWrite = writeOf 0 0 0
 
 -- "Each step makes one store and, but for the close, adds 1 to word 10."
 unfoldable pub stepMemory : Directory → ℕ → List ℕ → ℕ → List ℕ

@@ -21,7 +21,7 @@ module _ (pages : ℕ) (s : Cursor) (index w : ℕ) (steady : Steady s) where
   case-kept (a-page idle one gap up fits) = omega arith
   case-kept (a-run idle two named some fits past) = omega arith
   case-kept (an-end idle fifteen gap own) = tt
-  case-kept a-fault = tt
+  case-kept (a-fault idle) = tt
 
   pub word-kept : (step : Step) → step ≡ wordStep pages s index w → Kept (s .prices + 1) step
   word-kept step e = subst (Kept (s .prices + 1)) (sym e) (case-kept (word-case pages s index w))

@@ -3,6 +3,8 @@ ghost use mathlib.Core.Path.{_≡_};
 ghost use Prim.Native.Nat.{_+_, _<_, _≤_};
 ghost use lib.ListN.{length};
 ghost use Rattle.answer.specs.Outcome.{outcome};
+ghost use Rattle.memory.specs.Layout.{listStart, listSize};
+ghost use Rattle.memory.specs.Area.{AreaIn, loadRun};
 ghost use Rattle.diff.specs.Reading.{start, pastPrice, pageStep, runStep, endStep, wordStep, readDiff, checkDiff};
 ghost use Rattle.diff.specs.Prices.{pricesOf};
 ghost use Rattle.reader.specs.Steady.{Steady};
@@ -10,7 +12,8 @@ ghost use Rattle.reader.specs.Found.{nthPrice};
 use answer::Answer;
 use diff::{Cursor, Price, Step, Verdict};
 
-fn cursor() -> Cursor
+// Before the first word.
+pub fn cursor() -> Cursor
     ensures { λ r. ⌜ r ≡ start ⌝ }
 {
     Cursor {
@@ -22,7 +25,8 @@ fn cursor() -> Cursor
     }
 }
 
-fn price_read(s: Cursor) -> Cursor
+// Past a price of a run.
+pub fn price_read(s: Cursor) -> Cursor
     requires { ⌜ Steady s ⌝ }
     requires { ⌜ 0 < s .due ⌝ }
     ensures { λ r. ⌜ r ≡ pastPrice s ⌝ }
@@ -97,7 +101,8 @@ fn end_word(s: Cursor, w: u32, index: usize) -> Step
     if own == index { Step::End } else { Step::Fault }
 }
 
-fn read_word(s: Cursor, w: u32, index: usize, pages: u32) -> Step
+// What the word at an index does to the reading.
+pub fn read_word(s: Cursor, w: u32, index: usize, pages: u32) -> Step
     requires { ⌜ Steady s ⌝ }
     ensures { λ r. ⌜ r ≡ wordStep pages s index w ⌝ }
 {
@@ -137,6 +142,18 @@ pub fn read(list: &[u32], pages: u32) -> Verdict
         }
     }
     Verdict::Faulty(index as u32)
+}
+
+// Reads the list of the open release in a card's area, to its end word.
+pub fn read_stored(memory: &[u32], size: usize, card: usize, pages: u32) -> Verdict
+    requires { ⌜ (676 ≤ size) × AreaIn (length (now memory)) size card ⌝ }
+    ensures {
+        λ r. ⌜ r ≡ readDiff pages (loadRun size (now (memory .entry)) card listStart listSize) ⌝
+    }
+{
+    let from = card * size + memory::LIST_START;
+    let end = from + memory::LIST_SIZE;
+    read(&memory[from..end], pages)
 }
 
 // Checks a list handed in: gives the number of its prices, or refusal 7 with its place.
@@ -198,4 +215,17 @@ pub fn nth_price(list: &[u32], pages: u32, n: u32) -> Found
         }
     }
     Found::Nothing
+}
+
+// The price numbered `n` of the list of the open release in a card's area.
+pub fn nth_stored(memory: &[u32], size: usize, card: usize, pages: u32, n: u32) -> Found
+    requires { ⌜ (676 ≤ size) × AreaIn (length (now memory)) size card ⌝ }
+    ensures {
+        λ r. ⌜ r
+        ≡ nthPrice (pricesOf pages (loadRun size (now (memory .entry)) card listStart listSize)) n ⌝
+    }
+{
+    let from = card * size + memory::LIST_START;
+    let end = from + memory::LIST_SIZE;
+    nth_price(&memory[from..end], pages, n)
 }

@@ -1,13 +1,14 @@
 -- `maker::count_words` meets its contract. The loop's invariant: the words counted, those that the labels left bring,
 -- and the end word are the words of the diff.
-use borrow.Author.Needs.{needs}
 use Prim.Native.Nat.{_+_, _-_, _*_, _≤_}
 use mathlib.Core.Path.{_≡_, ap}
 use native.Mathlib.Omega.{arith}
+use borrow.Author.Needs.{needs}
 use lib.ListN.{length}
+use denote.Ref.{now}
 use Rattle.diff.specs.Making.{madeDiff}
 use Rattle.maker.specs.AtLabel.{bodyOn}
-use Rattle.maker.proofs.Turns.{body-end, body-same, length-body-differ, length-made}
+use Rattle.maker.proofs.Turns.{body-on-end, body-on-same, length-body-on, length-made}
 use Rattle.maker.proofs.count_words.Statement.{statement}
 use Rattle.maker.proofs.count_words.Tie as tie
 
@@ -45,7 +46,7 @@ loop-again c =
     let turn = c .before .before .before in
     let start = turn .before .before .before .before in
     let at = turn .before .loop in
-    let same = body-same (start .pre) (at .next) _ (turn .loop-test .taken) (c .if1 .taken) in
+    let same = body-on-same (start .pre) (at .next) _ (turn .loop-test .taken) (c .if1 .taken) in
     omega (arith, ap length same)
 
 header-length-requires : tie.Need-header-length-requires Inv-loop μ-loop
@@ -68,9 +69,8 @@ loop-again-2 c =
     let turn = c .before .before .before .before in
     let start = turn .before .before .before .before in
     let at = turn .before .loop in
-    let counted = c .header-length .ensures .1 in
-    let more =
-    length-body-differ (start .pre) (at .next) _ (turn .loop-test .taken) (counted _ _) (c .before .if1 .left) in
+    let counted = c .header-length .ensures .1 (now (start .args .working)) (now (start .args .twins)) in
+    let more = length-body-on (start .pre) (at .next) _ (turn .loop-test .taken) counted (c .before .if1 .left) in
     omega arith
 
 add-result : tie.Need-add-result Inv-loop μ-loop
@@ -78,7 +78,7 @@ add-result c = search needs
 
 returns : tie.Need-returns Inv-loop μ-loop
 returns c =
-    let none = body-end (c .before .before .before .before .pre) (c .before .loop .next) _ (c .loop-test .left) in
+    let none = body-on-end (c .before .before .before .before .pre) (c .before .loop .next) _ (c .loop-test .left) in
     omega (arith, ap length none)
 
 pub count-words-spec : {M : Type 1} → statement M

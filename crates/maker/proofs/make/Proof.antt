@@ -2,11 +2,11 @@
 use mathlib.Core.Path.{sym, _∙_}
 use native.Mathlib.Omega.{arith}
 use borrow.Author.Tests.{lt-ltb, le-ltb}
+use borrow.Author.Needs.{needs}
 use denote.Ref.{now}
 use Rattle.laws.proofs.Lists.{sets-front}
 use Rattle.diff.specs.Making.{madeDiff, makeDiff}
 use Rattle.diff.proofs.OnlyDiff.{lent-pages}
-use borrow.Author.Needs.{needs}
 use Rattle.maker.proofs.make.Statement.{statement}
 use Rattle.maker.proofs.make.Tie as tie
 
@@ -50,12 +50,12 @@ returns-3 : tie.Need-returns-3
 unfolding makeDiff
 returns-3 c =
     let counted = c .before .before .before .before .before .before in
-    let pages = counted .before .before .before .before .before .before .args in
+    let args = counted .before .before .before .before .before .before .args in
     let lent = sym (counted .before .before .lent-pages .ensures) ∙ counted .before .if1 .taken in
     let words = sym (counted .count-words .ensures) in
     let few = le-ltb _ _ (c .before .before .before .before .before .if2 .left) in
     let room = le-ltb _ _ (c .before .before .before .before .if3 .left) in
-    let front = sets-front (madeDiff (now (pages .working)) (now (pages .twins))) (now (pages .buffer)) (omega arith) in
+    let front = sets-front (madeDiff (now (args .working)) (now (args .twins))) (now (args .buffer)) (omega arith) in
     let written = c .before .before .write-diff .ensures ∙ front in
     (simp (lent, words, few, room), simp (lent, words, few, room) (rw words at written))
 

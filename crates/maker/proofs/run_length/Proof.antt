@@ -1,10 +1,10 @@
 -- `maker::run_length` meets its contract. The loop's invariant: the run of the last word passed ends where the run of
 -- the label does.
-use borrow.Author.Needs.{needs}
 use Prim.Native.Nat.{_+_, _-_, _/_, _≤_, _<_}
 use mathlib.Core.Path.{_≡_}
 use mathlib.Core.Logic.{⊎-elim}
 use native.Mathlib.Omega.{arith}
+use borrow.Author.Needs.{needs}
 use lib.ListN.{length}
 use Rattle.maker.specs.AtLabel.{runAt}
 use Rattle.maker.proofs.Turns.{run-at-end, run-at-page-end, run-at-same, run-at-differ}
@@ -60,7 +60,7 @@ sub-result c = search needs
 returns : tie.Need-returns Inv-loop μ-loop
 returns c =
     let lent = c .before .before .pre .0 in
-    let last =
+    let alone =
     ⊎-elim (λ end. run-at-end lent _ (end .left))
     (⊎-elim (λ page. run-at-page-end lent _ (page .0 .taken) (page .1 .taken))
     (λ same. run-at-same lent _ (same .0 .taken) (same .4 .taken)))

@@ -1,14 +1,15 @@
 -- `maker::write_diff` meets its contract. The loop's invariant: what the labels left bring, stored from here on, gives
 -- the buffer with the words of all labels.
-use borrow.Author.Needs.{needs}
 use Prim.Native.Nat.{_+_, _-_, _≤_}
 use mathlib.Core.Path.{_≡_, refl, ap, _∙_}
 use native.Mathlib.Omega.{arith}
+use borrow.Author.Needs.{needs}
 use lib.ListN.{length, length-set}
 use lib.Seq.{sets}
 use Rattle.diff.specs.Making.{madeDiff}
 use Rattle.maker.specs.AtLabel.{bodyOn}
-use Rattle.maker.proofs.Turns.{body-end, body-same, length-body-differ, body-stored, length-made, end-stored}
+use Rattle.maker.proofs.Turns.{body-on-end, body-on-same, body-on-stored, length-body-on}
+use Rattle.maker.proofs.Turns.{length-made, end-stored}
 use Rattle.maker.proofs.write_diff.Statement.{statement}
 use Rattle.maker.proofs.write_diff.Tie as tie
 
@@ -47,7 +48,7 @@ loop-again c =
     let turn = c .before .before .before in
     let lent = turn .before .before .before .before .before .pre .0 in
     let at = turn .before .loop in
-    let same = body-same lent (at .next) _ (turn .loop-test .taken) (c .if1 .taken) in
+    let same = body-on-same lent (at .next) _ (turn .loop-test .taken) (c .if1 .taken) in
     (omega arith, at .inv .1, omega (arith, ap length same), rw (← same) (at .inv .3))
 
 write-header-requires : tie.Need-write-header-requires Inv-loop μ-loop
@@ -55,7 +56,7 @@ write-header-requires c κs =
     let turn = c .before .before .before .before in
     let lent = turn .before .before .before .before .before .pre .0 in
     let at = turn .before .loop in
-    let more = length-body-differ lent (at .next) _ (turn .loop-test .taken) refl (c .before .if1 .left) in
+    let more = length-body-on lent (at .next) _ (turn .loop-test .taken) refl (c .before .if1 .left) in
     (lent, (search needs, omega arith))
 
 mul-buffer : tie.Need-mul-buffer Inv-loop μ-loop
@@ -86,8 +87,8 @@ loop-again-2 c =
     let at = turn .before .loop in
     let differ = c .before .before .before .before .before .if1 .left in
     let wrote = c .before .before .before .write-header .ensures .1 in
-    let more = length-body-differ lent (at .next) _ (turn .loop-test .taken) refl differ in
-    let stored = body-stored lent (at .next) _ (turn .loop-test .taken) (at .buffer) (at .at) differ in
+    let more = length-body-on lent (at .next) _ (turn .loop-test .taken) refl differ in
+    let stored = body-on-stored lent (at .next) _ (turn .loop-test .taken) (at .buffer) (at .at) differ in
     (omega arith, simp length-set (search needs), omega arith, rw (wrote .0, wrote .1) (stored ∙ at .inv .3))
 
 cast-buffer : tie.Need-cast-buffer Inv-loop μ-loop
@@ -109,7 +110,7 @@ returns : tie.Need-returns Inv-loop μ-loop
 returns c =
     let lent = c .before .before .before .before .before .pre .0 in
     let at = c .before .loop in
-    let none = body-end lent (at .next) _ (c .loop-test .left) in
+    let none = body-on-end lent (at .next) _ (c .loop-test .left) in
     end-stored lent _ _ _ (omega (arith, ap length none, length-made lent)) (rw none at (at .inv .3))
 
 pub write-diff-spec : {M : Type 1} → statement M

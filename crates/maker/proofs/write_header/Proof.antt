@@ -2,9 +2,10 @@
 use mathlib.Core.Path.{ap}
 use native.Mathlib.Omega.{arith}
 use native.Mathlib.Numerals.{add-one}
-use lib.ListN.{length, length-set}
-use Rattle.maker.proofs.Turns.{header-at-page, header-at-run, header-at-none}
 use borrow.Author.Needs.{needs}
+use lib.ListN.{length, length-set}
+use denote.Ref.{now}
+use Rattle.maker.proofs.Turns.{header-at-page, header-at-run, header-at-none}
 use Rattle.maker.proofs.write_header.Statement.{statement}
 use Rattle.maker.proofs.write_header.Tie as tie
 
@@ -22,7 +23,8 @@ mul-buffer c = search needs
 
 slice-write-buffer : tie.Need-slice-write-buffer
 slice-write-buffer c =
-    let page = header-at-page (c .before .before .before .before .pre .0) _ _ (c .if1 .taken) in
+    let args = c .before .before .before .before .args in
+    let page = header-at-page (now (args .working)) (now (args .twins)) _ _ (c .if1 .taken) in
     omega (arith, ap length page)
 
 run-word-requires : tie.Need-run-word-requires
@@ -36,7 +38,8 @@ mul-buffer-2 c = search needs
 
 slice-write-buffer-2 : tie.Need-slice-write-buffer-2
 slice-write-buffer-2 c =
-    let page = header-at-page (c .before .before .before .before .before .pre .0) _ _ (c .before .if1 .taken) in
+    let args = c .before .before .before .before .before .args in
+    let page = header-at-page (now (args .working)) (now (args .twins)) _ _ (c .before .if1 .taken) in
     simp length-set (omega (arith, ap length page))
 
 add-result : tie.Need-add-result
@@ -47,14 +50,14 @@ same-length c = search needs
 
 returns : tie.Need-returns
 returns c =
-    let start = c .before .before .before .before .before in
-    let page = header-at-page (start .pre .0) _ _ (c .before .if1 .taken) in
-    (omega (arith, ap length page), (rw page, rw (page, c .run-word .ensures, add-one (start .args .at))))
+    let args = c .before .before .before .before .before .args in
+    let page = header-at-page (now (args .working)) (now (args .twins)) _ _ (c .before .if1 .taken) in
+    (omega (arith, ap length page), (rw page, rw (page, c .run-word .ensures, add-one (args .at))))
 
 returns-2 : tie.Need-returns-2
 returns-2 c =
-    let start = c .before .before .before .before .before in
-    let none = header-at-none (start .pre .0) _ _ (c .before .if1 .left) (c .if2 .taken) in
+    let args = c .before .before .before .before .before .args in
+    let none = header-at-none (now (args .working)) (now (args .twins)) _ _ (c .before .if1 .left) (c .if2 .taken) in
     (search needs, (omega (arith, ap length none), rw none))
 
 run-word-requires-2 : tie.Need-run-word-requires-2
@@ -65,8 +68,9 @@ mul-buffer-3 c = search needs
 
 slice-write-buffer-3 : tie.Need-slice-write-buffer-3
 slice-write-buffer-3 c =
-    let start = c .before .before .before .before .before .before in
-    let run = header-at-run (start .pre .0) _ _ (c .before .before .if1 .left) (c .before .if2 .left) in
+    let args = c .before .before .before .before .before .before .args in
+    let named = c .before .before .if1 .left in
+    let run = header-at-run (now (args .working)) (now (args .twins)) _ _ named (c .before .if2 .left) in
     omega (arith, ap length run)
 
 add-result-2 : tie.Need-add-result-2
@@ -77,8 +81,9 @@ same-length-2 c = search needs
 
 returns-3 : tie.Need-returns-3
 returns-3 c =
-    let start = c .before .before .before .before .before .before in
-    let run = header-at-run (start .pre .0) _ _ (c .before .before .if1 .left) (c .before .if2 .left) in
+    let args = c .before .before .before .before .before .before .args in
+    let named = c .before .before .if1 .left in
+    let run = header-at-run (now (args .working)) (now (args .twins)) _ _ named (c .before .if2 .left) in
     (omega (arith, ap length run), (rw run, rw (run, c .run-word2 .ensures)))
 
 pub write-header-spec : {M : Type 1} → statement M

@@ -1,77 +1,86 @@
+-- Rests on `copy-turn`, and on `index-same-card`: words of two cards are apart.
+use Prim.Native.Nat.{ℕ, _+_, _*_, _-_, _<_, _≤_}
+use mathlib.Core.Path.{_≡_, refl}
+use mathlib.Core.Logic.{_≢_}
+use native.Mathlib.Omega.{arith}
+use lib.ListN.{length, take, drop, length-set}
+use lib.Seq.{sets}
+use borrow.Author.Needs.{needs}
+use Rattle.memory.specs.Area.{loadRun, storeRun, copyRun}
+use Rattle.memory.proofs.Index.{index-same-card}
+use Rattle.memory.proofs.Parts.{copy-turn}
 use Rattle.memory.proofs.copy_run.Statement.{statement}
 use Rattle.memory.proofs.copy_run.Tie as tie
-use Rattle.memory.proofs.copy_run.Reads as reads
-use Rattle.memory.proofs.copy_run.Lts as lts
 
 abbrev Inv-loop : tie.InvT-loop
-Inv-loop memory₀ size from to offset n source target i₀ memory i = ?
+Inv-loop memory₀ size from to offset n source target i₀ memory i =
+    (i ≤ n) × (length memory ≡ length memory₀) × (memory ≡ sets memory₀ target (take i (drop source memory₀)))
 
 abbrev μ-loop : tie.MeasureT-loop
-μ-loop memory₀ size from to offset n source target i₀ memory i = ?
+μ-loop memory₀ size from to offset n source target i₀ memory i = n - i
 
--- src/lib.rt:136:18
 mul-source : tie.Need-mul-source Inv-loop μ-loop
-mul-source c = ?
+mul-source c = search needs
 
--- src/lib.rt:136:18
 add-source : tie.Need-add-source Inv-loop μ-loop
-add-source c = ?
+add-source c = search needs
 
--- src/lib.rt:137:18
 mul-target : tie.Need-mul-target Inv-loop μ-loop
-mul-target c = ?
+mul-target c = search needs
 
--- src/lib.rt:137:18
 add-target : tie.Need-add-target Inv-loop μ-loop
-add-target c = ?
+add-target c = search needs
 
--- src/lib.rt:139:5
 loop-holds : tie.Need-loop-holds Inv-loop μ-loop
-loop-holds c = ?
+loop-holds c = (search needs, refl, refl)
 
--- src/lib.rt:140:24
 add-v : tie.Need-add-v Inv-loop μ-loop
-add-v c = ?
+add-v c = search needs
 
--- src/lib.rt:140:17
 mul-v : tie.Need-mul-v Inv-loop μ-loop
-mul-v c = ?
+mul-v c = search needs
 
--- src/lib.rt:140:17
 slice-read-v : tie.Need-slice-read-v Inv-loop μ-loop
-slice-read-v c = ?
+slice-read-v c = search needs
 
--- src/lib.rt:141:16
 add-memory : tie.Need-add-memory Inv-loop μ-loop
-add-memory c = ?
+add-memory c = search needs
 
--- src/lib.rt:141:9
 mul-memory : tie.Need-mul-memory Inv-loop μ-loop
-mul-memory c = ?
+mul-memory c = search needs
 
--- src/lib.rt:141:9
 slice-write-memory : tie.Need-slice-write-memory Inv-loop μ-loop
-slice-write-memory c = ?
+slice-write-memory c = search needs
 
--- src/lib.rt:142:9
 add-i : tie.Need-add-i Inv-loop μ-loop
-add-i c = ?
+add-i c = search needs
 
--- src/lib.rt:139:5
 loop-less : tie.Need-loop-less Inv-loop μ-loop
-loop-less c = ?
+loop-less c = search needs
 
--- src/lib.rt:139:5
 loop-again : tie.Need-loop-again Inv-loop μ-loop
-loop-again c = ?
+loop-again c =
+    let turn = c .before .before in
+    let a = turn .before .args in
+    let l = turn .loop in
+    let source = a .from * a .size + a .offset in
+    let target = a .to * a .size + a .offset in
+    let apart : (j : ℕ) → j < l .i → source + l .i ≢ target + j =
+    λ j h e.
+    let card = index-same-card (a .size) (a .from) (a .offset + l .i) (a .to) (a .offset + j) in
+    turn .before .pre .1 .1 .0 (card (omega arith) (omega arith) (omega arith))
+    in
+    let copied = copy-turn (a .memory .now) source target (l .i) (l .inv .2) (omega arith) apart in
+    (omega arith, simp length-set (l .inv .1), copied)
 
--- src/lib.rt:128:1
 same-length : tie.Need-same-length Inv-loop μ-loop
-same-length c = ?
+same-length c = search needs
 
--- src/lib.rt:128:1
 returns : tie.Need-returns Inv-loop μ-loop
-returns c = ?
+unfolding copyRun loadRun storeRun
+returns c =
+    let end : c .before .loop .i ≡ c .before .before .args .n = omega arith in
+    rw end at (c .before .loop .inv .2)
 
 pub copy-run-spec : {M : Type 1} → statement M
 copy-run-spec =

@@ -1,45 +1,43 @@
+-- Rests on `sets-part`: the card's area is lent as a part, and a run of one word is stored in it.
+use Prim.Native.Nat.{_+_, _*_}
+use mathlib.Core.List.{[], _∷_}
+use native.Mathlib.Omega.{arith}
 use borrow.Author.Needs.{needs}
+use Rattle.memory.specs.Area.{store}
+use Rattle.memory.proofs.Parts.{sets-part}
 use Rattle.memory.proofs.store_price.Statement.{statement}
 use Rattle.memory.proofs.store_price.Tie as tie
-use Rattle.memory.proofs.store_price.Reads as reads
-use Rattle.memory.proofs.store_price.Lts as lts
-use Rattle.memory.proofs.store_price_in.Reads as store-price-in-reads
 
--- src/lib.rt:170:16
 mul-area : tie.Need-mul-area
 mul-area c = search needs
 
--- src/lib.rt:171:15
 add-end : tie.Need-add-end
 add-end c = search needs
 
--- src/lib.rt:172:20
 mul-store-price-in : tie.Need-mul-store-price-in
 mul-store-price-in c = search needs
 
--- src/lib.rt:172:20
 sub-store-price-in : tie.Need-sub-store-price-in
 sub-store-price-in c = search needs
 
--- src/lib.rt:172:20
 part-store-price-in-start : tie.Need-part-store-price-in-start
 part-store-price-in-start c = search needs
 
--- src/lib.rt:172:20
 part-store-price-in-end : tie.Need-part-store-price-in-end
 part-store-price-in-end c = search needs
 
--- src/lib.rt:172:5
 store-price-in-requires : tie.Need-store-price-in-requires
 store-price-in-requires c κs = search needs
 
--- src/lib.rt:165:1
 same-length : tie.Need-same-length
 same-length c = search needs
 
--- src/lib.rt:165:1
 returns : tie.Need-returns
-returns c = ?
+unfolding store
+returns c =
+    let a = c .before .before .before .before .before .args in
+    sets-part (a .memory .now) (a .card * a .size) (a .size) (a .page + a .word) (a .v ∷ [])
+    (c .before .before .store-price-in .ensures) (omega arith)
 
 pub store-price-spec : {M : Type 1} → statement M
 store-price-spec =

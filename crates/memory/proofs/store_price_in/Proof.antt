@@ -1,41 +1,37 @@
+-- Rests on `sets-part`: the page is lent as a part, and a run of one word is stored in it.
+use mathlib.Core.List.{[], _∷_}
+use native.Mathlib.Omega.{arith}
 use borrow.Author.Needs.{needs}
+use Rattle.memory.proofs.Parts.{sets-part}
 use Rattle.memory.proofs.store_price_in.Statement.{statement}
 use Rattle.memory.proofs.store_price_in.Tie as tie
-use Rattle.memory.proofs.store_price_in.Reads as reads
-use Rattle.memory.proofs.store_price_in.Lts as lts
-use Rattle.memory.proofs.store_in_page.Reads as store-in-page-reads
 
--- src/lib.rt:161:15
 add-end : tie.Need-add-end
 add-end c = search needs
 
--- src/lib.rt:162:19
 mul-store-in-page : tie.Need-mul-store-in-page
 mul-store-in-page c = search needs
 
--- src/lib.rt:162:19
 sub-store-in-page : tie.Need-sub-store-in-page
 sub-store-in-page c = search needs
 
--- src/lib.rt:162:19
 part-store-in-page-start : tie.Need-part-store-in-page-start
 part-store-in-page-start c = search needs
 
--- src/lib.rt:162:19
 part-store-in-page-end : tie.Need-part-store-in-page-end
 part-store-in-page-end c = search needs
 
--- src/lib.rt:162:5
 store-in-page-requires : tie.Need-store-in-page-requires
 store-in-page-requires c κs = search needs
 
--- src/lib.rt:157:1
 same-length : tie.Need-same-length
 same-length c = search needs
 
--- src/lib.rt:157:1
 returns : tie.Need-returns
-returns c = ?
+returns c =
+    let a = c .before .before .before .before .before .args in
+    sets-part (a .area .now) (a .page) 64 (a .word) (a .v ∷ [])
+    (c .before .before .store-in-page .ensures) (omega arith)
 
 pub store-price-in-spec : {M : Type 1} → statement M
 store-price-in-spec =

@@ -1,45 +1,54 @@
+-- Rests on `fill-more`, the law of a turn: the words passed are 0, the others as they were.
+use Prim.Native.Nat.{_-_, _≤_}
+use mathlib.Core.Path.{_≡_, refl, _∙_}
+use mathlib.Core.List.{_++_, append-nil}
+use native.Mathlib.Omega.{arith}
+use lib.ListN.{length, drop, replicate, length-set}
+use lib.Seq.{drop-length}
+use borrow.Author.Fill.{fill-more}
+use borrow.Author.Needs.{needs}
+use Rattle.memory.specs.Area.{zeros}
 use Rattle.memory.proofs.zero_words.Statement.{statement}
 use Rattle.memory.proofs.zero_words.Tie as tie
-use Rattle.memory.proofs.zero_words.Reads as reads
-use Rattle.memory.proofs.zero_words.Lts as lts
 
 abbrev Inv-loop : tie.InvT-loop
-Inv-loop words₀ i₀ words i = ?
+Inv-loop words₀ i₀ words i =
+    (i ≤ length words₀) × (length words ≡ length words₀) × (words ≡ replicate i 0 ++ drop i words₀)
 
 abbrev μ-loop : tie.MeasureT-loop
-μ-loop words₀ i₀ words i = ?
+μ-loop words₀ i₀ words i = length words₀ - i
 
--- src/lib.rt:48:5
 loop-holds : tie.Need-loop-holds Inv-loop μ-loop
-loop-holds c = ?
+loop-holds c = (search needs, refl, refl)
 
--- src/lib.rt:49:9
 mul-words : tie.Need-mul-words Inv-loop μ-loop
-mul-words c = ?
+mul-words c = search needs
 
--- src/lib.rt:49:9
 slice-write-words : tie.Need-slice-write-words Inv-loop μ-loop
-slice-write-words c = ?
+slice-write-words c = search needs
 
--- src/lib.rt:50:9
 add-i : tie.Need-add-i Inv-loop μ-loop
-add-i c = ?
+add-i c = search needs
 
--- src/lib.rt:48:5
 loop-less : tie.Need-loop-less Inv-loop μ-loop
-loop-less c = ?
+loop-less c = search needs
 
--- src/lib.rt:48:5
 loop-again : tie.Need-loop-again Inv-loop μ-loop
-loop-again c = ?
+loop-again c =
+    let a = c .before .before .args in
+    let l = c .before .loop in
+    (omega arith, simp length-set (l .inv .1), rw (l .inv .2) (fill-more (l .i) 0 (a .words .now) (omega arith)))
 
--- src/lib.rt:44:1
 same-length : tie.Need-same-length Inv-loop μ-loop
-same-length c = ?
+same-length c = search needs
 
--- src/lib.rt:44:1
 returns : tie.Need-returns Inv-loop μ-loop
-returns c = ?
+unfolding zeros
+returns c =
+    let a = c .before .before .args in
+    let l = c .before .loop in
+    let end : l .i ≡ length (a .words .now) = omega arith in
+    (rw end at (l .inv .2)) ∙ rw (drop-length, append-nil)
 
 pub zero-words-spec : {M : Type 1} → statement M
 zero-words-spec =
