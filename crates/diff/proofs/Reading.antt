@@ -46,7 +46,8 @@ module _ (pages : ℕ) (s : Cursor) (index w : ℕ) where
           (λ run. by-cond P (pageBehind s w) _ _ (λ _. a-fault none)
           (λ up. by-cond P (noSuchPage pages w) _ _ (λ _. a-fault none)
           (λ fits. a-page none (eqb-true _ _ k) (omega (arith, eqb-false)) (omega (arith, ltb-false))
-            (omega (arith, leb-false)))))
+          (omega (arith, leb-false)))))
+
       run-case : s .due ≡ 0 → eqb (kind w) 2 ≡ true → P (runStep s w)
       run-case none k =
           by-cond P (beforeFirstPage s) _ _ (λ _. a-fault none)
@@ -54,9 +55,10 @@ module _ (pages : ℕ) (s : Cursor) (index w : ℕ) where
           (λ some. by-cond P (pastPageEnd w) _ _ (λ _. a-fault none)
           (λ fits. by-cond P (touchesRun s w) _ _ (λ _. a-fault none)
           (λ apart. a-run none (eqb-true _ _ k) (omega (arith, eqb-false)) (omega (arith, eqb-false))
-            (omega (arith, ltb-false)) (omega (arith, ltb-false))))))
+          (omega (arith, ltb-false)) (omega (arith, ltb-false))))))
+
       end-case : s .due ≡ 0 → eqb (kind w) 15 ≡ true → P (endStep s index w)
       end-case none k =
           by-cond P (lacksRun s) _ _ (λ _. a-fault none)
           (λ run. by-cond P (ownIndex index w) _ _
-            (λ own. an-end none (eqb-true _ _ k) (omega (arith, eqb-false)) (omega (arith, eqb-true))) (λ _. a-fault none))
+          (λ own. an-end none (eqb-true _ _ k) (omega (arith, eqb-false)) (omega (arith, eqb-true))) (λ _. a-fault none))

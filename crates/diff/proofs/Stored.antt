@@ -18,7 +18,7 @@ use Rattle.diff.proofs.Derivation.{not-good, good-words, good-prices, a
 -- the number of prices is that of the words read and of those before
 module _ (pages k n : ℕ) where
   pub good-counts : (ws : List ℕ) (s : Cursor) (index : ℕ) → readFrom pages ws index s ≡ Good k n
-    → k ≡ s .prices + length (pricesFrom pages ws index s)
+      → k ≡ s .prices + length (pricesFrom pages ws index s)
   unfolding readFrom
   good-counts [] s index read = absurd (not-good read)
   good-counts (w ∷ ws) s index read =
@@ -26,10 +26,11 @@ module _ (pages k n : ℕ) where
     where
       Rest : Type 0
       Rest = (t : Cursor) → readFrom pages ws (index + 1) t ≡ Good k n
-        → k ≡ t .prices + length (pricesFrom pages ws (index + 1) t)
+          → k ≡ t .prices + length (pricesFrom pages ws (index + 1) t)
+
       go : (step : Step) → wordStep pages s index w ≡ step → WordCase pages s index w step
-        → afterStep (readFrom pages ws (index + 1)) s index step ≡ Good k n → Rest
-        → k ≡ s .prices + length (pricesFrom pages (w ∷ ws) index s)
+          → afterStep (readFrom pages ws (index + 1)) s index step ≡ Good k n → Rest
+          → k ≡ s .prices + length (pricesFrom pages (w ∷ ws) index s)
       go _ does (a-price due) read rest =
           let r = rest _ read in
           rw (prices-word pages s index w ws _ does, lt-ltb 0 (s .due) due) (omega arith)
@@ -44,7 +45,7 @@ module _ (pages k n : ℕ) where
 
   -- each price is a word, and there are at most 512 words
   pub good-few : (ws : List ℕ) (s : Cursor) (index : ℕ) → readFrom pages ws index s ≡ Good k n → s .prices ≤ index
-    → index ≤ mostWords → (k < n) × (n ≤ mostWords)
+      → index ≤ mostWords → (k < n) × (n ≤ mostWords)
   unfolding readFrom
   good-few [] s index read few low = absurd (not-good read)
   good-few (w ∷ ws) s index read few low =
@@ -52,11 +53,13 @@ module _ (pages k n : ℕ) where
     where
       within : index ≡ mostWords → ⊥
       within = before-limit pages k n w ws s index read
+
       Rest : Type 0
       Rest = (t : Cursor) → readFrom pages ws (index + 1) t ≡ Good k n → t .prices ≤ index + 1 → index + 1 ≤ mostWords
-        → (k < n) × (n ≤ mostWords)
+          → (k < n) × (n ≤ mostWords)
+
       go : (step : Step) → WordCase pages s index w step → afterStep (readFrom pages ws (index + 1)) s index step ≡ Good k n
-        → Rest → (k < n) × (n ≤ mostWords)
+          → Rest → (k < n) × (n ≤ mostWords)
       go _ (a-price due) read rest = rest _ read (omega arith) (omega (arith, within))
       go _ (a-page _ _ _ _ _) read rest = rest _ read (omega arith) (omega (arith, within))
       go _ (a-run _ _ _ _ _ _) read rest = rest _ read (omega arith) (omega (arith, within))
@@ -71,8 +74,8 @@ OnPages pages (p ∷ ps) = (p .page < pages) × (p .word < 32) × OnPages pages 
 
 module _ (pages : ℕ) where
   from-state : (ws : List ℕ) (s : Cursor) (index : ℕ) → s .word + s .due ≤ 32
-    → (0 < s .due → (0 < s .next) × (s .next ≤ pages)) → (0 < s .next → s .next ≤ pages)
-    → OnPages pages (pricesFrom pages ws index s)
+      → (0 < s .due → (0 < s .next) × (s .next ≤ pages)) → (0 < s .next → s .next ≤ pages)
+      → OnPages pages (pricesFrom pages ws index s)
   unfolding pricesFrom
   from-state [] s index within run named = tt
   from-state (w ∷ ws) s index within run named =
@@ -80,9 +83,10 @@ module _ (pages : ℕ) where
     where
       Rest : Type 0
       Rest = (t : Cursor) → t .word + t .due ≤ 32 → (0 < t .due → (0 < t .next) × (t .next ≤ pages))
-        → (0 < t .next → t .next ≤ pages) → OnPages pages (pricesFrom pages ws (index + 1) t)
+          → (0 < t .next → t .next ≤ pages) → OnPages pages (pricesFrom pages ws (index + 1) t)
+
       go : (step : Step) → wordStep pages s index w ≡ step → WordCase pages s index w step → Rest
-        → OnPages pages (pricesFrom pages (w ∷ ws) index s)
+          → OnPages pages (pricesFrom pages (w ∷ ws) index s)
       go _ does (a-price due) rest =
           let r = run due in
           rw (prices-word pages s index w ws _ does, lt-ltb 0 (s .due) due)
@@ -103,7 +107,7 @@ module _ (pages : ℕ) where
   prices-on-pages ws = from-state ws start 0 (omega arith) (λ due. absurd (omega arith)) (λ page. absurd (omega arith))
 
 pub price-on-page : (pages : ℕ) (ps : List Price) (i : ℕ) (none : Price) → OnPages pages ps → i < length ps
-  → (getD ps i none .page < pages) × (getD ps i none .word < 32)
+    → (getD ps i none .page < pages) × (getD ps i none .word < 32)
 price-on-page pages [] i none on within = absurd (omega arith)
 price-on-page pages (p ∷ ps) zero none on within = (on .0, on .1)
 price-on-page pages (p ∷ ps) (suc i) none on within = price-on-page pages ps i none (on .2) (omega arith)

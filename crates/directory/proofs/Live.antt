@@ -2,16 +2,15 @@
 use Prim.Native.Nat.{ℕ, zero, suc, _+_, _-_, _<_, _≤_}
 use mathlib.Core.Path.{_≡_, refl, sym, _∙_}
 use mathlib.Core.List.{List, [], _∷_}
-use mathlib.Core.Bool.{Bool, true, false, cond, true≢false}
+use mathlib.Core.Bool.{Bool, true, false, true≢false}
 use mathlib.Core.Logic.{_≢_}
 use native.Mathlib.Decide.{decLt, ℕ-discrete}
-use native.Mathlib.Nat.{add-zero}
-use native.Mathlib.Numerals.{add-one}
 use native.Mathlib.Omega.{arith}
 use lib.ListN.{length, getD, set, List·getD-eq-default}
 use lib.Seq.{getD-set-other}
 use borrow.Author.Tests.{lt-ltb, le-ltb}
-use Rattle.directory.specs.Live.{seekLive, firstLive, nextLive}
+use Rattle.laws.proofs.Search.{Stops, lowest-stops, lowest-all-fail}
+use Rattle.directory.specs.Live.{liveAt, firstLive, nextLive}
 
 -- ---- one mark
 
@@ -39,75 +38,16 @@ dead-stays-dead marks f c dead =
 
 -- ---- the search
 
-module _ (marks : List Bool) (card cards : ℕ) where
-  pub first-live-end : cards ≤ card → firstLive marks card cards ≡ card
-  unfolding seekLive
-  first-live-end h = let none : cards - card ≡ 0 = omega arith in rw none
-
-  pub first-live-hit : card < cards → LiveAt marks card → firstLive marks card cards ≡ card
-  unfolding seekLive
-  first-live-hit h live = let one : cards - card ≡ suc (cards - (card + 1)) = omega arith in rw (one, live)
-
-  pub first-live-skip : card < cards → DeadAt marks card
-      → firstLive marks (card + 1) cards ≡ firstLive marks card cards
-  unfolding seekLive
-  first-live-skip h dead = let one : cards - card ≡ suc (cards - (card + 1)) = omega arith in rw (one, dead, add-one)
-
 -- no card past the marks is live
-pub seek-live-past-marks : (marks : List Bool) (card count : ℕ) → length marks ≤ card
-    → seekLive marks card count ≡ card + count
-unfolding seekLive
-seek-live-past-marks marks card zero h = sym (add-zero card)
-seek-live-past-marks marks card (suc count) h =
-    rw (List·getD-eq-default marks false h) (seek-live-past-marks marks (suc card) count (omega arith) ∙ omega arith)
-
 pub first-live-past-marks : (marks : List Bool) (card cards : ℕ) → length marks ≤ card → card ≤ cards
     → firstLive marks card cards ≡ cards
-first-live-past-marks marks card cards h g = seek-live-past-marks marks card (cards - card) h ∙ omega arith
-
--- where a search of `count` cards from `card` on stops
-pub record Stops (marks : List Bool) (card count stop : ℕ) : Type 0 where
-  pub from : card ≤ stop
-  pub upto : stop ≤ card + count
-  pub hit : stop < card + count → LiveAt marks stop
-  pub missed : (d : ℕ) → card ≤ d → d < stop → DeadAt marks d
-
--- one card more, in front
-stops-more : (marks : List Bool) (card count stop : ℕ) (mark : Bool) → getD marks card false ≡ mark
-    → Stops marks (suc card) count stop → Stops marks card (suc count) (cond mark card stop)
-stops-more marks card count stop true live rest =
-    record {
-      from = omega arith;
-      upto = omega arith;
-      hit = λ _. live;
-      missed = λ d a b. absurd (omega arith);
-    }
-stops-more marks card count stop false dead rest =
-    record {
-      from = omega arith;
-      upto = omega arith;
-      hit = λ h. rest .hit (omega arith);
-      missed = λ d a b. elim (ℕ-discrete card d) [
-        | yes same ↦ rw (sym same) dead
-        | no other ↦ rest .missed d (omega arith) b
-      ];
-    }
-
-pub seek-live-stops : (marks : List Bool) (card count : ℕ) → Stops marks card count (seekLive marks card count)
-unfolding seekLive
-seek-live-stops marks card zero =
-    record {
-      from = omega arith;
-      upto = omega arith;
-      hit = λ h. absurd (omega arith);
-      missed = λ d a b. absurd (omega arith);
-    }
-seek-live-stops marks card (suc count) =
-    stops-more marks card count _ _ refl (seek-live-stops marks (suc card) count)
+first-live-past-marks marks card cards past within =
+    lowest-all-fail (liveAt marks) card (cards - card) (λ d above. List·getD-eq-default marks false {n = d} (omega arith))
+    ∙ omega arith
 
 pub first-live-stops : (marks : List Bool) (from cards : ℕ)
-    → Stops marks from (cards - from) (firstLive marks from cards)
-first-live-stops marks from cards = seek-live-stops marks from (cards - from)
+    → Stops (liveAt marks) from (cards - from) (firstLive marks from cards)
+first-live-stops marks from cards = lowest-stops (liveAt marks) from (cards - from)
 
 -- ---- the next live card, by its properties
 

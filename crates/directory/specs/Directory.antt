@@ -5,7 +5,7 @@ use mathlib.Core.List.{List, [], _∷_}
 use mathlib.Core.Bool.{Bool, true, false, cond}
 use lib.ListN.{getD, set, replicate}
 use lib.Dec.{ltb, eqb}
-use Rattle.directory.specs.Live.{nextLive}
+use Rattle.directory.specs.Live.{liveAt, nextLive}
 pub use Rattle.directory.specs.declared.Directory.{Directory}
 pub use Rattle.directory.specs.declared.Status.{Status}
 use Rattle.directory.specs.declared.Status.the-variants.{Running, Awaiting}
@@ -23,10 +23,6 @@ directoryOf cards pages live primary secondary status =
     }
 
 -- ---- what it says
-
--- whether card c is live; no card past the marks is
-abbrev pub liveAt : List Bool → ℕ → Bool
-liveAt marks c = getD marks c false
 
 abbrev pub isLive : Directory → ℕ → Bool
 isLive d c = liveAt (d .live) c

@@ -1,19 +1,19 @@
 -- The next live card (document 01, "Cards, pages, memory"). Marks: for each card whether it is live.
 -- Assumes nothing: these are definitions.
-use Prim.Native.Nat.{ℕ, zero, suc, _+_, _-_}
+use Prim.Native.Nat.{ℕ, _+_, _-_}
 use mathlib.Core.List.{List}
 use mathlib.Core.Bool.{Bool, false, cond}
 use lib.ListN.{getD}
 use lib.Dec.{ltb}
+use Rattle.laws.specs.Search.{lowestFrom}
 
--- the first live card from `card` on, looking at `count` cards; card + count if none is
-unfoldable pub seekLive : List Bool → ℕ → ℕ → ℕ
-seekLive marks card zero = card
-seekLive marks card (suc count) = cond (getD marks card false) card (seekLive marks (suc card) count)
+-- whether card c is live; no card past the marks is
+abbrev pub liveAt : List Bool → ℕ → Bool
+liveAt marks c = getD marks c false
 
--- the first live card at or above `from` and below `cards`, or `cards` if there is none
+-- the first live card at or above `from` and below `cards`; `cards` if there is none
 abbrev pub firstLive : List Bool → ℕ → ℕ → ℕ
-firstLive marks from cards = seekLive marks from (cards - from)
+firstLive marks from cards = lowestFrom (liveAt marks) from (cards - from)
 
 -- "The next live card after c is the first live one going up from c + 1, round the end": the end is the number
 -- of cards, marks past it are never read. A card that alone is live follows itself; none live: the number of cards.

@@ -13,7 +13,8 @@ use Rattle.memory.specs.Area.{load}
 use Rattle.directory.specs.declared.Directory.{Directory}
 use Rattle.directory.specs.declared.Status.{Status}
 use Rattle.directory.specs.declared.Status.the-variants.{Running, Awaiting}
-use Rattle.directory.specs.Directory.{liveAt, isLive, primaryOf, secondaryOf, awaitsCard}
+use Rattle.directory.specs.Live.{liveAt}
+use Rattle.directory.specs.Directory.{isLive, primaryOf, secondaryOf, awaitsCard}
 use Rattle.diff.specs.declared.Verdict.{Verdict}
 use Rattle.diff.specs.declared.Verdict.the-variants.{Good, Faulty}
 use Rattle.diff.specs.Reading.{readDiff}
@@ -75,14 +76,14 @@ unfoldable pub badCard : List Bool → ℕ → List ℕ → ℕ → Bool
 badCard marks pages m c =
     liveAt marks c
     && (ltb 1 (load (areaSize pages) m c releaseOpen)
-      || (eqb (load (areaSize pages) m c releaseOpen) 1
-        && badRelease (readDiff pages (openList (areaSize pages) m c)) (stepsOf (areaSize pages) m c)))
+    || (eqb (load (areaSize pages) m c releaseOpen) 1
+    && badRelease (readDiff pages (openList (areaSize pages) m c)) (stepsOf (areaSize pages) m c)))
 
 unfoldable pub unfitRack : Directory → List ℕ → Bool
 unfitRack d m =
     fewLive (d .live) (d .cards)
     || (someBelow (badPage d) (d .pages)
-      || (badStatus (d .cards) (d .live) (d .status) || someBelow (badCard (d .live) (d .pages) m) (d .cards)))
+    || (badStatus (d .cards) (d .live) (d .status) || someBelow (badCard (d .live) (d .pages) m) (d .cards)))
 
 -- ---- 11, and the checks that calls share
 

@@ -49,7 +49,7 @@ away (ask-desk card) out = out
 pub record Undisturbed (d : Directory) (out : ℕ → Bool) (left found : List ℕ) : Type 0 where
   pub same-length : length found ≡ length left
   pub same-words : (card offset : ℕ) → card < d .cards → offset < sizeOf d → out card ≡ false
-    → load (sizeOf d) found card offset ≡ load (sizeOf d) left card offset
+      → load (sizeOf d) found card offset ≡ load (sizeOf d) left card offset
 
 -- a call, and the memory that it finds
 pub record Visit : Type 0 where

@@ -26,14 +26,14 @@ unfoldable pub inMotion : List Bool → ℕ → List ℕ → ℕ → ℕ → Boo
 inMotion marks pages m page c =
     isOpen marks (areaSize pages) m c
     && (leb (countsAt (length (openPrices pages m c))) (stepsOf (areaSize pages) m c)
-      && namesPage (openPrices pages m c) page)
+    && namesPage (openPrices pages m c) page)
 
 abbrev pub fetchChecks : Directory → List ℕ → ℕ → ℕ → List Check
 fetchChecks d m page room =
     runningChecks d m
     ++ check (leb (d .pages) page) noPage
     ∷ checkAt (someBelow (inMotion (d .live) (d .pages) m page) (d .cards)) pageInMotion
-      (lowest (inMotion (d .live) (d .pages) m page) (d .cards))
+    (lowest (inMotion (d .live) (d .pages) m page) (d .cards))
     ∷ check (not (eqb room pageSize)) wrongBuffer
     ∷ []
 

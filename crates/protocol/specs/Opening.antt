@@ -38,7 +38,7 @@ openingChecks d m c number list =
     ∷ check (ltb (ownRelease (sizeOf d) m c .number + 1) number) numberAhead
     ∷ checkAt (ltb 0 (checkDiff (d .pages) list .number)) faultyList (checkDiff (d .pages) list .value)
     ∷ checkAt (someBelow (sharesWith (d .live) (d .pages) m c list) (d .cards)) wordInUse
-      (lowest (sharesWith (d .live) (d .pages) m c list) (d .cards))
+    (lowest (sharesWith (d .live) (d .pages) m c list) (d .cards))
     ∷ []
 
 -- "copies list, desk and number to the card's own area and sets steps to 0"

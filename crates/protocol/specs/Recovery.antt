@@ -121,10 +121,13 @@ unfoldable pub recovery : Directory → List ℕ → Result
 recovery d m =
     let f : ℕ = awaitedCard (d .status) in
     let o : Outcome =
-          firstRefusal (fittingChecks d m ++ check (not (awaitsRecovery (d .status))) noneAwaited ∷ [])
-            (failedRelease d f m .number) in
+    firstRefusal (fittingChecks d m ++ check (not (awaitsRecovery (d .status))) noneAwaited ∷ [])
+    (failedRelease d f m .number) in
     resultOf o
     (record {
-      outcome = o; directory = recoveredDirectory d f; memory = recoveredMemory d f m; words = failedRelease d f m .desk
+      outcome = o;
+      directory = recoveredDirectory d f;
+      memory = recoveredMemory d f m;
+      words = failedRelease d f m .desk;
     })
     d m (zeros deskSize)

@@ -10,7 +10,8 @@ use Rattle.memory.specs.Layout.{releaseDesk, releaseSize, recordStamp, recordDo
 use Rattle.memory.specs.Layout.{listStart, listSize, pageStart, tentativeHalf, committedHalf}
 use Rattle.memory.specs.Area.{load, store, loadRun, storeRun, clearRun}
 use Rattle.directory.specs.declared.Directory.{Directory}
-use Rattle.directory.specs.Directory.{liveAt, primaryOf, secondaryOf}
+use Rattle.directory.specs.Live.{liveAt}
+use Rattle.directory.specs.Directory.{primaryOf, secondaryOf}
 use Rattle.diff.specs.declared.Price.{Price}
 use Rattle.diff.specs.Prices.{pricesOf}
 

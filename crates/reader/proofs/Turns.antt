@@ -28,8 +28,8 @@ module _ (pages : ℕ) (list : List ℕ) (index : ℕ) (s : Cursor) where
   read-long within full = rw (drop-cons list index 0 within) (simp (eq-eqb index 512 full))
 
   pub read-turn : (step : Step) → step ≡ wordStep pages s index (getD list index 0) → index < length list
-    → (index ≡ 512 → ⊥)
-    → readFrom pages (drop index list) index s ≡ afterStep (readFrom pages (drop (index + 1) list) (index + 1)) s index step
+      → (index ≡ 512 → ⊥)
+      → readFrom pages (drop index list) index s ≡ afterStep (readFrom pages (drop (index + 1) list) (index + 1)) s index step
   unfolding readFrom
   read-turn step does within few = rw (does, drop-cons list index 0 within, add-one) (simp (ne-eqb index 512 few))
 
@@ -39,16 +39,16 @@ module _ (pages : ℕ) (list : List ℕ) (index : ℕ) (s : Cursor) where
   prices-end end = rw (drop-of-length-le list end)
 
   pub prices-due : index < length list → 0 < s .due
-    → pricesFrom pages (drop index list) index s
-    ≡ pricedWord s (getD list index 0) ∷ pricesFrom pages (drop (index + 1) list) (index + 1) (pastPrice s)
+      → pricesFrom pages (drop index list) index s
+      ≡ pricedWord s (getD list index 0) ∷ pricesFrom pages (drop (index + 1) list) (index + 1) (pastPrice s)
   unfolding pricesFrom
   prices-due within due =
       rw (drop-cons list index 0 within, add-one, step-price pages s index (getD list index 0) due)
       (simp (lt-ltb 0 (s .due) due))
 
   pub prices-turn : (step : Step) → step ≡ wordStep pages s index (getD list index 0) → index < length list
-    → s .due ≤ 0
-    → pricesFrom pages (drop index list) index s ≡ pricesAfter (pricesFrom pages (drop (index + 1) list) (index + 1)) step
+      → s .due ≤ 0
+      → pricesFrom pages (drop index list) index s ≡ pricesAfter (pricesFrom pages (drop (index + 1) list) (index + 1)) step
   unfolding pricesFrom
   prices-turn step does within idle =
       rw (does, drop-cons list index 0 within, add-one) (simp (le-ltb 0 (s .due) idle))

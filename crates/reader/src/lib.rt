@@ -10,7 +10,10 @@ ghost use Rattle.diff.specs.Prices.{pricesOf};
 ghost use Rattle.reader.specs.Steady.{Steady};
 ghost use Rattle.reader.specs.Found.{nthPrice};
 use answer::Answer;
-use diff::{Cursor, Price, Step, Verdict};
+use diff::Cursor;
+use diff::Price;
+use diff::Step;
+use diff::Verdict;
 
 // Before the first word.
 pub fn cursor() -> Cursor
@@ -147,9 +150,7 @@ pub fn read(list: &[u32], pages: u32) -> Verdict
 // Reads the list of the open release in a card's area, to its end word.
 pub fn read_stored(memory: &[u32], size: usize, card: usize, pages: u32) -> Verdict
     requires { ⌜ (676 ≤ size) × AreaIn (length (now memory)) size card ⌝ }
-    ensures {
-        λ r. ⌜ r ≡ readDiff pages (loadRun size (now (memory .entry)) card listStart listSize) ⌝
-    }
+    ensures { λ r. ⌜ r ≡ readDiff pages (loadRun size (now (memory .entry)) card listStart listSize) ⌝ }
 {
     let from = card * size + memory::LIST_START;
     let end = from + memory::LIST_SIZE;
@@ -220,10 +221,8 @@ pub fn nth_price(list: &[u32], pages: u32, n: u32) -> Found
 // The price numbered `n` of the list of the open release in a card's area.
 pub fn nth_stored(memory: &[u32], size: usize, card: usize, pages: u32, n: u32) -> Found
     requires { ⌜ (676 ≤ size) × AreaIn (length (now memory)) size card ⌝ }
-    ensures {
-        λ r. ⌜ r
-        ≡ nthPrice (pricesOf pages (loadRun size (now (memory .entry)) card listStart listSize)) n ⌝
-    }
+    ensures { λ r. ⌜ r
+        ≡ nthPrice (pricesOf pages (loadRun size (now (memory .entry)) card listStart listSize)) n ⌝ }
 {
     let from = card * size + memory::LIST_START;
     let end = from + memory::LIST_SIZE;

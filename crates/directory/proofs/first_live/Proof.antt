@@ -4,7 +4,8 @@ use mathlib.Core.Path.{_≡_, refl, sym, _∙_}
 use native.Mathlib.Omega.{arith}
 use borrow.Author.Needs.{needs}
 use Rattle.directory.specs.Live.{firstLive}
-use Rattle.directory.proofs.Live.{first-live-end, first-live-hit, first-live-skip, first-live-past-marks}
+use Rattle.directory.proofs.Live.{first-live-past-marks}
+use Rattle.laws.proofs.Search.{lowest-end, lowest-hit, lowest-skip}
 use Rattle.directory.proofs.first_live.Statement.{statement}
 use Rattle.directory.proofs.first_live.Tie as tie
 
@@ -21,7 +22,7 @@ cast-at : tie.Need-cast-at Inv-loop μ-loop
 cast-at c = omega arith
 
 returns : tie.Need-returns Inv-loop μ-loop
-returns c = sym (first-live-past-marks _ _ _ (c .if1 .taken) (omega arith)) ∙ c .before .before .loop .inv .1
+returns c = sym (first-live-past-marks (c .before .before .before .args .marks .now) _ _ (c .if1 .taken) (omega arith)) ∙ c .before .before .loop .inv .1
 
 shared-slice-read-if2 : tie.Need-shared-slice-read-if2 Inv-loop μ-loop
 shared-slice-read-if2 c = search needs
@@ -29,7 +30,7 @@ shared-slice-read-if2 c = search needs
 returns-2 : tie.Need-returns-2 Inv-loop μ-loop
 returns-2 c =
     let turn = c .before .before .before in
-    sym (first-live-hit _ _ _ (turn .loop-test .taken) (c .if2 .taken)) ∙ turn .before .loop .inv .1
+    sym (lowest-hit _ _ _ (turn .loop-test .taken) (c .if2 .taken)) ∙ turn .before .loop .inv .1
 
 add-card : tie.Need-add-card Inv-loop μ-loop
 add-card c = omega arith
@@ -40,12 +41,12 @@ loop-less c = omega arith
 loop-again : tie.Need-loop-again Inv-loop μ-loop
 loop-again c =
     let turn = c .before .before .before in
-    (omega arith, first-live-skip _ _ _ (turn .loop-test .taken) (c .if2 .left) ∙ turn .before .loop .inv .1)
+    (omega arith, lowest-skip _ _ _ (turn .loop-test .taken) (c .if2 .left) ∙ turn .before .loop .inv .1)
 
 returns-3 : tie.Need-returns-3 Inv-loop μ-loop
 returns-3 c =
     let end : c .before .loop .card ≡ c .before .before .args .cards = omega arith in
-    sym end ∙ sym (first-live-end _ _ _ (c .loop-test .left)) ∙ c .before .loop .inv .1
+    sym end ∙ sym (lowest-end _ _ _ (c .loop-test .left)) ∙ c .before .loop .inv .1
 
 pub first-live-spec : {M : Type 1} → statement M
 first-live-spec =

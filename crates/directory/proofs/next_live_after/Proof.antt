@@ -4,8 +4,9 @@ use mathlib.Core.Path.{sym, _∙_}
 use mathlib.Core.Logic.{⊎-elim}
 use native.Mathlib.Omega.{arith}
 use borrow.Author.Needs.{needs}
-use Rattle.directory.specs.Live.{firstLive}
-use Rattle.directory.proofs.Live.{first-live-end, next-live-up, next-live-round}
+use Rattle.directory.specs.Live.{liveAt, firstLive}
+use Rattle.directory.proofs.Live.{next-live-up, next-live-round}
+use Rattle.laws.proofs.Search.{lowest-end}
 use Rattle.directory.proofs.next_live_after.Statement.{statement}
 use Rattle.directory.proofs.next_live_after.Tie as tie
 
@@ -16,7 +17,7 @@ first-live-requires : tie.Need-first-live-requires
 first-live-requires c κs = search needs
 
 returns : tie.Need-returns
-returns c = c .before .first-live .ensures ∙ sym (next-live-up _ _ _ (omega arith))
+returns c = c .before .first-live .ensures ∙ sym (next-live-up (c .before .before .before .before .args .marks .now) _ _ (omega arith))
 
 first-live-requires-2 : tie.Need-first-live-requires-2
 first-live-requires-2 c κs = search needs
@@ -27,10 +28,10 @@ returns-2 c =
     let round : a .cards ≤ firstLive (a .marks .now) (a .card + 1) (a .cards) =
     ⊎-elim
     (λ up. omega arith)
-    (λ past. omega (arith, first-live-end (a .marks .now) (a .card + 1) (a .cards) (omega arith)))
+    (λ past. omega (arith, lowest-end (liveAt (a .marks .now)) (a .card + 1) (a .cards) (omega arith)))
     (c .before .if1 .came)
     in
-    c .first-live2 .ensures ∙ sym (next-live-round _ _ _ round)
+    c .first-live2 .ensures ∙ sym (next-live-round (a .marks .now) _ _ round)
 
 pub next-live-after-spec : {M : Type 1} → statement M
 next-live-after-spec =

@@ -58,10 +58,12 @@ loop-again : tie.Need-loop-again Inv-loop μ-loop
 loop-again c =
     let at = c .before .before .before .before .before .before .loop in
     let turn = prices-due _ _ _ (at .s) (c .before .before .before .before .before .loop-test .taken) (c .before .before .if1 .taken) in
-    rw (c .price-read .ensures)
-    (search needs, record { within = search needs; one = search needs; few = search needs; named = search needs },
+    rw (c .price-read .ensures) (
       search needs,
-      sym (nth-later _ _ (at .left) (c .before .if2 .left)) ∙ sym (ap (λ ps. nthPrice ps (at .left)) turn) ∙ at .inv .3)
+      record { within = search needs; one = search needs; few = search needs; named = search needs },
+      search needs,
+      sym (nth-later _ _ (at .left) (c .before .if2 .left)) ∙ sym (ap (λ ps. nthPrice ps (at .left)) turn) ∙ at .inv .3,
+    )
 
 read-word-requires : tie.Need-read-word-requires Inv-loop μ-loop
 read-word-requires c κs = search needs
@@ -80,9 +82,12 @@ loop-again-2 c =
     let at = c .before .before .before .before .before .before .before .before .loop in
     let does = sym (c .before .t .given .1) ∙ c .before .before .before .read-word .ensures in
     let kept = word-kept _ _ _ _ (at .inv .1) _ does in
-    let turn = prices-turn _ _ _ (at .s) _ does (c .before .before .before .before .before .before .before .loop-test .taken) (c .before .before .before .before .if1 .left) in
-    (search needs, record { within = kept .0; one = kept .1; few = search needs; named = kept .3 }, search needs,
-      sym (ap (λ ps. nthPrice ps (at .left)) turn) ∙ at .inv .3)
+    let turn = prices-turn _ _ _ (at .s) _ does (c .before .before .before .before .before .before .before .loop-test .taken) (c .before .before .before .before .if1 .left) in (
+      search needs,
+      record { within = kept .0; one = kept .1; few = search needs; named = kept .3 },
+      search needs,
+      sym (ap (λ ps. nthPrice ps (at .left)) turn) ∙ at .inv .3,
+    )
 
 enum-told : tie.Need-enum-told Inv-loop μ-loop
 enum-told c = search needs

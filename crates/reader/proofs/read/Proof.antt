@@ -52,9 +52,13 @@ loop-again : tie.Need-loop-again Inv-loop μ-loop
 loop-again c =
     let at = c .before .before .before .before .before .before .before .loop in
     let does = sym (c .before .t .given .1) ∙ c .before .before .before .read-word .ensures in
-    let kept = word-kept _ _ _ _ (at .inv .2) _ does in
-    (search needs, search needs, record { within = kept .0; one = kept .1; few = search needs; named = kept .3 }, search needs,
-      sym (read-turn _ _ _ _ _ does (c .before .before .before .before .before .before .loop-test .taken) (c .before .before .before .before .before .if1 .left)) ∙ at .inv .4)
+    let kept = word-kept _ _ _ _ (at .inv .2) _ does in (
+      search needs,
+      search needs,
+      record { within = kept .0; one = kept .1; few = search needs; named = kept .3 },
+      search needs,
+      sym (read-turn _ _ _ _ _ does (c .before .before .before .before .before .before .loop-test .taken) (c .before .before .before .before .before .if1 .left)) ∙ at .inv .4,
+    )
 
 enum-told : tie.Need-enum-told Inv-loop μ-loop
 enum-told c = search needs

@@ -41,9 +41,12 @@ returns-6 : tie.Need-returns-6
 unfolding wordStep
 returns-6 c =
     let rest = c .match .rest in
-    simp
-      (le-ltb _ _ (c .before .if1 .left), ne-eqb _ _ (rest .0 .0 .0 .1), ne-eqb _ _ (rest .0 .0 .1),
-        ne-eqb _ _ (rest .0 .1))
+    simp (
+      le-ltb _ _ (c .before .if1 .left),
+      ne-eqb _ _ (rest .0 .0 .0 .1),
+      ne-eqb _ _ (rest .0 .0 .1),
+      ne-eqb _ _ (rest .0 .1),
+    )
 
 pub read-word-spec : {M : Type 1} → statement M
 read-word-spec =

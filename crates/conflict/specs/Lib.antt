@@ -1,2 +1,0 @@
--- What the contracts of the searches cite beside the definitions of `protocol`.
-pub mod Named

@@ -1,0 +1,115 @@
+-- Laws of searches and changes over numbers below a bound.
+use Prim.Native.Nat.{ℕ, zero, suc, _+_, _-_, _<_, _≤_}
+use mathlib.Core.Path.{_≡_, refl, sym, ap, _∙_}
+use mathlib.Core.Bool.{Bool, true, false, cond, true≢false}
+use native.Mathlib.Decide.{ℕ-discrete, decLt}
+use native.Mathlib.Numerals.{add-one}
+use native.Mathlib.Omega.{arith}
+use borrow.Author.Tests.{ltb-true, ltb-false, lt-ltb, le-ltb}
+use lib.Dec.{ltb}
+use Rattle.laws.specs.Search.{lowestFrom, lowest, someBelow, countBelow, inTurn}
+
+-- ---- one turn of a search from i on, below n
+
+module _ (test : ℕ → Bool) (i n : ℕ) where
+  pub lowest-end : n ≤ i → lowestFrom test i (n - i) ≡ i
+  unfolding lowestFrom
+  lowest-end past = let none : n - i ≡ 0 = omega arith in rw none
+
+  pub lowest-hit : i < n → test i ≡ true → lowestFrom test i (n - i) ≡ i
+  unfolding lowestFrom
+  lowest-hit below pass = let one : n - i ≡ suc (n - (i + 1)) = omega arith in rw (one, pass)
+
+  pub lowest-skip : i < n → test i ≡ false → lowestFrom test (i + 1) (n - (i + 1)) ≡ lowestFrom test i (n - i)
+  unfolding lowestFrom
+  lowest-skip below fail = let one : n - i ≡ suc (n - (i + 1)) = omega arith in rw (one, fail, add-one)
+
+-- ---- where a search of n numbers from i on stops
+
+pub record Stops (test : ℕ → Bool) (i n stop : ℕ) : Type 0 where
+  pub from : i ≤ stop
+  pub upto : stop ≤ i + n
+  pub hit : stop < i + n → test stop ≡ true
+  pub missed : (j : ℕ) → i ≤ j → j < stop → test j ≡ false
+
+-- one number more, in front
+stops-more : (test : ℕ → Bool) (i n stop : ℕ) (pass : Bool) → test i ≡ pass → Stops test (suc i) n stop
+    → Stops test i (suc n) (cond pass i stop)
+stops-more test i n stop true pass rest =
+    record { from = omega arith; upto = omega arith; hit = λ _. pass; missed = λ j a b. absurd (omega arith) }
+stops-more test i n stop false fail rest =
+    record {
+      from = omega arith;
+      upto = omega arith;
+      hit = λ h. rest .hit (omega arith);
+      missed = λ j a b. elim (ℕ-discrete i j) [
+        | yes same ↦ rw (sym same) fail
+        | no other ↦ rest .missed j (omega arith) b
+      ];
+    }
+
+pub lowest-stops : (test : ℕ → Bool) (i n : ℕ) → Stops test i n (lowestFrom test i n)
+unfolding lowestFrom
+lowest-stops test i zero =
+    record {
+      from = omega arith;
+      upto = omega arith;
+      hit = λ h. absurd (omega arith);
+      missed = λ j a b. absurd (omega arith);
+    }
+lowest-stops test i (suc n) = stops-more test i n _ _ refl (lowest-stops test (suc i) n)
+
+-- nothing passes from a number on
+pub lowest-all-fail : (test : ℕ → Bool) (i n : ℕ) → ((j : ℕ) → i ≤ j → test j ≡ false) → lowestFrom test i n ≡ i + n
+lowest-all-fail test i n fail =
+    let stops = lowest-stops test i n in
+    elim (decLt (lowestFrom test i n) (i + n)) [
+      | yes below ↦ absurd (true≢false (sym (stops .hit below) ∙ fail _ (stops .from)))
+      | no past ↦ omega arith
+    ]
+
+-- ---- whether some number below n passes
+
+module _ (test : ℕ → Bool) (n : ℕ) where
+  pub none-below : someBelow test n ≡ false → (i : ℕ) → i < n → test i ≡ false
+  none-below none i below =
+      let stops = lowest-stops test 0 n in
+      stops .missed i (omega arith) (omega (arith, ltb-false))
+
+  pub some-below : (i : ℕ) → i < n → test i ≡ true → someBelow test n ≡ true
+  some-below i below pass =
+      let stops = lowest-stops test 0 n in
+      elim (decLt (lowest test n) n) [
+        | yes found ↦ lt-ltb (lowest test n) n found
+        | no past ↦ absurd (true≢false (sym pass ∙ stops .missed i (omega arith) (omega arith)))
+      ]
+
+-- ---- how many pass
+
+module _ (test : ℕ → Bool) (n : ℕ) where
+  pub count-more : countBelow test (n + 1) ≡ countBelow test n + cond (test n) 1 0
+  unfolding countBelow
+  count-more = rw add-one
+
+  pub count-bound : countBelow test n ≤ n
+  unfolding countBelow
+  count-bound = go n
+    where
+      one : (b : Bool) → cond b 1 0 ≤ 1
+      one true = omega arith
+      one false = omega arith
+
+      go : (n : ℕ) → countBelow test n ≤ n
+      go zero = omega arith
+      go (suc n) = omega (arith, go n, one (test n))
+
+-- ---- a change in turn
+
+pub in-turn-none : {A : Type 0} (change : ℕ → A → A) (a : A) → inTurn change 0 a ≡ a
+unfolding inTurn
+in-turn-none change a = refl
+
+pub in-turn-more : {A : Type 0} (change : ℕ → A → A) (n : ℕ) (a : A)
+    → inTurn change (n + 1) a ≡ change n (inTurn change n a)
+unfolding inTurn
+in-turn-more change n a = rw add-one
