@@ -3,7 +3,7 @@ use Prim.Native.Nat.{ℕ, zero, suc, _+_, _≤_, _<_}
 use mathlib.Core.Path.{_≡_, refl, sym, ap, _∙_}
 use mathlib.Core.Logic.{_≢_}
 use mathlib.Core.List.{List, [], _∷_}
-use mathlib.Core.Bool.{Bool, true, false, cond}
+use mathlib.Core.Bool.{Bool, true, false, cond, true≢false}
 use native.Mathlib.Omega.{arith}
 use native.Mathlib.Decide.{ℕ-discrete}
 use borrow.Author.Tests.{eq-eqb, ne-eqb}
@@ -50,6 +50,17 @@ module _ (p : Price) (ps : List Price) (label price : ℕ) where
 pub laid-none : (label price : ℕ) → laidAt [] label price ≡ price
 unfolding laidAt
 laid-none label price = refl
+
+-- a label that the prices do not name keeps its price
+pub laid-unnamed : (ps : List Price) (label price : ℕ) → names ps label ≡ false → laidAt ps label price ≡ price
+laid-unnamed [] label price unnamed = laid-none label price
+laid-unnamed (p ∷ ps) label price unnamed =
+    go (ℕ-discrete (labelOf p) label) (laid-unnamed ps label price)
+  where
+    go : Dec (labelOf p ≡ label) → (names ps label ≡ false → laidAt ps label price ≡ price)
+      → laidAt (p ∷ ps) label price ≡ price
+    go (yes here) rest = absurd (true≢false (sym (names-first p ps label here) ∙ unnamed))
+    go (no there) rest = laid-later p ps label price there ∙ rest (sym (names-later p ps label there) ∙ unnamed)
 
 -- labels below ascending prices keep theirs
 pub laid-below : {pages next : ℕ} {ps : List Price} → Ascending pages next ps → (label price : ℕ) → label < next

@@ -1,0 +1,90 @@
+-- The book at one accepted call: what is changed for one card, and what a step makes of the book.
+use Prim.Native.Nat.{ℕ, suc, _+_, _*_, _≤_, _<_}
+use mathlib.Core.Path.{_≡_, refl, sym, ap, _∙_, subst}
+use mathlib.Core.Logic.{_≢_}
+use mathlib.Core.List.{List, []}
+use mathlib.Core.Bool.{Bool, true, false, cond}
+use native.Mathlib.Omega.{arith}
+use native.Mathlib.Decide.{ℕ-discrete}
+use borrow.Author.Tests.{lt-ltb, le-ltb, eq-eqb, ne-eqb}
+use lib.ListN.{length}
+use lib.Dec.{ltb}
+use Rattle.diff.specs.declared.Price.{Price}
+use Rattle.diff.specs.Prices.{names, laidAt}
+use Rattle.diff.proofs.Prices.{names-none, laid-none}
+use Rattle.protocol.specs.Release.{Release, countsAt, stepsIn}
+use Rattle.protocol.specs.Book.{Opened, none, opened, Book, update, listPrices, count, setOpen, stepBook}
+
+-- ---- a value for one card
+
+module _ {A : Type 0} (f : ℕ → A) (c : ℕ) (a : A) where
+  pub update-same : update f c a c ≡ a
+  unfolding update
+  update-same = rw (eq-eqb c c refl)
+
+  pub update-other : (x : ℕ) → x ≢ c → update f c a x ≡ f x
+  unfolding update
+  update-other x other = rw (ne-eqb x c other)
+
+  -- what holds of the new value, and of the others as they were, holds of all
+  pub update-each : (P : ℕ → A → Type 0) → P c a → ((x : ℕ) → x ≢ c → P x (f x)) → (x : ℕ) → P x (update f c a x)
+  update-each P here others x =
+      elim (ℕ-discrete x c) [
+        | yes same ↦ rw same (subst (P c) (sym update-same) here)
+        | no other ↦ subst (P x) (sym (update-other x other)) (others x other)
+      ]
+
+-- ---- an open release
+
+-- its prices
+abbrev pub pricesIn : Opened → List Price
+pricesIn none = []
+pricesIn (opened r list steps) = listPrices list
+
+-- a release with a desk of eight words
+abbrev pub EightWords : Opened → Type 0
+EightWords none = Unit {0}
+EightWords (opened r list s) = length (r .desk) ≡ 8
+
+-- those of its prices that the book has not yet
+unfoldable pub uncounted : Opened → List Price
+uncounted none = []
+uncounted (opened r list steps) = cond (ltb steps (countsAt (length (listPrices list)))) (listPrices list) []
+
+module _ (r : Release) (list : List ℕ) (s : ℕ) where
+  pub uncounted-early : s < countsAt (length (listPrices list)) → uncounted (opened r list s) ≡ listPrices list
+  unfolding uncounted
+  uncounted-early early = rw (lt-ltb s (countsAt (length (listPrices list))) early)
+
+  pub uncounted-late : countsAt (length (listPrices list)) ≤ s → uncounted (opened r list s) ≡ []
+  unfolding uncounted
+  uncounted-late late = rw (le-ltb s (countsAt (length (listPrices list))) late)
+
+pub uncounted-none : uncounted none ≡ []
+unfolding uncounted
+uncounted-none = refl
+
+-- ---- a step
+
+module _ (b : Book) (c : ℕ) (r : Release) (list : List ℕ) (s : ℕ) where
+  -- that neither counts the release nor closes it
+  pub step-book-plain : suc s ≢ countsAt (length (listPrices list)) → suc s ≢ stepsIn (length (listPrices list))
+    → stepBook b c (opened r list s) ≡ setOpen b c (opened r list (suc s))
+  unfolding stepBook
+  step-book-plain counts closes =
+      rw (ne-eqb (suc s) (countsAt (length (listPrices list))) counts,
+        ne-eqb (suc s) (stepsIn (length (listPrices list))) closes)
+
+  pub step-book-counts : suc s ≡ countsAt (length (listPrices list))
+    → stepBook b c (opened r list s) ≡ setOpen (count b c r list) c (opened r list (suc s))
+  unfolding stepBook
+  step-book-counts counts =
+      rw (eq-eqb (suc s) (countsAt (length (listPrices list))) counts,
+        ne-eqb (suc s) (stepsIn (length (listPrices list))) (omega arith))
+
+  pub step-book-closes : suc s ≡ stepsIn (length (listPrices list))
+    → stepBook b c (opened r list s) ≡ setOpen b c none
+  unfolding stepBook
+  step-book-closes closes =
+      rw (ne-eqb (suc s) (countsAt (length (listPrices list))) (omega arith),
+        eq-eqb (suc s) (stepsIn (length (listPrices list))) closes)

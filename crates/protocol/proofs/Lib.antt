@@ -1,0 +1,12 @@
+-- Laws on the calls' definitions, and demand 3.
+pub mod Writes
+pub mod Over
+pub mod Shape
+pub mod Stepped
+pub mod BookLaws
+pub mod Claims
+pub mod Halves
+pub mod StepClaims
+pub mod Held
+pub mod Core
+pub mod StepCore

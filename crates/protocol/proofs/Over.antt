@@ -1,0 +1,189 @@
+-- What a list of writes, made in order, leaves in one word of a card's area.
+use Prim.Native.Nat.{ℕ, zero, suc, _+_, _*_, _/_, _%_, _≤_, _<_}
+use mathlib.Core.Path.{_≡_, refl, sym, ap, _∙_}
+use mathlib.Core.Logic.{_≢_, _⊎_, inl, inr}
+use mathlib.Core.List.{List, [], _∷_, _++_}
+use mathlib.Core.Bool.{Bool, true, false, cond, _&&_, true≢false}
+use native.Mathlib.Omega.{arith}
+use native.Mathlib.Decide.{ℕ-discrete}
+use borrow.Author.Tests.{eq-eqb, ne-eqb}
+use lib.ListN.{length, getD, drop, drop-of-length-le}
+use lib.Seq.{drop-cons}
+use lib.Dec.{eqb}
+use Rattle.memory.specs.Layout.{pageStart}
+use Rattle.directory.specs.declared.Directory.{Directory}
+use Rattle.directory.specs.Directory.{primaryOf, secondaryOf}
+use Rattle.diff.specs.declared.Price.{Price}
+use Rattle.diff.specs.Prices.{labelOf, names, laidAt}
+use Rattle.diff.proofs.Prices.{names-first, names-later, laid-first, laid-later, laid-none}
+use Rattle.diff.proofs.Stored.{OnPages}
+use Rattle.protocol.specs.Release.{Write, writeOf, noWrite, priceWrite, priceWrites, runWrites}
+
+-- ---- one write
+
+-- the word that a write is to
+abbrev pub hits : Write → ℕ → ℕ → Bool
+hits w card offset = eqb (w .card) card && eqb (w .offset) offset
+
+unfoldable pub written : Write → ℕ → ℕ → ℕ → ℕ
+written w card offset v = cond (hits w card offset) (w .value) v
+
+module _ (w : Write) (card offset v : ℕ) where
+  pub written-here : w .card ≡ card → w .offset ≡ offset → written w card offset v ≡ w .value
+  unfolding written
+  written-here same at = rw (eq-eqb (w .card) card same, eq-eqb (w .offset) offset at)
+
+  pub written-other-card : w .card ≢ card → written w card offset v ≡ v
+  unfolding written
+  written-other-card other = rw (ne-eqb (w .card) card other)
+
+  pub written-other-offset : w .offset ≢ offset → written w card offset v ≡ v
+  unfolding written
+  written-other-offset other = go (eqb (w .card) card)
+    where
+      go : (same : Bool) → cond (same && eqb (w .offset) offset) (w .value) v ≡ v
+      go true = rw (ne-eqb (w .offset) offset other)
+      go false = refl
+
+-- a value written where it stands already
+pub written-again : (w : Write) (card offset : ℕ) → written w card offset (w .value) ≡ w .value
+unfolding written
+written-again w card offset = go (hits w card offset)
+  where
+    go : (hit : Bool) → cond hit (w .value) (w .value) ≡ w .value
+    go true = refl
+    go false = refl
+
+-- ---- writes in order
+
+unfoldable pub over : List Write → ℕ → ℕ → ℕ → ℕ
+over [] card offset v = v
+over (w ∷ ws) card offset v = over ws card offset (written w card offset v)
+
+pub over-none : (card offset v : ℕ) → over [] card offset v ≡ v
+unfolding over
+over-none card offset v = refl
+
+-- the writes from step s on: the first of them, and the rest
+pub over-first : (ws : List Write) (s card offset v : ℕ) → s < length ws
+  → over (drop s ws) card offset v ≡ over (drop (suc s) ws) card offset (written (getD ws s noWrite) card offset v)
+unfolding over
+over-first ws s card offset v within = rw (drop-cons ws s noWrite within)
+
+pub over-append : (us ws : List Write) (card offset v : ℕ)
+  → over (us ++ ws) card offset v ≡ over ws card offset (over us card offset v)
+unfolding over
+over-append [] ws card offset v = refl
+over-append (u ∷ us) ws card offset v = over-append us ws card offset (written u card offset v)
+
+-- ---- writes that are not to a word
+
+-- no write of the list is to the word
+pub data Misses (card offset : ℕ) : List Write → Type 0 where
+  misses-none : Misses card offset []
+  misses-more : {w : Write} {ws : List Write} → (w .card ≡ card → w .offset ≢ offset) → Misses card offset ws
+    → Misses card offset (w ∷ ws)
+
+pub written-miss : (w : Write) (card offset v : ℕ) → (w .card ≡ card → w .offset ≢ offset)
+  → written w card offset v ≡ v
+written-miss w card offset v other =
+    elim (ℕ-discrete (w .card) card) [
+      | yes same ↦ written-other-offset w card offset v (other same)
+      | no away ↦ written-other-card w card offset v away
+    ]
+
+pub over-miss : {ws : List Write} {card offset : ℕ} (v : ℕ) → Misses card offset ws → over ws card offset v ≡ v
+unfolding over
+over-miss v misses-none = refl
+over-miss {card = card} {offset = offset} v (misses-more {w = w} other rest) =
+    rw (written-miss w card offset v other) (over-miss v rest)
+
+pub misses-append : {us ws : List Write} {card offset : ℕ} → Misses card offset us → Misses card offset ws
+  → Misses card offset (us ++ ws)
+misses-append misses-none b = b
+misses-append (misses-more other rest) b = misses-more other (misses-append rest b)
+
+pub misses-drop : {ws : List Write} {card offset : ℕ} (s : ℕ) → Misses card offset ws → Misses card offset (drop s ws)
+misses-drop zero misses = misses
+misses-drop (suc s) misses-none = misses-none
+misses-drop (suc s) (misses-more other rest) = misses-drop s rest
+
+pub misses-at : {ws : List Write} {card offset : ℕ} (s : ℕ) → s < length ws → Misses card offset ws
+  → getD ws s noWrite .card ≡ card → getD ws s noWrite .offset ≢ offset
+misses-at s within misses-none = absurd (omega arith)
+misses-at zero within (misses-more other rest) = other
+misses-at (suc s) within (misses-more other rest) = misses-at s (omega arith) rest
+
+-- a run of writes outside a word's offset
+pub run-misses : (backup start : ℕ) (vs : List ℕ) (card offset : ℕ)
+  → ((j : ℕ) → j < length vs → start + j ≢ offset) → Misses card offset (runWrites backup start vs)
+run-misses backup start [] card offset apart = misses-none
+run-misses backup start (v ∷ vs) card offset apart =
+    let here : start ≢ offset = λ e. apart 0 (omega arith) (omega arith) in
+    misses-more (λ _. here)
+    (run-misses backup (suc start) vs card offset (λ j within e. apart (suc j) (omega arith) (omega arith)))
+
+-- ---- the writes of prices
+
+-- a home of a page
+abbrev pub HomeOf : Directory → ℕ → ℕ → Type 0
+HomeOf d h p = (h ≡ secondaryOf d p) ⊎ (h ≡ primaryOf d p)
+
+module _ (d : Directory) (half : ℕ) where
+  -- at an offset that no price has
+  pub prices-miss : (ps : List Price) (card offset : ℕ)
+    → ((p w : ℕ) → w < 32 → pageStart p + (half + w) ≢ offset) → (pages : ℕ) → OnPages pages ps
+    → Misses card offset (priceWrites d half ps)
+  prices-miss [] card offset apart pages on = misses-none
+  prices-miss (p ∷ ps) card offset apart pages on =
+      let here = apart (p .page) (p .word) (on .1) in
+      misses-more (λ _. here) (misses-more (λ _. here) (prices-miss ps card offset apart pages (on .2)))
+
+  -- at a label that no price names
+  pub unnamed-miss : (ps : List Price) (card p w : ℕ) → w < 32 → half ≤ 32 → (pages : ℕ) → OnPages pages ps
+    → names ps (32 * p + w) ≡ false → Misses card (pageStart p + (half + w)) (priceWrites d half ps)
+  unnamed-miss [] card p w within small pages on none = misses-none
+  unnamed-miss (q ∷ qs) card p w within small pages on none =
+      go (ℕ-discrete (labelOf q) (32 * p + w)) (unnamed-miss qs card p w within small pages (on .2))
+    where
+      go : Dec (labelOf q ≡ 32 * p + w)
+        → (names qs (32 * p + w) ≡ false → Misses card (pageStart p + (half + w)) (priceWrites d half qs))
+        → Misses card (pageStart p + (half + w)) (priceWrites d half (q ∷ qs))
+      go (yes here) rest = absurd (true≢false (sym (names-first q qs (32 * p + w) here) ∙ none))
+      go (no there) rest =
+          let apart : pageStart (q .page) + (half + q .word) ≢ pageStart p + (half + w) = omega (arith, on .1, within) in
+          misses-more (λ _. apart)
+          (misses-more (λ _. apart) (rest (sym (names-later q qs (32 * p + w) there) ∙ none)))
+
+  -- at a home of the label's page: all of them leave what the prices lay there
+  pub prices-over : (ps : List Price) (h p w v : ℕ) → w < 32 → half ≤ 32 → HomeOf d h p → (pages : ℕ) → OnPages pages ps
+    → over (priceWrites d half ps) h (pageStart p + (half + w)) v ≡ laidAt ps (32 * p + w) v
+  unfolding over
+  prices-over [] h p w v within small home pages on = sym (laid-none (32 * p + w) v)
+  prices-over (q ∷ qs) h p w v within small home pages on =
+      go (ℕ-discrete (labelOf q) (32 * p + w)) (λ v. prices-over qs h p w v within small home pages (on .2))
+    where
+      offset : ℕ
+      offset = pageStart p + (half + w)
+      second : Write
+      second = priceWrite (secondaryOf d) half q
+      first : Write
+      first = priceWrite (primaryOf d) half q
+      -- the price reaches the home, whichever it is
+      reached : q .page ≡ p → pageStart (q .page) + (half + q .word) ≡ offset → HomeOf d h p
+        → written first h offset (written second h offset v) ≡ q .price
+      reached page at (inl home) =
+          rw (written-here second h offset v (rw page (sym home)) at) (written-again first h offset)
+      reached page at (inr home) = written-here first h offset _ (rw page (sym home)) at
+      go : Dec (labelOf q ≡ 32 * p + w)
+        → ((v : ℕ) → over (priceWrites d half qs) h offset v ≡ laidAt qs (32 * p + w) v)
+        → over (priceWrites d half qs) h offset (written first h offset (written second h offset v))
+        ≡ laidAt (q ∷ qs) (32 * p + w) v
+      go (yes here) rest =
+          let page : q .page ≡ p = omega (arith, on .1, within) in
+          let at : pageStart (q .page) + (half + q .word) ≡ offset = omega (arith, on .1, within) in
+          rest _ ∙ ap (laidAt qs (32 * p + w)) (reached page at home) ∙ sym (laid-first q qs (32 * p + w) v here)
+      go (no there) rest =
+          let apart : pageStart (q .page) + (half + q .word) ≢ offset = omega (arith, on .1, within) in
+          rw (written-other-offset second h offset v apart, written-other-offset first h offset v apart)
+          (rest v ∙ sym (laid-later q qs (32 * p + w) v there))
