@@ -1,9 +1,9 @@
 -- A diff that reads well to its end, as a derivation: a word and what follows it. Reading finds just these.
 use Prim.Native.Nat.{ℕ, zero, suc, _+_, _-_, _/_, _≤_, _<_}
 use mathlib.Core.Path.{_≡_, refl, sym, ap, _∙_, subst}
-use mathlib.Core.List.{List, [], _∷_, _++_}
+use mathlib.Core.List.{List, [], _∷_, _++_, append-nil}
 use mathlib.Core.Bool.{Bool, true, false, cond}
-use native.Mathlib.Nat.{add-zero}
+use native.Mathlib.Nat.{add-zero, lt-of-lt-of-le}
 use native.Mathlib.Omega.{arith}
 use native.Mathlib.Numerals.{add-one}
 use borrow.Author.Tests.{lt-ltb, le-ltb, lt-leb, eq-eqb, ne-eqb}
@@ -87,36 +87,57 @@ module _ (pages : ℕ) (s : Cursor) (index w : ℕ) (ws : List ℕ) (step : Step
 good-as : {k k′ n n′ : ℕ} → k ≡ k′ → n ≡ n′ → Good k n ≡ Good k′ n′
 good-as e f = cc
 
-module _ (pages : ℕ) where
-  pub reads-good : {s : Cursor} {index : ℕ} {ws : List ℕ} {ps : List Price} → Reads pages s index ws ps
-      → index + length ws ≤ mostWords → readFrom pages ws index s ≡ Good (s .prices + length ps) (index + length ws)
-  reads-good {s} {index} (reads-end none gap) few =
-      read-word pages s index (endWord index) [] End (step-end pages s index none gap (omega arith)) (omega arith)
+-- whatever follows the end word
+module _ (pages : ℕ) (rest : List ℕ) where
+  pub reads-good-then : {s : Cursor} {index : ℕ} {ws : List ℕ} {ps : List Price} → Reads pages s index ws ps
+    → index + length ws ≤ mostWords
+    → readFrom pages (ws ++ rest) index s ≡ Good (s .prices + length ps) (index + length ws)
+  reads-good-then {s} {index} (reads-end none gap) few =
+      read-word pages s index (endWord index) rest End (step-end pages s index none gap (omega arith)) (omega arith)
       ∙ rw add-zero
-  reads-good {s} {index} (reads-page {p = p} {ws = ws} none gap up fits small rest) few =
-      read-word pages s index (pageWord p) ws _ (step-page pages s index p none gap up fits small) (omega arith)
-      ∙ reads-good rest (omega arith) ∙ good-as refl (omega arith)
-  reads-good {s} {index} (reads-run {o = o} {n = n} {ws = ws} none named some fits past rest) few =
-      read-word pages s index (runWord o n) ws _ (step-run pages s index o n none named some fits past) (omega arith)
-      ∙ reads-good rest (omega arith) ∙ good-as refl (omega arith)
-  reads-good {s} {index} (reads-price {w = w} {ws = ws} due rest) few =
-      read-word pages s index w ws _ (step-price pages s index w due) (omega arith)
-      ∙ reads-good rest (omega arith) ∙ good-as (omega arith) (omega arith)
+  reads-good-then {s} {index} (reads-page {p = p} {ws = ws} none gap up fits small later) few =
+      read-word pages s index (pageWord p) (ws ++ rest) _ (step-page pages s index p none gap up fits small) (omega arith)
+      ∙ reads-good-then later (omega arith) ∙ good-as refl (omega arith)
+  reads-good-then {s} {index} (reads-run {o = o} {n = n} {ws = ws} none named some fits past later) few =
+      read-word pages s index (runWord o n) (ws ++ rest) _ (step-run pages s index o n none named some fits past) (omega arith)
+      ∙ reads-good-then later (omega arith) ∙ good-as refl (omega arith)
+  reads-good-then {s} {index} (reads-price {w = w} {ws = ws} due later) few =
+      read-word pages s index w (ws ++ rest) _ (step-price pages s index w due) (omega arith)
+      ∙ reads-good-then later (omega arith) ∙ good-as (omega arith) (omega arith)
 
-  pub reads-prices : {s : Cursor} {index : ℕ} {ws : List ℕ} {ps : List Price} → Reads pages s index ws ps
-      → index + length ws ≤ mostWords → pricesFrom pages ws index s ≡ ps
-  reads-prices {s} {index} (reads-end none gap) few =
-      prices-word pages s index (endWord index) [] End (step-end pages s index none gap (omega arith))
+  pub reads-prices-then : {s : Cursor} {index : ℕ} {ws : List ℕ} {ps : List Price} → Reads pages s index ws ps
+    → index + length ws ≤ mostWords → pricesFrom pages (ws ++ rest) index s ≡ ps
+  reads-prices-then {s} {index} (reads-end none gap) few =
+      prices-word pages s index (endWord index) rest End (step-end pages s index none gap (omega arith))
       ∙ simp (le-ltb 0 (s .due) (omega arith))
-  reads-prices {s} {index} (reads-page {p = p} {ws = ws} none gap up fits small rest) few =
-      prices-word pages s index (pageWord p) ws _ (step-page pages s index p none gap up fits small)
-      ∙ simp (le-ltb 0 (s .due) (omega arith), reads-prices rest (omega arith))
-  reads-prices {s} {index} (reads-run {o = o} {n = n} {ws = ws} none named some fits past rest) few =
-      prices-word pages s index (runWord o n) ws _ (step-run pages s index o n none named some fits past)
-      ∙ simp (le-ltb 0 (s .due) (omega arith), reads-prices rest (omega arith))
-  reads-prices {s} {index} (reads-price {w = w} {ws = ws} due rest) few =
-      prices-word pages s index w ws _ (step-price pages s index w due)
-      ∙ simp (lt-ltb 0 (s .due) due, reads-prices rest (omega arith))
+  reads-prices-then {s} {index} (reads-page {p = p} {ws = ws} none gap up fits small later) few =
+      prices-word pages s index (pageWord p) (ws ++ rest) _ (step-page pages s index p none gap up fits small)
+      ∙ simp (le-ltb 0 (s .due) (omega arith), reads-prices-then later (omega arith))
+  reads-prices-then {s} {index} (reads-run {o = o} {n = n} {ws = ws} none named some fits past later) few =
+      prices-word pages s index (runWord o n) (ws ++ rest) _ (step-run pages s index o n none named some fits past)
+      ∙ simp (le-ltb 0 (s .due) (omega arith), reads-prices-then later (omega arith))
+  reads-prices-then {s} {index} (reads-price {w = w} {ws = ws} due later) few =
+      prices-word pages s index w (ws ++ rest) _ (step-price pages s index w due)
+      ∙ simp (lt-ltb 0 (s .due) due, reads-prices-then later (omega arith))
+
+-- and where nothing follows
+module _ (pages : ℕ) {s : Cursor} {index : ℕ} {ws : List ℕ} {ps : List Price} (reads : Reads pages s index ws ps)
+  (few : index + length ws ≤ mostWords) where
+  pub reads-good : readFrom pages ws index s ≡ Good (s .prices + length ps) (index + length ws)
+  reads-good = rw (append-nil ws) at (reads-good-then pages [] reads few)
+
+  pub reads-prices : pricesFrom pages ws index s ≡ ps
+  reads-prices = rw (append-nil ws) at (reads-prices-then pages [] reads few)
+
+-- a rack with more pages reads it too
+pub reads-more-pages : {pages pages′ index : ℕ} {s : Cursor} {ws : List ℕ} {ps : List Price} → pages ≤ pages′
+  → Reads pages s index ws ps → Reads pages′ s index ws ps
+reads-more-pages more (reads-end none gap) = reads-end none gap
+reads-more-pages more (reads-page none gap up fits small later) =
+    reads-page none gap up (lt-of-lt-of-le fits more) small (reads-more-pages more later)
+reads-more-pages more (reads-run none named some fits past later) =
+    reads-run none named some fits past (reads-more-pages more later)
+reads-more-pages more (reads-price due later) = reads-price due (reads-more-pages more later)
 
 pub reads-some : {pages index : ℕ} {s : Cursor} {ws : List ℕ} {ps : List Price} → Reads pages s index ws ps → 0 < length ws
 reads-some (reads-end none gap) = omega arith

@@ -94,7 +94,9 @@ module _ (d : Directory) (H : Half d) (release : ℕ → Opened) (price price′
 -- ---- card c's release is struck out, with nothing of it to write or to count
 
 module _ (d : Directory) (H : Half d) (release : ℕ → Opened) (price : ℕ → ℕ) (m : List ℕ) (c : ℕ) where
-  pub claim-struck : c < 8 → ((x : ℕ) → EightWords (release x)) → Apart release → H .todo c (release c) ≡ [] → H .due (release c) ≡ []
+  pub claim-struck : c < 8 → ((x : ℕ) → EightWords (release x)) → Apart release
+    → ((h p w v : ℕ) → w < 32 → over (H .todo c (release c)) h (pageStart p + (H .half + w)) v ≡ v)
+    → H .due (release c) ≡ []
     → Claim d H release price m → Claim d H (update release c none) price m
   claim-struck card eights apart written-all counted claim =
       record {
@@ -106,8 +108,8 @@ module _ (d : Directory) (H : Half d) (release : ℕ → Opened) (price : ℕ �
       settled : (h p w : ℕ) → HomeWord d h p w → Alone release c (32 * p + w)
         → wordIn d H m h p w ≡ price (32 * p + w)
       settled h p w word alone =
-          sym (over-none h (pageStart p + (H .half + w)) (wordIn d H m h p w))
-          ∙ (rw (written-all, counted) at (claim .agrees c h p w card word alone))
+          sym (written-all h p w (wordIn d H m h p w) (word .word))
+          ∙ (rw counted at (claim .agrees c h p w card word alone))
           ∙ laid-none (32 * p + w) (price (32 * p + w))
       others : (x y label : ℕ) → Alone (update release c none) x label → y ≢ x → y ≢ c
         → names (pricesIn (release y)) label ≡ false

@@ -71,6 +71,19 @@ module _ (d : Directory) (backup c : ℕ) (r : Release) (ps : List Price) (few :
       (prices-miss d tentativeHalf ps card _ (λ q v inside e. omega arith) 64 on)
       (unnamed-miss d committedHalf ps card p w within (omega arith) 64 on unnamed)
 
+  -- what follows the tentative words misses them
+  after-tentative : (card p w s : ℕ) → w < 32 → 2 * length ps ≤ s
+    → Misses card (pageStart p + (tentativeHalf + w)) (drop s (releaseWrites d backup c r ps))
+  unfolding releaseWrites
+  after-tentative card p w s within late =
+      let records = records-miss card p w tentativeHalf within (omega arith) in
+      let second = prices-miss d committedHalf ps card (pageStart p + (tentativeHalf + w)) (λ q u inside e. omega arith) 64 on in
+      let at : s ≡ length (priceWrites d tentativeHalf ps) + (s - 2 * length ps) =
+            omega (arith, length-price-writes d tentativeHalf ps) in
+      rw (drop-part (priceWrites d tentativeHalf ps) _ s (s - 2 * length ps) at)
+      (misses-drop (s - 2 * length ps)
+      (misses-append (records .0) (misses-append (records .1) (misses-append second (records .2)))))
+
   -- what follows the stamp
   after-stamp : drop (countsAt (length ps)) (releaseWrites d backup c r ps)
     ≡ priceWrites d committedHalf ps ++ runWrites backup (recordDone c) (r .number ∷ [])
@@ -163,6 +176,21 @@ module _ (d : Directory) (backup : ℕ → ℕ) (c : ℕ) (r : Release) (list : 
   pending-over past =
       drop-of-length-le (releaseWrites d (backup c) c r (listPrices list)) {i = s}
       (omega (arith, length-writes d (backup c) c r (listPrices list) eight))
+
+  -- once the tentative words are written none of them is to be
+  pub tentative-late : c < 8 → 2 * length (listPrices list) ≤ s → (h p w v : ℕ) → w < 32
+    → over (pending d backup c (opened r list s)) h (pageStart p + (tentativeHalf + w)) v ≡ v
+  unfolding pending
+  tentative-late few late h p w v within =
+      over-miss v (after-tentative d (backup c) c r (listPrices list) few eight (on-pages list) h p w s within late)
+
+  -- at the opening the tentative words are all to be written
+  pub tentative-first : c < 8 → s ≡ 0 → (h p w v : ℕ) → w < 32 → HomeOf d h p
+    → over (pending d backup c (opened r list s)) h (pageStart p + (tentativeHalf + w)) v
+    ≡ laidAt (listPrices list) (32 * p + w) v
+  unfolding pending
+  tentative-first few opening h p w v within home =
+      rw opening (tentative-over d (backup c) c r (listPrices list) few eight (on-pages list) h p w v within home)
 
   -- at the count the committed words are all to be written
   pub committed-first : c < 8 → s ≡ countsAt (length (listPrices list)) → (h p w v : ℕ) → w < 32 → HomeOf d h p

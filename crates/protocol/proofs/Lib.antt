@@ -10,3 +10,7 @@ pub mod StepClaims
 pub mod Held
 pub mod Core
 pub mod StepCore
+pub mod Closing
+pub mod CoreKept
+pub mod OpenCore
+pub mod Invariant

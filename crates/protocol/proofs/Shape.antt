@@ -58,6 +58,14 @@ module _ (size : ℕ) (m m′ : List ℕ) (c : ℕ) where
   same-own-release same =
       record { same-length = same .same-length; low = λ o small _. same .low o small; list = same .list }
 
+  -- words 0 to 8
+  pub own-words-kept : length m′ ≡ length m → ((o : ℕ) → o < 9 → load size m′ c o ≡ load size m c o)
+    → ownRelease size m′ c ≡ ownRelease size m c
+  unfolding ownRelease
+  own-words-kept long same =
+      rw (same ownStamp (omega arith),
+        load-run-kept size m m′ c ownDesk deskSize long (λ j within. same (ownDesk + j) (omega arith)))
+
   module _ (same : SameRelease size m m′ c) where
     -- eight words, none of them the steps
     desk-kept : (offset : ℕ) → offset + 8 ≤ 20 → ((j : ℕ) → j < 8 → offset + j ≡ stepsMade → ⊥)
@@ -67,9 +75,7 @@ module _ (size : ℕ) (m m′ : List ℕ) (c : ℕ) where
         (λ j within. same .low (offset + j) (omega arith) (apart j within))
 
     pub own-kept : ownRelease size m′ c ≡ ownRelease size m c
-    unfolding ownRelease
-    own-kept =
-        rw (same .low ownStamp (omega arith) (omega arith), desk-kept ownDesk (omega arith) (λ j within e. omega arith))
+    own-kept = own-words-kept (same .same-length) (λ o small. same .low o (omega arith) (omega arith))
 
     pub open-kept : openRelease size m′ c ≡ openRelease size m c
     unfolding openRelease

@@ -174,7 +174,7 @@ module _ (d : Directory) (backup : ℕ → ℕ) (release : ℕ → Opened) (pric
   close-tentatives same claim =
       same-words (tentatives d backup) same (update release c none)
       (claim-struck d (tentatives d backup) release price m c few eights apart
-      (rw is (pending-over d backup c r list s eight past)) (rw is (uncounted-late r list s (omega arith))) claim)
+      (λ h p w v within. rw (is, pending-over d backup c r list s eight past) (over-none h _ v)) (rw is (uncounted-late r list s (omega arith))) claim)
 
   pub close-committeds : ((h p w : ℕ) → HomeWord d h p w
       → wordIn d (committeds d backup) m′ h p w ≡ wordIn d (committeds d backup) m h p w)
@@ -182,4 +182,7 @@ module _ (d : Directory) (backup : ℕ → ℕ) (release : ℕ → Opened) (pric
   close-committeds same claim =
       same-words (committeds d backup) same (update release c none)
       (claim-struck d (committeds d backup) release price m c few eights apart
-      (rw is (committed-late d backup c r list s eight (omega arith) ∙ pending-over d backup c r list s eight past)) refl claim)
+      (λ h p w v within.
+        rw (is, committed-late d backup c r list s eight (omega arith), pending-over d backup c r list s eight past)
+        (over-none h _ v))
+      refl claim)
