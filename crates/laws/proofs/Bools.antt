@@ -1,6 +1,6 @@
 -- Choices by a test: a property of both outcomes, and what a conjunction says.
 use mathlib.Core.Path.{_≡_, refl}
-use mathlib.Core.Bool.{Bool, true, false, cond, _&&_, false≢true}
+use mathlib.Core.Bool.{Bool, true, false, cond, _&&_, _||_, false≢true, true≢false}
 
 -- what holds of either outcome, each under its test, holds of the choice
 pub by-cond : {A : Type 0} (P : A → Type 0) (test : Bool) (x y : A) → (test ≡ true → P x) → (test ≡ false → P y)
@@ -15,6 +15,10 @@ and-first false b e = e
 pub and-second : (a b : Bool) → a && b ≡ true → b ≡ true
 and-second true b e = e
 and-second false b e = absurd (false≢true e)
+
+pub neither : (a b : Bool) → a || b ≡ false → (a ≡ false) × (b ≡ false)
+neither true b e = absurd (true≢false e)
+neither false b e = (refl, e)
 
 -- a choice that came out as its first value, which the second is not
 pub cond-first : {A : Type 0} (test : Bool) (x y z : A) → cond test x y ≡ z → (y ≡ z → ⊥) → test ≡ true

@@ -24,6 +24,13 @@ module _ (test : ℕ → Bool) (i n : ℕ) where
   unfolding lowestFrom
   lowest-skip below fail = let one : n - i ≡ suc (n - (i + 1)) = omega arith in rw (one, fail, add-one)
 
+-- two tests that agree find the same
+pub lowest-same : (test test′ : ℕ → Bool) → ((i : ℕ) → test i ≡ test′ i) → (i n : ℕ)
+    → lowestFrom test i n ≡ lowestFrom test′ i n
+unfolding lowestFrom
+lowest-same test test′ agree i zero = refl
+lowest-same test test′ agree i (suc n) = rw (agree i, lowest-same test test′ agree (suc i) n)
+
 -- ---- where a search of n numbers from i on stops
 
 pub record Stops (test : ℕ → Bool) (i n stop : ℕ) : Type 0 where
@@ -83,6 +90,10 @@ module _ (test : ℕ → Bool) (n : ℕ) where
         | yes found ↦ lt-ltb (lowest test n) n found
         | no past ↦ absurd (true≢false (sym pass ∙ stops .missed i (omega arith) (omega arith)))
       ]
+
+  -- a search that came to its end
+  pub none-left : (i : ℕ) → n ≤ i → lowestFrom test i (n - i) ≡ lowest test n → someBelow test n ≡ false
+  none-left i past rest = le-ltb (lowest test n) n (omega (arith, lowest-end test i n past))
 
 -- ---- how many pass
 

@@ -146,7 +146,7 @@ module _ (d : Directory) (f : ℕ) (old : ℕ → ℕ → ℕ) (T C : Type 0) wh
 
   -- an open release: the steps that are left
   module _ {c : ℕ} {m : List ℕ} {r : Release} {list : List ℕ} {s : ℕ} (live : isLive d c ≡ true)
-    (standing : OpenStands d m c r list s) where
+    (standing : OpenStands (d .pages) m c r list s) where
     is-open : isOpen (d .live) (sizeOf d) m c ≡ true
     unfolding isOpen
     is-open = rw (live, standing .word-9)
@@ -161,7 +161,7 @@ module _ (d : Directory) (f : ℕ) (old : ℕ → ℕ → ℕ) (T C : Type 0) wh
   close-one : (c : ℕ) (m : List ℕ) (b : Book) → KeptBefore m b → KeptBefore (runToClose d f c m) (closedBook b c (b .release c))
   close-one c m b core = by-card (isLive d c) refl
     where
-      by-release : isLive d c ≡ true → (R : Opened) → b .release c ≡ R → Standing d m c R
+      by-release : isLive d c ≡ true → (R : Opened) → b .release c ≡ R → Standing (d .pages) m c R
         → KeptBefore (runToClose d f c m) (closedBook b c (b .release c))
       by-release live none is standing = idle-core c m b is (not-open c m (λ _. standing)) core
       by-release live (opened r list s) is standing =

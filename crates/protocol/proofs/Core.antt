@@ -33,15 +33,15 @@ use Rattle.protocol.proofs.Held.{Numbers, Own, Held, held-kept, LastAft
 -- ---- what memory has of a card's release
 
 -- a release that stands open in memory as the book has it
-pub record OpenStands (d : Directory) (m : List ℕ) (c : ℕ) (r : Release) (list : List ℕ) (s : ℕ) : Type 0 where
-  pub word-9 : load (sizeOf d) m c releaseOpen ≡ 1
-  pub stands : StandsIn d m c r (listPrices list) s
+pub record OpenStands (pages : ℕ) (m : List ℕ) (c : ℕ) (r : Release) (list : List ℕ) (s : ℕ) : Type 0 where
+  pub word-9 : load (areaSize pages) m c releaseOpen ≡ 1
+  pub stands : StandsIn pages m c r (listPrices list) s
   pub words : ℕ
-  pub reads : readDiff (d .pages) (openList (sizeOf d) m c) ≡ Good (length (listPrices list)) words
+  pub reads : readDiff pages (openList (areaSize pages) m c) ≡ Good (length (listPrices list)) words
 
-abbrev pub Standing : Directory → List ℕ → ℕ → Opened → Type 0
-Standing d m c none = load (sizeOf d) m c releaseOpen ≡ 0
-Standing d m c (opened r list s) = OpenStands d m c r list s
+abbrev pub Standing : ℕ → List ℕ → ℕ → Opened → Type 0
+Standing pages m c none = load (areaSize pages) m c releaseOpen ≡ 0
+Standing pages m c (opened r list s) = OpenStands pages m c r list s
 
 -- the steps that a release may have made
 abbrev pub Under : Opened → Type 0
@@ -50,7 +50,7 @@ Under (opened r list s) = s < stepsIn (length (listPrices list))
 
 pub record Core (d : Directory) (backup : ℕ → ℕ) (old : ℕ → ℕ → ℕ) (T C : Type 0) (m : List ℕ) (b : Book) : Type 0 where
   pub shape : Shape d m
-  pub standing : (c : ℕ) → isLive d c ≡ true → Standing d m c (b .release c)
+  pub standing : (c : ℕ) → isLive d c ≡ true → Standing (d .pages) m c (b .release c)
   pub gone : (c : ℕ) → isLive d c ≡ false → b .release c ≡ none
   pub under : (c : ℕ) → Under (b .release c)
   pub eights : (c : ℕ) → EightWords (b .release c)
@@ -69,20 +69,20 @@ pub record Core (d : Directory) (backup : ℕ → ℕ) (old : ℕ → ℕ → �
 -- ---- a step before the close
 
 -- memory keeps what it has of a release whose words are kept
-pub standing-kept : (d : Directory) (m m′ : List ℕ) (c : ℕ) (R : Opened) → SameOwn (sizeOf d) m m′ c → Standing d m c R
-  → Standing d m′ c R
-standing-kept d m m′ c none same standing = same .low releaseOpen (omega arith) ∙ standing
-standing-kept d m m′ c (opened r list s) same standing =
-    let kept = same-own-release (sizeOf d) m m′ c same in
+pub standing-kept : (pages : ℕ) (m m′ : List ℕ) (c : ℕ) (R : Opened) → SameOwn (areaSize pages) m m′ c → Standing pages m c R
+  → Standing pages m′ c R
+standing-kept pages m m′ c none same standing = same .low releaseOpen (omega arith) ∙ standing
+standing-kept pages m m′ c (opened r list s) same standing =
+    let kept = same-own-release (areaSize pages) m m′ c same in
     record {
       word-9 = same .low releaseOpen (omega arith) ∙ standing .word-9;
       stands = record {
-        release = open-kept (sizeOf d) m m′ c kept ∙ standing .stands .release;
-        prices = rw (list-kept (sizeOf d) m m′ c kept) (standing .stands .prices);
-        steps = steps-kept (sizeOf d) m m′ c same ∙ standing .stands .steps;
+        release = open-kept (areaSize pages) m m′ c kept ∙ standing .stands .release;
+        prices = rw (list-kept (areaSize pages) m m′ c kept) (standing .stands .prices);
+        steps = steps-kept (areaSize pages) m m′ c same ∙ standing .stands .steps;
       };
       words = standing .words;
-      reads = rw (list-kept (sizeOf d) m m′ c kept) (standing .reads);
+      reads = rw (list-kept (areaSize pages) m m′ c kept) (standing .reads);
     }
 
 -- the book after a step that does not close the release
@@ -96,7 +96,7 @@ module _ (d : Directory) (backup : ℕ → ℕ) (old : ℕ → ℕ → ℕ) (T C
   few : c < 8
   few = omega (arith, core .shape .below c live, core .shape .few-cards)
 
-  standing : OpenStands d m c r list s
+  standing : OpenStands (d .pages) m c r list s
   standing = rw is at (core .standing c live)
 
   eight : length (r .desk) ≡ 8
@@ -129,7 +129,7 @@ module _ (d : Directory) (backup : ℕ → ℕ) (old : ℕ → ℕ → ℕ) (T C
       → load (sizeOf d) m′ h o ≡ load (sizeOf d) m h o
     kept-record = step-keeps-record (core .shape) (backup c) c live (standing .stands) before
 
-    own-stands : Standing d m′ c R′
+    own-stands : Standing (d .pages) m′ c R′
     own-stands =
         record {
           word-9 = kept .low releaseOpen (omega arith) (omega arith) ∙ standing .word-9;
@@ -159,8 +159,8 @@ module _ (d : Directory) (backup : ℕ → ℕ) (old : ℕ → ℕ → ℕ) (T C
     write-core =
         record {
           shape = shape-kept (core .shape) m′ (kept .same-length);
-          standing = update-each (b .release) c R′ (λ x R. isLive d x ≡ true → Standing d m′ x R) (λ _. own-stands)
-            (λ x other up. standing-kept d m m′ x (b .release x) (kept-other x up other) (core .standing x up));
+          standing = update-each (b .release) c R′ (λ x R. isLive d x ≡ true → Standing (d .pages) m′ x R) (λ _. own-stands)
+            (λ x other up. standing-kept (d .pages) m m′ x (b .release x) (kept-other x up other) (core .standing x up));
           gone = update-each (b .release) c R′ (λ x R. isLive d x ≡ false → R ≡ none)
             (λ dead. absurd (true≢false (sym live ∙ dead))) (λ x other. core .gone x);
           under = update-each (b .release) c R′ (λ x R. Under R) (omega arith) (λ x other. core .under x);

@@ -43,7 +43,7 @@ module _ (d : Directory) (backup : ℕ → ℕ) (old : ℕ → ℕ → ℕ) (T C
   core-found first second core =
       record {
         shape = shape-kept (core .shape) m′ (agree .same-length);
-        standing = λ c live. standing-kept d m m′ c (b .release c) (same-live-own agree c live) (core .standing c live);
+        standing = λ c live. standing-kept (d .pages) m m′ c (b .release c) (same-live-own agree c live) (core .standing c live);
         gone = core .gone;
         under = core .under;
         eights = core .eights;

@@ -14,3 +14,8 @@ pub mod Closing
 pub mod CoreKept
 pub mod OpenCore
 pub mod Invariant
+pub mod Failing
+pub mod Restoring
+pub mod Rehoming
+pub mod Recording
+pub mod RecoveredRecords

@@ -160,7 +160,7 @@ module _ (d : Directory) (backup : ℕ → ℕ) (old : ℕ → ℕ → ℕ) (T C
   unfolding stepsOf
   no-steps = open-word (sizeOf d) m c r list (omega arith) eight few area 1 (omega arith)
 
-  own-stands : Standing d m′ c R′
+  own-stands : Standing (d .pages) m′ c R′
   own-stands =
       let stored = opened-list (sizeOf d) m c r list (omega arith) eight few area in
       let pages = core .shape .few-pages in
@@ -231,8 +231,8 @@ module _ (d : Directory) (backup : ℕ → ℕ) (old : ℕ → ℕ → ℕ) (T C
   open-core =
       record {
         shape = shape-kept (core .shape) m′ same-size;
-        standing = update-each (b .release) c R′ (λ x R. isLive d x ≡ true → Standing d m′ x R) (λ _. own-stands)
-          (λ x other up. standing-kept d m m′ x (b .release x) (kept-other x other) (core .standing x up));
+        standing = update-each (b .release) c R′ (λ x R. isLive d x ≡ true → Standing (d .pages) m′ x R) (λ _. own-stands)
+          (λ x other up. standing-kept (d .pages) m m′ x (b .release x) (kept-other x other) (core .standing x up));
         gone = update-each (b .release) c R′ (λ x R. isLive d x ≡ false → R ≡ none)
           (λ dead. absurd (true≢false (sym live ∙ dead))) (λ x other. core .gone x);
         under = update-each (b .release) c R′ (λ x R. Under R) (omega arith) (λ x other. core .under x);

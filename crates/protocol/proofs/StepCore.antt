@@ -24,6 +24,18 @@ use Rattle.protocol.proofs.StepClaims.{PricesAfter, close-tentatives, c
 use Rattle.protocol.proofs.Held.{Numbers, Own, Held, held-kept, LastAfter, close-held}
 use Rattle.protocol.proofs.Core.{Core, OpenStands, Standing, Under, standing-kept, write-core, steppedBook}
 
+-- releases that stay apart when one is struck out
+pub apart-struck : (release : ℕ → Opened) (c : ℕ) → Apart release → Apart (update release c none)
+apart-struck release c apart x y label other named =
+    elim (ℕ-discrete y c) [
+      | yes same ↦ rw (same, update-same release c none) (names-none label)
+      | no away ↦ elim (ℕ-discrete x c) [
+        | yes same ↦ absurd (false≢true (sym (names-none label) ∙ (rw (same, update-same release c none) at named)))
+        | no far ↦ rw (update-other release c none y away)
+            (apart x y label other (rw (update-other release c none x far) at named))
+      ]
+    ]
+
 module _ (d : Directory) (backup : ℕ → ℕ) (old : ℕ → ℕ → ℕ) (T C : Type 0) (m : List ℕ) (b : Book)
   (core : Core d backup old T C m b) (c : ℕ) (live : isLive d c ≡ true) (r : Release) (list : List ℕ) (s : ℕ)
   (is : b .release c ≡ opened r list s) where
@@ -33,7 +45,7 @@ module _ (d : Directory) (backup : ℕ → ℕ) (old : ℕ → ℕ → ℕ) (T C
   small : (x : ℕ) → isLive d x ≡ true → x < 8
   small x up = omega (arith, core .shape .below x up, core .shape .few-cards)
 
-  standing : OpenStands d m c r list s
+  standing : OpenStands (d .pages) m c r list s
   standing = rw is at (core .standing c live)
 
   eight : length (r .desk) ≡ 8
@@ -63,17 +75,6 @@ module _ (d : Directory) (backup : ℕ → ℕ) (old : ℕ → ℕ → ℕ) (T C
     kept-page : (h o : ℕ) → 676 ≤ o → o < sizeOf d → load (sizeOf d) m′ h o ≡ load (sizeOf d) m h o
     kept-page h o above inside = elsewhere h o inside (inr (inr above))
 
-    apart-struck : Apart (update (b .release) c none)
-    apart-struck x y label other named =
-        elim (ℕ-discrete y c) [
-          | yes same ↦ rw (same, update-same (b .release) c none) (names-none label)
-          | no away ↦ elim (ℕ-discrete x c) [
-            | yes same ↦ absurd (false≢true (sym (names-none label) ∙ (rw (same, update-same (b .release) c none) at named)))
-            | no far ↦ rw (update-other (b .release) c none y away)
-                (core .apart x y label other (rw (update-other (b .release) c none x far) at named))
-          ]
-        ]
-
     own-last : ownRelease (sizeOf d) m′ c ≡ b .last c
     own-last =
         close-own (sizeOf d) m c (omega arith) (rw (standing .stands .release) eight) (area-of-live (core .shape) c live)
@@ -83,15 +84,15 @@ module _ (d : Directory) (backup : ℕ → ℕ) (old : ℕ → ℕ → ℕ) (T C
     close-core =
         record {
           shape = shape-kept (core .shape) m′ (length-close (sizeOf d) m c (omega arith));
-          standing = update-each (b .release) c none (λ x R. isLive d x ≡ true → Standing d m′ x R)
+          standing = update-each (b .release) c none (λ x R. isLive d x ≡ true → Standing (d .pages) m′ x R)
             (λ _. close-word-9 (sizeOf d) m c (omega arith) (rw (standing .stands .release) eight)
               (area-of-live (core .shape) c live))
-            (λ x other up. standing-kept d m m′ x (b .release x) (kept-other x other) (core .standing x up));
+            (λ x other up. standing-kept (d .pages) m m′ x (b .release x) (kept-other x other) (core .standing x up));
           gone = update-each (b .release) c none (λ x R. isLive d x ≡ false → R ≡ none) (λ _. refl) (λ x other. core .gone x);
           under = update-each (b .release) c none (λ x R. Under R) tt (λ x other. core .under x);
           eights = update-each (b .release) c none (λ x R. EightWords R) tt (λ x other. core .eights x);
           last-eight = core .last-eight;
-          apart = apart-struck;
+          apart = apart-struck (b .release) c (core .apart);
           numbers = update-each (b .release) c none (λ x R. Numbers R (b .last x)) tt (λ x other. core .numbers x);
           owns = update-each (b .release) c none (λ x R. isLive d x ≡ true → Own R (ownRelease (sizeOf d) m′ x) (b .last x))
             (λ _. own-last)

@@ -101,17 +101,17 @@ module _ (d : Directory) (backup c : ℕ) (r : Release) (ps : List Price) (eight
 -- ---- a step
 
 -- the release that stands in card c's area: what a step goes by
-pub record StandsIn (d : Directory) (m : List ℕ) (c : ℕ) (r : Release) (ps : List Price) (s : ℕ) : Type 0 where
-  pub release : openRelease (sizeOf d) m c ≡ r
-  pub prices : openPrices (d .pages) m c ≡ ps
-  pub steps : stepsOf (sizeOf d) m c ≡ s
+pub record StandsIn (pages : ℕ) (m : List ℕ) (c : ℕ) (r : Release) (ps : List Price) (s : ℕ) : Type 0 where
+  pub release : openRelease (areaSize pages) m c ≡ r
+  pub prices : openPrices pages m c ≡ ps
+  pub steps : stepsOf (areaSize pages) m c ≡ s
 
 -- the store of the step after s steps
 abbrev pub stepWrite : Directory → ℕ → ℕ → Release → List Price → ℕ → Write
 stepWrite d backup c r ps s = getD (releaseWrites d backup c r ps) s noWrite
 
 module _ {d : Directory} {m : List ℕ} (shape : Shape d m) (backup c : ℕ) (live : isLive d c ≡ true) {r : Release}
-  {ps : List Price} {s : ℕ} (stands : StandsIn d m c r ps s) where
+  {ps : List Price} {s : ℕ} (stands : StandsIn (d .pages) m c r ps s) where
   pub eight : length (r .desk) ≡ 8
   unfolding openRelease
   eight =
