@@ -19,3 +19,6 @@ pub mod Restoring
 pub mod Rehoming
 pub mod Recording
 pub mod RecoveredRecords
+pub mod Moving
+pub mod Recovering
+pub mod Recovered
