@@ -18,7 +18,10 @@ pub mod Failing
 pub mod Restoring
 pub mod Rehoming
 pub mod Recording
-pub mod RecoveredRecords
+pub mod FailedRecord
+pub mod OwnRecords
 pub mod Moving
 pub mod Recovering
 pub mod Recovered
+pub mod JoinedArea
+pub mod Joining

@@ -6,6 +6,8 @@ use mathlib.Core.List.{List, []}
 use mathlib.Core.Bool.{Bool, true, false, cond, true≢false, false≢true}
 use native.Mathlib.Omega.{arith}
 use native.Mathlib.Decide.{ℕ-discrete, decLt}
+use borrow.Author.Tests.{eq-eqb, eqb-true}
+use Rattle.laws.proofs.Bools.{and-first, and-second}
 use lib.ListN.{length, getD}
 use Rattle.laws.specs.Search.{inTurn}
 use Rattle.memory.specs.Layout.{deskSize, ownDesk, pageStart, releaseOpen, tentativeHalf, committedHalf}
@@ -17,9 +19,9 @@ use Rattle.directory.specs.Directory.{directoryOf, isLive, primaryOf, secondary
 use Rattle.directory.proofs.Live.{next-live-kept}
 use Rattle.diff.proofs.Prices.{names-none, laid-none}
 use Rattle.protocol.specs.Release.{Release, sizeOf, ownRelease}
-use Rattle.protocol.specs.Record.{underWay}
+use Rattle.protocol.specs.Record.{underWay, writeOwnRecord}
 use Rattle.protocol.specs.Recovery.{backupBefore, closeReleases, restorePages, lostHome, keptHome, newHome}
-use Rattle.protocol.specs.Recovery.{failedRelease, copyToNewHomes, writeFailed, writeBackedUp, writeRecords}
+use Rattle.protocol.specs.Recovery.{failedRelease, copyToNewHomes, writeFailed, backupWas, writeRecords}
 use Rattle.protocol.specs.Recovery.{recoveredDirectory, recoveredMemory}
 use Rattle.protocol.specs.Book.{Opened, none, Book, countOpen, strikeOpen}
 use Rattle.protocol.proofs.Shape.{Shape, SameOwn, area-of-live, shape-kept, own-words-kept}
@@ -30,7 +32,8 @@ use Rattle.protocol.proofs.Halves.{tentatives, committeds, pending-none
 use Rattle.protocol.proofs.Held.{Held, held-kept}
 use Rattle.protocol.proofs.Core.{Core}
 use Rattle.protocol.proofs.Rehoming.{Right}
-use Rattle.protocol.proofs.RecoveredRecords.{FailedBelow, failed-below, BackedBelow, backed-below}
+use Rattle.protocol.proofs.FailedRecord.{FailedBelow, failed-below}
+use Rattle.protocol.proofs.OwnRecords.{OwnBelow, own-below}
 use Rattle.protocol.proofs.Moving.{MovedBelow, movedHomes, moved, recovered-parts, whole-primary, whole-secondary}
 use Rattle.protocol.proofs.Moving.{kept-primary}
 use Rattle.protocol.proofs.Invariant.{RunningRack, AwaitingRack, next-is-live, next-is-other, unmarked}
@@ -72,7 +75,7 @@ module _ (d : Directory) (f : ℕ) (m : List ℕ) (b : Book) (rack : AwaitingRac
   m₄ = inTurn (writeFailed d f r) (d .cards) m₃
 
   abbrev m₅ : List ℕ
-  m₅ = inTurn (writeBackedUp d f) (d .cards) m₄
+  m₅ = inTurn (writeOwnRecord (sizeOf d) (backupWas d f) (backupOf d)) (d .cards) m₄
 
   few : f < 8
   few = recovering.few d f m b rack
@@ -96,10 +99,31 @@ module _ (d : Directory) (f : ℕ) (m : List ℕ) (b : Book) (rack : AwaitingRac
   own-last : (c : ℕ) → isLive d c ≡ true → ownRelease (sizeOf d) m₁ c ≡ b₁ .last c
   own-last c live = recovering.closed d f m b rack .owns c live
 
-  backed : BackedBelow d f (d .cards) m₄ m₅
+  -- the cards whose records are due
+  due-live : (c : ℕ) → backupWas d f c ≡ true → isLive d c ≡ true
+  due-live c due = and-first (isLive d c) _ due
+
+  due-his : (c : ℕ) → backupWas d f c ≡ true → backupBefore d f c ≡ f
+  due-his c due = eqb-true (backupBefore d f c) f (and-second (isLive d c) _ due)
+
+  is-due : (c : ℕ) → isLive d c ≡ true → backupBefore d f c ≡ f → backupWas d f c ≡ true
+  is-due c live his = rw (live, eq-eqb (backupBefore d f c) f his)
+
+  not-due : (g : ℕ) → (isLive d g ≡ true → backupBefore d f g ≢ f) → backupWas d f g ≡ false
+  not-due g not-his = go (backupWas d f g) refl
+    where
+      go : (due : Bool) → backupWas d f g ≡ due → backupWas d f g ≡ false
+      go true due = absurd (not-his (due-live g due) (due-his g due))
+      go false due = due
+
+  small : (c : ℕ) → isLive d c ≡ true → c < 8
+  small c live = omega (arith, rack .core .shape .below c live, rack .core .shape .few-cards)
+
+  backed : OwnBelow (sizeOf d) (backupWas d f) (backupOf d) (d .cards) m₄ m₅
   backed =
-      backed-below d f m₄ (shape-kept shape₃ m₄ (failed .same-length)) (λ c live. backups c)
-      (λ c live. rw (own₄ c, own-last c live) (recovering.closed d f m b rack .last-eight c)) (d .cards)
+      own-below (sizeOf d) (omega arith) (backupWas d f) (backupOf d) m₄ (λ c due. small c (due-live c due))
+      (λ c due. area-of-live (shape-kept shape₃ m₄ (failed .same-length)) (backupOf d c) (backups c))
+      (λ c due. rw (own₄ c, own-last c (due-live c due)) (recovering.closed d f m b rack .last-eight c)) (d .cards)
 
   same-length : length m₅ ≡ length m₁
   same-length = backed .same-length ∙ failed .same-length ∙ recovering.m₃-length d f m b rack
@@ -115,8 +139,8 @@ module _ (d : Directory) (f : ℕ) (m : List ℕ) (b : Book) (rack : AwaitingRac
   -- a record that is not written
   other-record : (g h o : ℕ) → g < 8 → g ≢ f → (isLive d g ≡ true → backupBefore d f g ≢ f) → 20 + 18 * g ≤ o → o < 38 + 18 * g
     → load (sizeOf d) m₅ h o ≡ load (sizeOf d) m₁ h o
-  other-record g h o small other not-his above below =
-      backed .records g h o small not-his above below
+  other-record g h o little other not-his above below =
+      backed .records g h o little (not-due g not-his) above below
       ∙ failed .same h o (omega arith) (apart (decLt g f)) ∙ recovering.low-kept d f m b rack h o (omega arith)
     where
       apart : Dec (g < f) → (o < 20 + 18 * f) ⊎ (38 + 18 * f ≤ o)
@@ -199,14 +223,11 @@ module _ (d : Directory) (f : ℕ) (m : List ℕ) (b : Book) (rack : AwaitingRac
   own-kept₅ : (c : ℕ) → ownRelease (sizeOf d) m₅ c ≡ ownRelease (sizeOf d) m₁ c
   own-kept₅ c = own-words-kept (sizeOf d) m₁ m₅ c same-length (λ o small. own-word c o (inl (omega arith)))
 
-  small : (c : ℕ) → isLive d c ≡ true → c < 8
-  small c live = omega (arith, rack .core .shape .below c live, rack .core .shape .few-cards)
-
   -- a live card's record stands on its backup
   live-held : (c : ℕ) → isLive d c ≡ true → Held c none (b₁ .last c) (load (sizeOf d) m₅ (backupOf d c))
   live-held c live =
       elim (ℕ-discrete (backupBefore d f c) f) [
-        | yes his ↦ rw (← (own-last c live), ← (own₄ c)) (backed .held c (rack .core .shape .below c live) live his)
+        | yes his ↦ rw (← (own-last c live), ← (own₄ c)) (backed .held c (rack .core .shape .below c live) (is-due c live his))
         | no other ↦
             rw (same-backup c other)
             (held-kept c none (b₁ .last c) _ _
@@ -224,7 +245,7 @@ module _ (d : Directory) (f : ℕ) (m : List ℕ) (b : Book) (rack : AwaitingRac
         | yes same ↦
             rw (same, recovering.last-same d f m b rack f (rack .lost), ← (recovering.answers d f m b rack))
             (held-kept f none r _ _
-            (λ o above below. backed .records f h o few (λ up. absurd (true≢false (sym up ∙ rack .lost))) above below)
+            (λ o above below. backed .records f h o few (not-due f (λ up. absurd (true≢false (sym up ∙ rack .lost)))) above below)
             (failed .held h (rack .core .shape .below h live) live))
         | no other ↦
             rw (recovering.last-same d f m b rack g dead)

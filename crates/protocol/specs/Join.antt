@@ -11,8 +11,8 @@ use Rattle.memory.specs.Layout.{ownStamp, recordStamp, recordSize}
 use Rattle.memory.specs.Area.{storeRun, clearRun, copyRun}
 use Rattle.directory.specs.declared.Directory.{Directory}
 use Rattle.directory.specs.Directory.{isLive, nextLiveOf, backupOf, markedLive}
-use Rattle.protocol.specs.Release.{Release, sizeOf, ownRelease, isOpen}
-use Rattle.protocol.specs.Record.{recordedRelease, writeRecord}
+use Rattle.protocol.specs.Release.{Release, sizeOf, isOpen}
+use Rattle.protocol.specs.Record.{recordedRelease, writeOwnRecord}
 use Rattle.protocol.specs.Checks.{Check, check, firstRefusal, runningChecks, noSuchCard}
 use Rattle.protocol.specs.Result.{Result, resultOf}
 
@@ -38,15 +38,13 @@ copyDeadRecord d x c m =
     m
 
 -- "and, made as in recovery, that of the live card whose backup it now is"
-unfoldable pub writeBacked : Directory → ℕ → ℕ → List ℕ → List ℕ
-writeBacked d x c m =
-    cond (isLive d c && eqb (backupOf (markedLive d x) c) x)
-    (writeRecord (sizeOf d) m x c (ownRelease (sizeOf d) m c))
-    m
+abbrev pub backupIs : Directory → ℕ → ℕ → Bool
+backupIs d x c = isLive d c && eqb (backupOf (markedLive d x) c) x
 
 unfoldable pub joinedMemory : Directory → ℕ → List ℕ → List ℕ
 joinedMemory d x m =
-    inTurn (writeBacked d x) (d .cards) (inTurn (copyDeadRecord d x) (d .cards) (resetArea d x m))
+    inTurn (writeOwnRecord (sizeOf d) (backupIs d x) (λ c. x)) (d .cards)
+    (inTurn (copyDeadRecord d x) (d .cards) (resetArea d x m))
 
 -- "Homes do not move."
 unfoldable pub join : Directory → List ℕ → ℕ → Result

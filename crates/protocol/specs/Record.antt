@@ -6,7 +6,7 @@ use mathlib.Core.Bool.{Bool, true, false, cond}
 use lib.Dec.{eqb}
 use Rattle.memory.specs.Layout.{deskSize, recordStamp, recordDone, recordDesk}
 use Rattle.memory.specs.Area.{load, loadRun, storeRun, zeros}
-use Rattle.protocol.specs.Release.{Release}
+use Rattle.protocol.specs.Release.{Release, ownRelease}
 
 -- the release that the record on `holder` tells of card c: its stamp, and the desk by the stamp's evenness
 unfoldable pub recordedRelease : ℕ → List ℕ → ℕ → ℕ → Release
@@ -27,3 +27,7 @@ settledRecord r =
 
 unfoldable pub writeRecord : ℕ → List ℕ → ℕ → ℕ → Release → List ℕ
 writeRecord size m holder c r = storeRun size m holder (recordStamp c) (settledRecord r)
+
+-- card c's record, made from its own stamp and desk, on the card that is to hold it, where it is due
+unfoldable pub writeOwnRecord : ℕ → (ℕ → Bool) → (ℕ → ℕ) → ℕ → List ℕ → List ℕ
+writeOwnRecord size due holder c m = cond (due c) (writeRecord size m (holder c) c (ownRelease size m c)) m

@@ -14,8 +14,8 @@ use Rattle.directory.specs.declared.Directory.{Directory}
 use Rattle.directory.specs.declared.Status.{Status}
 use Rattle.directory.specs.declared.Status.the-variants.{Running, Awaiting}
 use Rattle.directory.specs.Directory.{isLive, primaryOf, secondaryOf, nextLiveOf, backupOf, markedLive, withHomes, withStatus}
-use Rattle.protocol.specs.Release.{Release, sizeOf, ownRelease, openPrices, stepsOf, isOpen, stepsIn, stepMemory}
-use Rattle.protocol.specs.Record.{recordedRelease, underWay, writeRecord}
+use Rattle.protocol.specs.Release.{Release, sizeOf, openPrices, stepsOf, isOpen, stepsIn, stepMemory}
+use Rattle.protocol.specs.Record.{recordedRelease, underWay, writeRecord, writeOwnRecord}
 use Rattle.protocol.specs.Checks.{Check, check, firstRefusal, fittingChecks, awaitsRecovery}
 use Rattle.protocol.specs.Result.{Result, resultOf}
 
@@ -90,14 +90,12 @@ recoveredDirectory d f = withStatus (inTurn (moveHome d f) (d .pages) d) Running
 unfoldable pub writeFailed : Directory → ℕ → Release → ℕ → List ℕ → List ℕ
 writeFailed d f r holder m = cond (isLive d holder) (writeRecord (sizeOf d) m holder f r) m
 
-unfoldable pub writeBackedUp : Directory → ℕ → ℕ → List ℕ → List ℕ
-writeBackedUp d f c m =
-    cond (isLive d c && eqb (backupBefore d f c) f)
-    (writeRecord (sizeOf d) m (backupOf d c) c (ownRelease (sizeOf d) m c))
-    m
+abbrev pub backupWas : Directory → ℕ → ℕ → Bool
+backupWas d f c = isLive d c && eqb (backupBefore d f c) f
 
 unfoldable pub writeRecords : Directory → ℕ → Release → List ℕ → List ℕ
-writeRecords d f r m = inTurn (writeBackedUp d f) (d .cards) (inTurn (writeFailed d f r) (d .cards) m)
+writeRecords d f r m =
+    inTurn (writeOwnRecord (sizeOf d) (backupWas d f) (backupOf d)) (d .cards) (inTurn (writeFailed d f r) (d .cards) m)
 
 -- ---- the whole
 

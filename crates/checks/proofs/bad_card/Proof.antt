@@ -1,0 +1,76 @@
+-- Rests on its tests, which are the definition's in the same order, of the words that it loads.
+use native.Mathlib.Omega.{arith}
+use borrow.Author.Needs.{needs}
+use borrow.Author.Tests.{eq-eqb, ne-eqb, lt-ltb, le-ltb}
+use Rattle.protocol.specs.Release.{openList, stepsOf}
+use Rattle.protocol.specs.Checks.{badCard}
+use Rattle.checks.proofs.bad_card.Statement.{statement}
+use Rattle.checks.proofs.bad_card.Tie as tie
+
+shared-slice-read-if1 : tie.Need-shared-slice-read-if1
+shared-slice-read-if1 c = search needs
+
+area-size-requires : tie.Need-area-size-requires
+area-size-requires c κs = search needs
+
+load-word-requires : tie.Need-load-word-requires
+load-word-requires c κs = rw (c .area-size .ensures) (omega arith)
+
+returns : tie.Need-returns
+unfolding badCard
+returns c =
+    let opened = c .before in
+    rw (← opened .before .area-size .ensures, ← opened .load-word .ensures)
+    (simp (opened .before .before .if1 .taken, lt-ltb _ _ (c .if2 .taken)))
+
+load-word-requires-2 : tie.Need-load-word-requires-2
+load-word-requires-2 c κs = rw (c .before .before .before .area-size .ensures) (omega arith)
+
+read-stored-requires : tie.Need-read-stored-requires
+read-stored-requires c κs = rw (c .before .before .before .before .area-size .ensures) (omega arith)
+
+bad-release-requires : tie.Need-bad-release-requires
+bad-release-requires c κs = search needs
+
+returns-2 : tie.Need-returns-2
+unfolding badCard openList stepsOf
+returns-2 c =
+    let opened = c .before .before .before .before .before in
+    rw (
+      ← opened .before .area-size .ensures,
+      ← opened .load-word .ensures,
+      ← c .before .before .load-word2 .ensures,
+      ← c .before .read-stored .ensures,
+    )
+    (simp (
+      opened .before .before .if1 .taken,
+      le-ltb _ _ (c .before .before .before .before .if2 .left),
+      eq-eqb _ _ (c .before .before .before .if3 .taken),
+    )
+    (c .bad-release .ensures))
+
+returns-3 : tie.Need-returns-3
+unfolding badCard
+returns-3 c =
+    let opened = c .before .before in
+    rw (← opened .before .area-size .ensures, ← opened .load-word .ensures)
+    (simp (opened .before .before .if1 .taken, le-ltb _ _ (c .before .if2 .left), ne-eqb _ _ (c .if3 .left)))
+
+returns-4 : tie.Need-returns-4
+unfolding badCard
+returns-4 c = rw (c .if1 .left)
+
+pub bad-card-spec : {M : Type 1} → statement M
+bad-card-spec =
+    tie.close
+    (tie.spec
+    shared-slice-read-if1
+    area-size-requires
+    load-word-requires
+    returns
+    load-word-requires-2
+    read-stored-requires
+    bad-release-requires
+    returns-2
+    returns-3
+    returns-4)

@@ -1,0 +1,42 @@
+-- Rests on the arm's equation, and on the tests that the definition makes of the awaited card.
+use borrow.Author.Needs.{needs}
+use borrow.Author.Tests.{le-leb, lt-leb}
+use Rattle.protocol.specs.Checks.{badStatus}
+use Rattle.checks.proofs.bad_status.Statement.{statement}
+use Rattle.checks.proofs.bad_status.Tie as tie
+
+enum-told : tie.Need-enum-told
+enum-told c = search needs
+
+enum-known-status : tie.Need-enum-known-status
+enum-known-status c = search needs
+
+returns : tie.Need-returns
+unfolding badStatus
+returns c = rw (c .before .before .status .given .1) (simp (le-leb _ _ (c .if1 .taken)))
+
+cast-at : tie.Need-cast-at
+cast-at c = search needs
+
+shared-slice-read-result : tie.Need-shared-slice-read-result
+shared-slice-read-result c = search needs
+
+returns-2 : tie.Need-returns-2
+unfolding badStatus
+returns-2 c = rw (c .enum-told .given .1)
+
+returns-3 : tie.Need-returns-3
+unfolding badStatus
+returns-3 c = rw (c .before .before .before .status .given .1) (simp (lt-leb _ _ (c .before .if1 .left)))
+
+pub bad-status-spec : {M : Type 1} → statement M
+bad-status-spec =
+    tie.close
+    (tie.spec
+    enum-told
+    enum-known-status
+    returns
+    cast-at
+    shared-slice-read-result
+    returns-2
+    returns-3)

@@ -1,0 +1,39 @@
+-- Rests on its two tests, the checks in order; a rack that passes the first is within its limits.
+use mathlib.Core.Path.{sym, _∙_}
+use borrow.Author.Needs.{needs}
+use Rattle.protocol.specs.Checks.{firstRefusal}
+use Rattle.checks.proofs.Limits.{within-limits}
+use Rattle.checks.proofs.fitting.Statement.{statement}
+use Rattle.checks.proofs.fitting.Tie as tie
+
+outside-limits-requires : tie.Need-outside-limits-requires
+outside-limits-requires c κs = search needs
+
+returns : tie.Need-returns
+unfolding firstRefusal
+returns c = simp (sym (c .before .outside-limits .ensures) ∙ c .if1 .taken)
+
+unfit-rack-requires : tie.Need-unfit-rack-requires
+unfit-rack-requires c κs =
+    let within = within-limits _ _ _ (sym (c .before .outside-limits .ensures) ∙ c .if1 .left) in
+    search needs
+
+returns-2 : tie.Need-returns-2
+unfolding firstRefusal
+returns-2 c =
+    simp (
+      sym (c .before .before .before .outside-limits .ensures) ∙ c .before .before .if1 .left,
+      sym (c .before .unfit-rack .ensures) ∙ c .if2 .taken,
+    )
+
+returns-3 : tie.Need-returns-3
+unfolding firstRefusal
+returns-3 c =
+    simp (
+      sym (c .before .before .before .outside-limits .ensures) ∙ c .before .before .if1 .left,
+      sym (c .before .unfit-rack .ensures) ∙ c .if2 .left,
+    )
+
+pub fitting-spec : {M : Type 1} → statement M
+fitting-spec =
+    tie.close (tie.spec outside-limits-requires returns unfit-rack-requires returns-2 returns-3)

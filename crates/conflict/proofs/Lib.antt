@@ -1,0 +1,4 @@
+-- Laws that the searches cite.
+pub mod Walking
+pub mod Turns
+pub mod Sharing

@@ -1,0 +1,22 @@
+-- Rests on the mark of the card and on the word that says whether a release is open.
+use borrow.Author.Needs.{needs}
+use Rattle.protocol.specs.Release.{isOpen}
+use Rattle.conflict.proofs.is_open.Statement.{statement}
+use Rattle.conflict.proofs.is_open.Tie as tie
+
+shared-slice-read-if1 : tie.Need-shared-slice-read-if1
+shared-slice-read-if1 c = search needs
+
+load-word-requires : tie.Need-load-word-requires
+load-word-requires c κs = search needs
+
+returns : tie.Need-returns
+unfolding isOpen
+returns c = simp (c .load-word .ensures, c .before .if1 .taken)
+
+returns-2 : tie.Need-returns-2
+unfolding isOpen
+returns-2 c = simp (c .if1 .left)
+
+pub is-open-spec : {M : Type 1} → statement M
+is-open-spec = tie.close (tie.spec shared-slice-read-if1 load-word-requires returns returns-2)

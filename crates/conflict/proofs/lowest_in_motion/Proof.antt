@@ -1,0 +1,75 @@
+-- Rests on the laws of a turn: the search from here on finds what the whole search finds.
+use Prim.Native.Nat.{_-_, _≤_}
+use mathlib.Core.Path.{_≡_, sym, _∙_}
+use native.Mathlib.Nat.{sub-zero}
+use native.Mathlib.Omega.{arith}
+use borrow.Author.Needs.{needs}
+use Rattle.laws.specs.Search.{lowestFrom, lowest}
+use Rattle.laws.proofs.Search.{lowest-end, lowest-hit, lowest-skip}
+use Rattle.memory.proofs.Index.{area-in}
+use Rattle.protocol.specs.Fetch.{inMotion}
+use Rattle.conflict.proofs.lowest_in_motion.Statement.{statement}
+use Rattle.conflict.proofs.lowest_in_motion.Tie as tie
+
+abbrev Inv-loop : tie.InvT-loop
+Inv-loop memory cards pages live page size card₀ card =
+    (card ≤ cards)
+    × (lowestFrom (inMotion live pages memory page) card (cards - card)
+    ≡ lowest (inMotion live pages memory page) cards)
+
+abbrev μ-loop : tie.MeasureT-loop
+μ-loop memory cards pages live page size card₀ card = cards - card
+
+area-size-requires : tie.Need-area-size-requires Inv-loop μ-loop
+area-size-requires c κs = search needs
+
+loop-holds : tie.Need-loop-holds Inv-loop μ-loop
+loop-holds c = (omega arith, rw sub-zero)
+
+cast-in-motion : tie.Need-cast-in-motion Inv-loop μ-loop
+cast-in-motion c = search needs
+
+in-motion-requires : tie.Need-in-motion-requires Inv-loop μ-loop
+in-motion-requires c κs =
+    let size = c .before .before .area-size .ensures in
+    let area = area-in _ (c .loop-test .taken) (c .before .before .before .before .before .pre .0 .1) in
+    ((size, rw size area), search needs)
+
+returns : tie.Need-returns Inv-loop μ-loop
+returns c =
+    let turn = c .before .before in
+    let hit = sym (c .before .in-motion .ensures) ∙ c .if1 .taken in
+    sym (lowest-hit _ _ _ (turn .loop-test .taken) hit) ∙ turn .before .loop .inv .1
+
+add-card : tie.Need-add-card Inv-loop μ-loop
+add-card c = search needs
+
+loop-less : tie.Need-loop-less Inv-loop μ-loop
+loop-less c = search needs
+
+loop-again : tie.Need-loop-again Inv-loop μ-loop
+loop-again c =
+    let turn = c .before .before in
+    let miss = sym (c .before .in-motion .ensures) ∙ c .if1 .left in
+    (omega arith, lowest-skip _ _ _ (turn .loop-test .taken) miss ∙ turn .before .loop .inv .1)
+
+returns-2 : tie.Need-returns-2 Inv-loop μ-loop
+returns-2 c =
+    let end : c .before .loop .card ≡ c .before .before .before .before .before .args .cards = omega arith in
+    sym end ∙ sym (lowest-end _ _ _ (c .loop-test .left)) ∙ c .before .loop .inv .1
+
+pub lowest-in-motion-spec : {M : Type 1} → statement M
+lowest-in-motion-spec =
+    tie.close
+    (tie.spec
+    Inv-loop
+    μ-loop
+    area-size-requires
+    loop-holds
+    cast-in-motion
+    in-motion-requires
+    returns
+    add-card
+    loop-less
+    loop-again
+    returns-2)

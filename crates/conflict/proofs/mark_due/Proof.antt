@@ -1,0 +1,24 @@
+-- Rests on the test of the price that is due, and on its label.
+use borrow.Author.Tests.{le-ltb, lt-ltb}
+use borrow.Author.Needs.{needs}
+use Rattle.conflict.proofs.mark_due.Statement.{statement}
+use Rattle.conflict.proofs.mark_due.Tie as tie
+
+label-due-requires : tie.Need-label-due-requires
+label-due-requires c κs = search needs
+
+slice-write-named : tie.Need-slice-write-named
+slice-write-named c = search needs
+
+same-length : tie.Need-same-length
+same-length c = search needs
+
+returns : tie.Need-returns
+returns c = simp (lt-ltb _ _ (c .before .if1 .taken), c .label-due .ensures)
+
+returns-2 : tie.Need-returns-2
+returns-2 c = simp (le-ltb _ _ (c .if1 .left))
+
+pub mark-due-spec : {M : Type 1} → statement M
+mark-due-spec =
+    tie.close (tie.spec label-due-requires slice-write-named same-length returns returns-2)

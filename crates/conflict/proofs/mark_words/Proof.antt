@@ -1,0 +1,73 @@
+-- Rests on the law of a turn: to mark what is left of the prices marks what all of them mark.
+use Prim.Native.Nat.{_-_}
+use mathlib.Core.Path.{_≡_, refl, sym, _∙_}
+use native.Mathlib.Omega.{arith}
+use borrow.Author.Needs.{needs}
+use lib.ListN.{length}
+use Rattle.diff.specs.Prices.{pricesOf}
+use Rattle.conflict.specs.Named.{marked}
+use Rattle.conflict.proofs.Walking.{Reached, pricesLeft, left-first, reached-next, fewer-left}
+use Rattle.conflict.proofs.Turns.{marked-turn, marked-end}
+use Rattle.conflict.proofs.mark_words.Statement.{statement}
+use Rattle.conflict.proofs.mark_words.Tie as tie
+
+abbrev Inv-loop : tie.InvT-loop
+Inv-loop list pages named₀ at₀ named at =
+    Reached pages (length list) at × (length named ≡ length named₀)
+    × (marked (pricesLeft pages list at) named ≡ marked (pricesOf pages list) named₀)
+
+abbrev μ-loop : tie.MeasureT-loop
+μ-loop list pages named₀ at₀ named at = length list - at .index
+
+first-word-requires : tie.Need-first-word-requires Inv-loop μ-loop
+first-word-requires c κs = search needs
+
+loop-holds : tie.Need-loop-holds Inv-loop μ-loop
+loop-holds c = rw (c .first-word .ensures, left-first) (omega arith, refl, refl)
+
+mark-due-requires : tie.Need-mark-due-requires Inv-loop μ-loop
+mark-due-requires c κs = search needs
+
+next-word-requires : tie.Need-next-word-requires Inv-loop μ-loop
+next-word-requires c κs = search needs
+
+loop-less : tie.Need-loop-less Inv-loop μ-loop
+loop-less c =
+    let turn = c .before .before .before .before .before in
+    let at = turn .before .before .loop in
+    let list = turn .before .before .before .before .before .before .args .list .now in
+    rw (c .next-word .ensures) (fewer-left _ list (at .at) (turn .if1 .taken) (at .inv .0))
+
+loop-again : tie.Need-loop-again Inv-loop μ-loop
+loop-again c =
+    let turn = c .before .before .before .before .before in
+    let at = turn .before .before .loop in
+    let marks = c .before .before .before .mark-due in
+    rw (c .next-word .ensures) (
+      reached-next _ _ (at .at) (turn .if1 .taken) (at .inv .0),
+      marks .kept .1 .0 ∙ at .inv .1,
+      rw (marks .ensures) (sym (marked-turn _ _ (at .at) (turn .if1 .taken) (at .named)) ∙ at .inv .2),
+    )
+
+same-length : tie.Need-same-length Inv-loop μ-loop
+same-length c = search needs
+
+returns : tie.Need-returns Inv-loop μ-loop
+returns c =
+    let at = c .before .before .loop in
+    sym (marked-end _ _ (at .at) (c .if1 .left) (at .named)) ∙ at .inv .2
+
+pub mark-words-spec : {M : Type 1} → statement M
+mark-words-spec =
+    tie.close
+    (tie.spec
+    Inv-loop
+    μ-loop
+    first-word-requires
+    loop-holds
+    mark-due-requires
+    next-word-requires
+    loop-less
+    loop-again
+    same-length
+    returns)

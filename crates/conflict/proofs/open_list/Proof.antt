@@ -1,0 +1,53 @@
+-- Rests on the part of the memory that is lent: it is the 512 words of the list.
+use Prim.Native.Nat.{_+_, _-_}
+use mathlib.Core.Path.{_≡_}
+use native.Mathlib.Omega.{arith}
+use borrow.Author.Needs.{needs}
+use lib.ListN.{length-take, length-drop}
+use Rattle.memory.specs.Layout.{listStart, listSize}
+use Rattle.memory.specs.Area.{indexOf, loadRun}
+use Rattle.protocol.specs.Release.{openList}
+use Rattle.conflict.proofs.open_list.Statement.{statement}
+use Rattle.conflict.proofs.open_list.Tie as tie
+
+mul-from : tie.Need-mul-from
+mul-from c = search needs
+
+add-from : tie.Need-add-from
+add-from c = search needs
+
+add-end : tie.Need-add-end
+add-end c = search needs
+
+mul-result : tie.Need-mul-result
+mul-result c = search needs
+
+sub-result : tie.Need-sub-result
+sub-result c = search needs
+
+part-result-start : tie.Need-part-result-start
+part-result-start c = search needs
+
+part-result-end : tie.Need-part-result-end
+part-result-end c = search needs
+
+returns : tie.Need-returns
+unfolding openList loadRun
+returns c =
+    let a = c .before .args in
+    let from = indexOf (a .size) (a .card) listStart in
+    let words : from + listSize - from ≡ listSize = omega arith in
+    (rw words, simp (length-take, length-drop) (omega arith))
+
+pub open-list-spec : {M : Type 1} → statement M
+open-list-spec =
+    tie.close
+    (tie.spec
+    mul-from
+    add-from
+    add-end
+    mul-result
+    sub-result
+    part-result-start
+    part-result-end
+    returns)

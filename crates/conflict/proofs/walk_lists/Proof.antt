@@ -1,0 +1,168 @@
+-- Rests on the laws of a turn, over the cards and over a card's list: what is left finds what the whole finds.
+use Prim.Native.Nat.{_-_, _≤_}
+use mathlib.Core.Path.{_≡_, refl, sym, _∙_}
+use native.Mathlib.Nat.{sub-zero}
+use native.Mathlib.Omega.{arith}
+use borrow.Author.Needs.{needs}
+use lib.ListN.{length}
+use Rattle.laws.specs.Search.{lowestFrom, lowest}
+use Rattle.laws.proofs.Search.{lowest-end, lowest-hit, lowest-skip}
+use Rattle.memory.proofs.Index.{area-in}
+use Rattle.diff.specs.Prices.{pricesOf}
+use Rattle.conflict.specs.Named.{anyMarked, marksWith}
+use Rattle.conflict.proofs.Walking.{Reached, pricesLeft, left-first, reached-next, fewer-left}
+use Rattle.conflict.proofs.Turns.{any-turn, any-end, marks-not, marks-list}
+use Rattle.conflict.proofs.walk_lists.Statement.{statement}
+use Rattle.conflict.proofs.walk_lists.Tie as tie
+
+abbrev Inv-loop : tie.InvT-loop
+Inv-loop memory cards pages live card named size found₀ other list at₀ found at =
+    Reached pages (length list) at × (found ≡ found₀)
+    × (anyMarked (pricesLeft pages list at) named ≡ anyMarked (pricesOf pages list) named)
+
+abbrev μ-loop : tie.MeasureT-loop
+μ-loop memory cards pages live card named size found₀ other list at₀ found at = length list - at .index
+
+abbrev Inv-cards : tie.InvT-cards
+Inv-cards memory cards pages live card named size found₀ other₀ found other =
+    (other ≤ cards) × (found ≡ cards)
+    × (lowestFrom (marksWith live pages memory card named) other (cards - other)
+    ≡ lowest (marksWith live pages memory card named) cards)
+
+abbrev μ-cards : tie.MeasureT-cards
+μ-cards memory cards pages live card named size found₀ other₀ found other = cards - other
+
+area-size-requires : tie.Need-area-size-requires Inv-loop μ-loop Inv-cards μ-cards
+area-size-requires c κs = search needs
+
+cards-holds : tie.Need-cards-holds Inv-loop μ-loop Inv-cards μ-cards
+cards-holds c = (omega arith, refl, rw sub-zero)
+
+is-other-requires : tie.Need-is-other-requires Inv-loop μ-loop Inv-cards μ-cards
+is-other-requires c κs =
+    let size = c .before .before .area-size .ensures in
+    let area = area-in _ (c .cards-test .taken) (c .before .before .before .before .before .before .pre .0 .1) in
+    ((omega arith, rw size area), search needs)
+
+cast-open-list : tie.Need-cast-open-list Inv-loop μ-loop Inv-cards μ-cards
+cast-open-list c = search needs
+
+open-list-requires : tie.Need-open-list-requires Inv-loop μ-loop Inv-cards μ-cards
+open-list-requires c κs =
+    let turn = c .before .before in
+    let entry = turn .before .before .before .before .before .before in
+    let size = turn .before .before .area-size .ensures in
+    let area = area-in _ (turn .cards-test .taken) (entry .pre .0 .1) in
+    (omega arith, rw size area)
+
+first-word-requires : tie.Need-first-word-requires Inv-loop μ-loop Inv-cards μ-cards
+first-word-requires c κs = search needs
+
+loop-holds : tie.Need-loop-holds Inv-loop μ-loop Inv-cards μ-cards
+loop-holds c = rw (c .first-word .ensures, left-first) (omega arith, refl, refl)
+
+hits-requires : tie.Need-hits-requires Inv-loop μ-loop Inv-cards μ-cards
+hits-requires c κs = search needs
+
+next-word-requires : tie.Need-next-word-requires Inv-loop μ-loop Inv-cards μ-cards
+next-word-requires c κs = search needs
+
+loop-less : tie.Need-loop-less Inv-loop μ-loop Inv-cards μ-cards
+loop-less c =
+    let turn = c .before .before .before in
+    let at = turn .before .before .loop in
+    let list = turn .before .before .before .before .open-list .result .now in
+    rw (c .next-word .ensures) (fewer-left _ list (at .at) (turn .if2 .taken) (at .inv .0))
+
+loop-again : tie.Need-loop-again Inv-loop μ-loop Inv-cards μ-cards
+loop-again c =
+    let turn = c .before .before .before in
+    let at = turn .before .before .loop in
+    let miss = sym (c .before .if3 .left) ∙ c .before .before .hits .ensures in
+    rw (c .next-word .ensures) (
+      reached-next _ _ (at .at) (turn .if2 .taken) (at .inv .0),
+      at .inv .1,
+      sym (any-turn _ _ (at .at) (turn .if2 .taken) _ _ miss) ∙ at .inv .2,
+    )
+
+add-other : tie.Need-add-other Inv-loop μ-loop Inv-cards μ-cards
+add-other c = search needs
+
+cards-less : tie.Need-cards-less Inv-loop μ-loop Inv-cards μ-cards
+cards-less c = search needs
+
+cards-again : tie.Need-cards-again Inv-loop μ-loop Inv-cards μ-cards
+cards-again c =
+    let at = c .before .before .loop in
+    let lent = c .before .before .before .before in
+    let turn = lent .before .before .before in
+    let size = turn .before .before .area-size .ensures in
+    let other = lent .before .before .is-other .ensures in
+    let list = marks-list _ _ _ size _ _ _ other (lent .before .if1 .taken) (lent .open-list .ensures .0) in
+    let miss = list ∙ sym (at .inv .2) ∙ any-end _ _ (at .at) (c .if2 .left) _ in (
+      omega arith,
+      at .inv .1 ∙ turn .before .cards .inv .1,
+      lowest-skip _ _ _ (turn .cards-test .taken) miss ∙ turn .before .cards .inv .2,
+    )
+
+add-other-2 : tie.Need-add-other-2 Inv-loop μ-loop Inv-cards μ-cards
+add-other-2 c = search needs
+
+cards-less-2 : tie.Need-cards-less-2 Inv-loop μ-loop Inv-cards μ-cards
+cards-less-2 c = search needs
+
+cards-again-2 : tie.Need-cards-again-2 Inv-loop μ-loop Inv-cards μ-cards
+cards-again-2 c =
+    let turn = c .before .before in
+    let size = turn .before .before .area-size .ensures in
+    let miss = marks-not _ _ _ size _ _ _ (c .before .is-other .ensures) (c .if1 .left) in (
+      omega arith,
+      turn .before .cards .inv .1,
+      lowest-skip _ _ _ (turn .cards-test .taken) miss ∙ turn .before .cards .inv .2,
+    )
+
+returns : tie.Need-returns Inv-loop μ-loop Inv-cards μ-cards
+returns c =
+    let at = c .before .cards in
+    let end : at .other ≡ c .before .before .before .before .before .before .args .cards = omega arith in
+    at .inv .1 ∙ sym end ∙ sym (lowest-end _ _ _ (c .cards-test .left)) ∙ at .inv .2
+
+returns-2 : tie.Need-returns-2 Inv-loop μ-loop Inv-cards μ-cards
+returns-2 c =
+    let at = c .before .before .before .before .loop in
+    let lent = c .before .before .before .before .before .before in
+    let turn = lent .before .before .before in
+    let size = turn .before .before .area-size .ensures in
+    let other = lent .before .before .is-other .ensures in
+    let list = marks-list _ _ _ size _ _ _ other (lent .before .if1 .taken) (lent .open-list .ensures .0) in
+    let hit = sym (c .if3 .taken) ∙ c .before .hits .ensures in
+    let some = any-turn _ _ (at .at) (c .before .before .if2 .taken) _ _ hit in
+    sym (lowest-hit _ _ _ (turn .cards-test .taken) (list ∙ sym (at .inv .2) ∙ some)) ∙ turn .before .cards .inv .2
+
+pub walk-lists-spec : {M : Type 1} → statement M
+walk-lists-spec =
+    tie.close
+    (tie.spec
+    Inv-loop
+    μ-loop
+    Inv-cards
+    μ-cards
+    area-size-requires
+    cards-holds
+    is-other-requires
+    cast-open-list
+    open-list-requires
+    first-word-requires
+    loop-holds
+    hits-requires
+    next-word-requires
+    loop-less
+    loop-again
+    add-other
+    cards-less
+    cards-again
+    add-other-2
+    cards-less-2
+    cards-again-2
+    returns
+    returns-2)
