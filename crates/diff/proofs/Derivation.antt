@@ -90,8 +90,8 @@ good-as e f = cc
 -- whatever follows the end word
 module _ (pages : ℕ) (rest : List ℕ) where
   pub reads-good-then : {s : Cursor} {index : ℕ} {ws : List ℕ} {ps : List Price} → Reads pages s index ws ps
-    → index + length ws ≤ mostWords
-    → readFrom pages (ws ++ rest) index s ≡ Good (s .prices + length ps) (index + length ws)
+      → index + length ws ≤ mostWords
+      → readFrom pages (ws ++ rest) index s ≡ Good (s .prices + length ps) (index + length ws)
   reads-good-then {s} {index} (reads-end none gap) few =
       read-word pages s index (endWord index) rest End (step-end pages s index none gap (omega arith)) (omega arith)
       ∙ rw add-zero
@@ -106,7 +106,7 @@ module _ (pages : ℕ) (rest : List ℕ) where
       ∙ reads-good-then later (omega arith) ∙ good-as (omega arith) (omega arith)
 
   pub reads-prices-then : {s : Cursor} {index : ℕ} {ws : List ℕ} {ps : List Price} → Reads pages s index ws ps
-    → index + length ws ≤ mostWords → pricesFrom pages (ws ++ rest) index s ≡ ps
+      → index + length ws ≤ mostWords → pricesFrom pages (ws ++ rest) index s ≡ ps
   reads-prices-then {s} {index} (reads-end none gap) few =
       prices-word pages s index (endWord index) rest End (step-end pages s index none gap (omega arith))
       ∙ simp (le-ltb 0 (s .due) (omega arith))
@@ -122,7 +122,7 @@ module _ (pages : ℕ) (rest : List ℕ) where
 
 -- and where nothing follows
 module _ (pages : ℕ) {s : Cursor} {index : ℕ} {ws : List ℕ} {ps : List Price} (reads : Reads pages s index ws ps)
-  (few : index + length ws ≤ mostWords) where
+    (few : index + length ws ≤ mostWords) where
   pub reads-good : readFrom pages ws index s ≡ Good (s .prices + length ps) (index + length ws)
   reads-good = rw (append-nil ws) at (reads-good-then pages [] reads few)
 
@@ -131,7 +131,7 @@ module _ (pages : ℕ) {s : Cursor} {index : ℕ} {ws : List ℕ} {ps : List Pri
 
 -- a rack with more pages reads it too
 pub reads-more-pages : {pages pages′ index : ℕ} {s : Cursor} {ws : List ℕ} {ps : List Price} → pages ≤ pages′
-  → Reads pages s index ws ps → Reads pages′ s index ws ps
+    → Reads pages s index ws ps → Reads pages′ s index ws ps
 reads-more-pages more (reads-end none gap) = reads-end none gap
 reads-more-pages more (reads-page none gap up fits small later) =
     reads-page none gap up (lt-of-lt-of-le fits more) small (reads-more-pages more later)

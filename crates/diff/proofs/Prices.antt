@@ -58,7 +58,7 @@ laid-unnamed (p ∷ ps) label price unnamed =
     go (ℕ-discrete (labelOf p) label) (laid-unnamed ps label price)
   where
     go : Dec (labelOf p ≡ label) → (names ps label ≡ false → laidAt ps label price ≡ price)
-      → laidAt (p ∷ ps) label price ≡ price
+        → laidAt (p ∷ ps) label price ≡ price
     go (yes here) rest = absurd (true≢false (sym (names-first p ps label here) ∙ unnamed))
     go (no there) rest = laid-later p ps label price there ∙ rest (sym (names-later p ps label there) ∙ unnamed)
 

@@ -24,10 +24,13 @@ pub const RELEASE_NUMBER: usize = 11;
 pub const RELEASE_DESK: usize = 12;
 
 pub const RECORDS_START: usize = 20;
+
 pub const RECORD_SIZE: usize = 18;
+
 pub const LIST_START: usize = 164;
 
 pub const LIST_SIZE: usize = 512;
+
 pub const PAGES_START: usize = 676;
 
 // The number of words of one area.

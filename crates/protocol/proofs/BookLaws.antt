@@ -69,22 +69,28 @@ uncounted-none = refl
 module _ (b : Book) (c : ℕ) (r : Release) (list : List ℕ) (s : ℕ) where
   -- that neither counts the release nor closes it
   pub step-book-plain : suc s ≢ countsAt (length (listPrices list)) → suc s ≢ stepsIn (length (listPrices list))
-    → stepBook b c (opened r list s) ≡ setOpen b c (opened r list (suc s))
+      → stepBook b c (opened r list s) ≡ setOpen b c (opened r list (suc s))
   unfolding stepBook
   step-book-plain counts closes =
-      rw (ne-eqb (suc s) (countsAt (length (listPrices list))) counts,
-        ne-eqb (suc s) (stepsIn (length (listPrices list))) closes)
+      rw (
+        ne-eqb (suc s) (countsAt (length (listPrices list))) counts,
+        ne-eqb (suc s) (stepsIn (length (listPrices list))) closes,
+      )
 
   pub step-book-counts : suc s ≡ countsAt (length (listPrices list))
-    → stepBook b c (opened r list s) ≡ setOpen (count b c r list) c (opened r list (suc s))
+      → stepBook b c (opened r list s) ≡ setOpen (count b c r list) c (opened r list (suc s))
   unfolding stepBook
   step-book-counts counts =
-      rw (eq-eqb (suc s) (countsAt (length (listPrices list))) counts,
-        ne-eqb (suc s) (stepsIn (length (listPrices list))) (omega arith))
+      rw (
+        eq-eqb (suc s) (countsAt (length (listPrices list))) counts,
+        ne-eqb (suc s) (stepsIn (length (listPrices list))) (omega arith),
+      )
 
   pub step-book-closes : suc s ≡ stepsIn (length (listPrices list))
-    → stepBook b c (opened r list s) ≡ setOpen b c none
+      → stepBook b c (opened r list s) ≡ setOpen b c none
   unfolding stepBook
   step-book-closes closes =
-      rw (ne-eqb (suc s) (countsAt (length (listPrices list))) (omega arith),
-        eq-eqb (suc s) (stepsIn (length (listPrices list))) closes)
+      rw (
+        ne-eqb (suc s) (countsAt (length (listPrices list))) (omega arith),
+        eq-eqb (suc s) (stepsIn (length (listPrices list))) closes,
+      )

@@ -43,7 +43,7 @@ pub record Half (d : Directory) : Type 0 where
   pub todo-none : (c : ℕ) → todo c none ≡ []
   pub due-none : due none ≡ []
   pub todo-unnamed : (c h p w v : ℕ) (R : Opened) → c < 8 → EightWords R → w < 32 → names (pricesIn R) (32 * p + w) ≡ false
-    → over (todo c R) h (pageStart p + (half + w)) v ≡ v
+      → over (todo c R) h (pageStart p + (half + w)) v ≡ v
   pub due-unnamed : (label v : ℕ) (R : Opened) → names (pricesIn R) label ≡ false → laidAt (due R) label v ≡ v
 
 -- the word, as memory has it
@@ -57,66 +57,69 @@ Agrees d H c R price h p w v =
 
 pub record Claim (d : Directory) (H : Half d) (release : ℕ → Opened) (price : ℕ → ℕ) (m : List ℕ) : Type 0 where
   pub agrees : (c h p w : ℕ) → c < 8 → HomeWord d h p w → Alone release c (32 * p + w)
-    → Agrees d H c (release c) price h p w (wordIn d H m h p w)
+      → Agrees d H c (release c) price h p w (wordIn d H m h p w)
 
 -- ---- only card c moves: its own words go from the old claim to the new, and what others claim is not touched
 
 module _ (d : Directory) (H : Half d) (release : ℕ → Opened) (price price′ : ℕ → ℕ) (m m′ : List ℕ) (c : ℕ) (R : Opened)
   where
-  pub record Moves : Type 0 where
-    -- the new release names no fewer labels
-    pub grows : (label : ℕ) → names (pricesIn R) label ≡ false → names (pricesIn (release c)) label ≡ false
-    pub same-price : (label : ℕ) → names (pricesIn R) label ≡ false → price′ label ≡ price label
-    pub same-word : (h p w : ℕ) → HomeWord d h p w → names (pricesIn R) (32 * p + w) ≡ false
-      → wordIn d H m′ h p w ≡ wordIn d H m h p w
-    pub own : (h p w : ℕ) → HomeWord d h p w → Agrees d H c (release c) price h p w (wordIn d H m h p w)
-      → Agrees d H c R price′ h p w (wordIn d H m′ h p w)
+    pub record Moves : Type 0 where
+      -- the new release names no fewer labels
+      pub grows : (label : ℕ) → names (pricesIn R) label ≡ false → names (pricesIn (release c)) label ≡ false
+      pub same-price : (label : ℕ) → names (pricesIn R) label ≡ false → price′ label ≡ price label
+      pub same-word : (h p w : ℕ) → HomeWord d h p w → names (pricesIn R) (32 * p + w) ≡ false
+          → wordIn d H m′ h p w ≡ wordIn d H m h p w
+      pub own : (h p w : ℕ) → HomeWord d h p w → Agrees d H c (release c) price h p w (wordIn d H m h p w)
+          → Agrees d H c R price′ h p w (wordIn d H m′ h p w)
 
-  pub claim-moves : Moves → Claim d H release price m → Claim d H (update release c R) price′ m′
-  claim-moves moves claim = record { agrees = λ x h p w few word alone. at x h p w few word alone (ℕ-discrete x c) }
-    where
-      before : (x h p w : ℕ) → HomeWord d h p w → Alone (update release c R) x (32 * p + w) → Alone release x (32 * p + w)
-      before x h p w word alone y other =
-          elim (ℕ-discrete y c) [
-            | yes same ↦ rw same (moves .grows (32 * p + w) (rw (same, update-same) at (alone y other)))
-            | no away ↦ rw (update-other release c R y away) at (alone y other)
-          ]
-      at : (x h p w : ℕ) → x < 8 → HomeWord d h p w → Alone (update release c R) x (32 * p + w) → Dec (x ≡ c)
-        → Agrees d H x (update release c R x) price′ h p w (wordIn d H m′ h p w)
-      at x h p w few word alone (yes same) =
-          rw (same, update-same release c R)
-          (moves .own h p w word (rw same at (claim .agrees x h p w few word (before x h p w word alone))))
-      at x h p w few word alone (no other) =
-          let unnamed = rw (update-same release c R) at (alone c (λ e. other (sym e))) in
-          rw (update-other release c R x other, moves .same-word h p w word unnamed, moves .same-price (32 * p + w) unnamed)
-          (claim .agrees x h p w few word (before x h p w word alone))
+    pub claim-moves : Moves → Claim d H release price m → Claim d H (update release c R) price′ m′
+    claim-moves moves claim = record { agrees = λ x h p w few word alone. at x h p w few word alone (ℕ-discrete x c) }
+      where
+        before : (x h p w : ℕ) → HomeWord d h p w → Alone (update release c R) x (32 * p + w) → Alone release x (32 * p + w)
+        before x h p w word alone y other =
+            elim (ℕ-discrete y c) [
+              | yes same ↦ rw same (moves .grows (32 * p + w) (rw (same, update-same) at (alone y other)))
+              | no away ↦ rw (update-other release c R y away) at (alone y other)
+            ]
+
+        at : (x h p w : ℕ) → x < 8 → HomeWord d h p w → Alone (update release c R) x (32 * p + w) → Dec (x ≡ c)
+            → Agrees d H x (update release c R x) price′ h p w (wordIn d H m′ h p w)
+        at x h p w few word alone (yes same) =
+            rw (same, update-same release c R)
+            (moves .own h p w word (rw same at (claim .agrees x h p w few word (before x h p w word alone))))
+        at x h p w few word alone (no other) =
+            let unnamed = rw (update-same release c R) at (alone c (λ e. other (sym e))) in
+            rw (update-other release c R x other, moves .same-word h p w word unnamed, moves .same-price (32 * p + w) unnamed)
+            (claim .agrees x h p w few word (before x h p w word alone))
 
 -- ---- card c's release is struck out, with nothing of it to write or to count
 
 module _ (d : Directory) (H : Half d) (release : ℕ → Opened) (price : ℕ → ℕ) (m : List ℕ) (c : ℕ) where
   pub claim-struck : c < 8 → ((x : ℕ) → EightWords (release x)) → Apart release
-    → ((h p w v : ℕ) → w < 32 → over (H .todo c (release c)) h (pageStart p + (H .half + w)) v ≡ v)
-    → H .due (release c) ≡ []
-    → Claim d H release price m → Claim d H (update release c none) price m
+      → ((h p w v : ℕ) → w < 32 → over (H .todo c (release c)) h (pageStart p + (H .half + w)) v ≡ v)
+      → H .due (release c) ≡ []
+      → Claim d H release price m → Claim d H (update release c none) price m
   claim-struck card eights apart written-all counted claim =
       record {
         agrees = λ x h p w few word alone.
-          at x h p w few word alone (names (pricesIn (release c)) (32 * p + w)) refl (ℕ-discrete x c);
+            at x h p w few word alone (names (pricesIn (release c)) (32 * p + w)) refl (ℕ-discrete x c);
       }
     where
       -- what stands is the price, as nothing is pending
       settled : (h p w : ℕ) → HomeWord d h p w → Alone release c (32 * p + w)
-        → wordIn d H m h p w ≡ price (32 * p + w)
+          → wordIn d H m h p w ≡ price (32 * p + w)
       settled h p w word alone =
           sym (written-all h p w (wordIn d H m h p w) (word .word))
           ∙ (rw counted at (claim .agrees c h p w card word alone))
           ∙ laid-none (32 * p + w) (price (32 * p + w))
+
       others : (x y label : ℕ) → Alone (update release c none) x label → y ≢ x → y ≢ c
-        → names (pricesIn (release y)) label ≡ false
+          → names (pricesIn (release y)) label ≡ false
       others x y label alone other away = rw (update-other release c none y away) at (alone y other)
+
       at : (x h p w : ℕ) → x < 8 → HomeWord d h p w → Alone (update release c none) x (32 * p + w)
-        → (named : Bool) → names (pricesIn (release c)) (32 * p + w) ≡ named → Dec (x ≡ c)
-        → Agrees d H x (update release c none x) price h p w (wordIn d H m h p w)
+          → (named : Bool) → names (pricesIn (release c)) (32 * p + w) ≡ named → Dec (x ≡ c)
+          → Agrees d H x (update release c none x) price h p w (wordIn d H m h p w)
       at x h p w few word alone named is (yes same) =
           rw (same, update-same release c none, H .todo-none c, H .due-none)
           (over-none h (pageStart p + (H .half + w)) (wordIn d H m h p w)
@@ -139,12 +142,12 @@ module _ (d : Directory) (H : Half d) (release : ℕ → Opened) (price : ℕ �
 -- ---- a claim on fewer words, or on words that are the same
 
 pub claim-kept : (d d′ : Directory) (H : Half d) (H′ : Half d′) (release : ℕ → Opened) (price : ℕ → ℕ) (m m′ : List ℕ)
-  → ((c h p w : ℕ) → HomeWord d′ h p w → HomeWord d h p w)
-  → ((c h p w v : ℕ) → HomeWord d′ h p w → Agrees d H c (release c) price h p w v → Agrees d′ H′ c (release c) price h p w v)
-  → ((h p w : ℕ) → HomeWord d′ h p w → wordIn d′ H′ m′ h p w ≡ wordIn d H m h p w)
-  → Claim d H release price m → Claim d′ H′ release price m′
+    → ((c h p w : ℕ) → HomeWord d′ h p w → HomeWord d h p w)
+    → ((c h p w v : ℕ) → HomeWord d′ h p w → Agrees d H c (release c) price h p w v → Agrees d′ H′ c (release c) price h p w v)
+    → ((h p w : ℕ) → HomeWord d′ h p w → wordIn d′ H′ m′ h p w ≡ wordIn d H m h p w)
+    → Claim d H release price m → Claim d′ H′ release price m′
 claim-kept d d′ H H′ release price m m′ fewer same words claim =
     record {
       agrees = λ c h p w few word alone.
-        rw (words h p w word) (same c h p w _ word (claim .agrees c h p w few (fewer c h p w word) alone));
+          rw (words h p w word) (same c h p w _ word (claim .agrees c h p w few (fewer c h p w word) alone));
     }

@@ -27,8 +27,8 @@ use Rattle.protocol.proofs.StepCore.{step-core}
 -- ---- books that are equal part by part
 
 book-as : {price price′ : ℕ → ℕ} {last last′ : ℕ → Release} {release release′ : ℕ → Opened} {failed failed′ : ℕ}
-  → price ≡ price′ → last ≡ last′ → release ≡ release′ → failed ≡ failed′
-  → _≡_ {A = Book} (record { price = price; last = last; release = release; failed = failed })
+    → price ≡ price′ → last ≡ last′ → release ≡ release′ → failed ≡ failed′
+    → _≡_ {A = Book} (record { price = price; last = last; release = release; failed = failed })
     (record { price = price′; last = last′; release = release′; failed = failed′ })
 book-as p l r f = cc
 
@@ -60,19 +60,22 @@ module _ (b : Book) (c : ℕ) (r : Release) (list : List ℕ) (s : ℕ) where
   R′ = opened r list (suc s)
 
   closed-step : suc s ≢ stepsIn (length (listPrices list))
-    → closedBook (stepBook b c (opened r list s)) c R′ ≡ closedBook b c (opened r list s)
+      → closedBook (stepBook b c (opened r list s)) c R′ ≡ closedBook b c (opened r list s)
   closed-step on = go (ℕ-discrete (suc s) (countsAt (length (listPrices list))))
     where
       go : Dec (suc s ≡ countsAt (length (listPrices list)))
-        → closedBook (stepBook b c (opened r list s)) c R′ ≡ closedBook b c (opened r list s)
+          → closedBook (stepBook b c (opened r list s)) c R′ ≡ closedBook b c (opened r list s)
       go (yes counts) =
-          rw (step-book-counts b c r list s counts, count-late (setOpen (count b c r list) c R′) c r list (suc s) (omega arith),
-            count-early b c r list s (omega arith))
+          rw (
+            step-book-counts b c r list s counts,
+            count-late (setOpen (count b c r list) c R′) c r list (suc s) (omega arith),
+            count-early b c r list s (omega arith),
+          )
           (book-as refl refl (update-update (b .release) c R′ none) refl)
       go (no plain) = rw (step-book-plain b c r list s plain on) (counted (decLt s (countsAt (length (listPrices list)))))
         where
           counted : Dec (s < countsAt (length (listPrices list)))
-            → closedBook (setOpen b c R′) c R′ ≡ closedBook b c (opened r list s)
+              → closedBook (setOpen b c R′) c R′ ≡ closedBook b c (opened r list s)
           counted (yes early) =
               rw (count-early (setOpen b c R′) c r list (suc s) (omega arith), count-early b c r list s early)
               (book-as refl refl (update-update (b .release) c R′ none) refl)
@@ -82,16 +85,16 @@ module _ (b : Book) (c : ℕ) (r : Release) (list : List ℕ) (s : ℕ) where
 
   -- the step that closes
   closed-last : suc s ≡ stepsIn (length (listPrices list))
-    → stepBook b c (opened r list s) ≡ closedBook b c (opened r list s)
+      → stepBook b c (opened r list s) ≡ closedBook b c (opened r list s)
   closed-last closes = step-book-closes b c r list s closes ∙ rw (count-late b c r list s (omega arith))
 
 module _ (d : Directory) (backup : ℕ → ℕ) (old : ℕ → ℕ → ℕ) (T C : Type 0) (c : ℕ) (live : isLive d c ≡ true)
-  (r : Release) (list : List ℕ) where
+    (r : Release) (list : List ℕ) where
   abbrev Kept : List ℕ → Book → Type 0
   Kept m b = Core d backup old T C m b
 
   run-core : (n s : ℕ) (m : List ℕ) (b : Book) → b .release c ≡ opened r list s → s + suc n ≡ stepsIn (length (listPrices list))
-    → Kept m b → Kept (stepTimes d (backup c) c (suc n) m) (closedBook b c (opened r list s))
+      → Kept m b → Kept (stepTimes d (backup c) c (suc n) m) (closedBook b c (opened r list s))
   unfolding stepTimes
   run-core zero s m b is left core =
       subst (Kept (stepMemory d (backup c) m c)) (closed-last b c r list s (omega arith))
@@ -105,7 +108,7 @@ module _ (d : Directory) (backup : ℕ → ℕ) (old : ℕ → ℕ → ℕ) (T C
       still-open on = go (ℕ-discrete (suc s) (countsAt (length (listPrices list))))
         where
           go : Dec (suc s ≡ countsAt (length (listPrices list)))
-            → stepBook b c (opened r list s) .release c ≡ opened r list (suc s)
+              → stepBook b c (opened r list s) .release c ≡ opened r list (suc s)
           go (yes counts) = rw (step-book-counts b c r list s counts) (update-same (b .release) c _)
           go (no plain) = rw (step-book-plain b c r list s plain on) (update-same (b .release) c _)
 
@@ -131,12 +134,12 @@ module _ (d : Directory) (f : ℕ) (old : ℕ → ℕ → ℕ) (T C : Type 0) wh
 
   -- a card with nothing open
   idle-core : (c : ℕ) (m : List ℕ) (b : Book) → b .release c ≡ none → isOpen (d .live) (sizeOf d) m c ≡ false → KeptBefore m b
-    → KeptBefore (runToClose d f c m) (closedBook b c (b .release c))
+      → KeptBefore (runToClose d f c m) (closedBook b c (b .release c))
   unfolding runToClose
   idle-core c m b is shut core = rw (shut, is) (subst (KeptBefore m) (sym (closed-none b c is)) core)
 
   not-open : (c : ℕ) (m : List ℕ) → (isLive d c ≡ true → load (sizeOf d) m c releaseOpen ≡ 0)
-    → isOpen (d .live) (sizeOf d) m c ≡ false
+      → isOpen (d .live) (sizeOf d) m c ≡ false
   unfolding isOpen
   not-open c m zero-word = go (isLive d c) refl
     where
@@ -146,13 +149,13 @@ module _ (d : Directory) (f : ℕ) (old : ℕ → ℕ → ℕ) (T C : Type 0) wh
 
   -- an open release: the steps that are left
   module _ {c : ℕ} {m : List ℕ} {r : Release} {list : List ℕ} {s : ℕ} (live : isLive d c ≡ true)
-    (standing : OpenStands (d .pages) m c r list s) where
+      (standing : OpenStands (d .pages) m c r list s) where
     is-open : isOpen (d .live) (sizeOf d) m c ≡ true
     unfolding isOpen
     is-open = rw (live, standing .word-9)
 
     runs : s < stepsIn (length (listPrices list))
-      → runToClose d f c m ≡ stepTimes d (backupBefore d f c) c (suc (stepsIn (length (listPrices list)) - suc s)) m
+        → runToClose d f c m ≡ stepTimes d (backupBefore d f c) c (suc (stepsIn (length (listPrices list)) - suc s)) m
     unfolding runToClose
     runs under =
         let left : stepsIn (length (listPrices list)) - s ≡ suc (stepsIn (length (listPrices list)) - suc s) = omega arith in
@@ -162,13 +165,14 @@ module _ (d : Directory) (f : ℕ) (old : ℕ → ℕ → ℕ) (T C : Type 0) wh
   close-one c m b core = by-card (isLive d c) refl
     where
       by-release : isLive d c ≡ true → (R : Opened) → b .release c ≡ R → Standing (d .pages) m c R
-        → KeptBefore (runToClose d f c m) (closedBook b c (b .release c))
+          → KeptBefore (runToClose d f c m) (closedBook b c (b .release c))
       by-release live none is standing = idle-core c m b is (not-open c m (λ _. standing)) core
       by-release live (opened r list s) is standing =
           let under : s < stepsIn (length (listPrices list)) = rw is at (core .under c) in
           rw (runs live standing under, is)
           (run-core d (backupBefore d f) old T C c live r list (stepsIn (length (listPrices list)) - suc s) s m b is (omega arith)
           core)
+
       by-card : (up : Bool) → isLive d c ≡ up → KeptBefore (runToClose d f c m) (closedBook b c (b .release c))
       by-card true live = by-release live (b .release c) refl (core .standing c live)
       by-card false dead = idle-core c m b (core .gone c dead) (not-open c m (λ live. absurd (true≢false (sym live ∙ dead)))) core
@@ -180,7 +184,7 @@ unfoldable pub closedBooks : ℕ → Book → Book
 closedBooks n b = inTurn (λ c b. closedBook b c (b .release c)) n b
 
 pub close-below : (d : Directory) (f : ℕ) (old : ℕ → ℕ → ℕ) (T C : Type 0) (n : ℕ) (m : List ℕ) (b : Book)
-  → Core d (backupBefore d f) old T C m b → Core d (backupBefore d f) old T C (inTurn (runToClose d f) n m) (closedBooks n b)
+    → Core d (backupBefore d f) old T C m b → Core d (backupBefore d f) old T C (inTurn (runToClose d f) n m) (closedBooks n b)
 unfolding inTurn closedBooks
 close-below d f old T C zero m b core = core
 close-below d f old T C (suc n) m b core =
@@ -195,7 +199,7 @@ record SamePrices (b b′ : Book) : Type 0 where
   failed : b .failed ≡ b′ .failed
 
 count-same : (c : ℕ) (R : Opened) (b b′ : Book) → SamePrices b b′
-  → SamePrices (countUncounted c R b) (countUncounted c R b′)
+    → SamePrices (countUncounted c R b) (countUncounted c R b′)
 unfolding countUncounted
 count-same c none b b′ same = same
 count-same c (opened r list s) b b′ same = go (ltb s (countsAt (length (listPrices list))))
@@ -233,7 +237,7 @@ module _ (b : Book) where
   closed-below (suc n) = go (closed-below n)
     where
       go : ClosedBelow n (closedBooks n b)
-        → ClosedBelow (suc n) (closedBook (closedBooks n b) n (closedBooks n b .release n))
+          → ClosedBelow (suc n) (closedBook (closedBooks n b) n (closedBooks n b .release n))
       go below =
           let now = closedBooks n b in
           let counts = count-same n (now .release n) now (counted n) (below .same) in
@@ -241,10 +245,10 @@ module _ (b : Book) where
           record {
             same = rw (← (below .left n (omega arith))) (record { price = counts .price; last = counts .last; failed = counts .failed });
             struck = λ x small.
-              elim (ℕ-discrete x n) [
-                | yes here ↦ rw (kept, here) (update-same (now .release) n none)
-                | no other ↦ rw kept (update-other (now .release) n none x other ∙ below .struck x (omega arith))
-              ];
+                elim (ℕ-discrete x n) [
+                  | yes here ↦ rw (kept, here) (update-same (now .release) n none)
+                  | no other ↦ rw kept (update-other (now .release) n none x other ∙ below .struck x (omega arith))
+                ];
             left = λ x above. rw kept (update-other (now .release) n none x (omega arith) ∙ below .left x (omega arith));
           }
 
@@ -258,7 +262,7 @@ module _ (b : Book) where
 
   -- what the book does at a recovery is what running the releases to their close does
   pub closed-books : (cards : ℕ) → cards ≤ 8 → ((x : ℕ) → cards ≤ x → b .release x ≡ none)
-    → closedBooks cards b ≡ strikeOpen (countOpen b)
+      → closedBooks cards b ≡ strikeOpen (countOpen b)
   unfolding countOpen counted
   closed-books cards few idle =
       let below = closed-below cards in
@@ -275,9 +279,9 @@ module _ (b : Book) where
           ]
 
 pub close-core-all : (d : Directory) (f : ℕ) (old : ℕ → ℕ → ℕ) (T C : Type 0) (m : List ℕ) (b : Book)
-  → ((x : ℕ) → d .cards ≤ x → isLive d x ≡ false)
-  → Core d (backupBefore d f) old T C m b
-  → Core d (backupBefore d f) old T C (closeReleases d f m) (strikeOpen (countOpen b))
+    → ((x : ℕ) → d .cards ≤ x → isLive d x ≡ false)
+    → Core d (backupBefore d f) old T C m b
+    → Core d (backupBefore d f) old T C (closeReleases d f m) (strikeOpen (countOpen b))
 unfolding closeReleases
 close-core-all d f old T C m b past core =
     subst (Core d (backupBefore d f) old T C (inTurn (runToClose d f) (d .cards) m))

@@ -62,15 +62,15 @@ pub record Core (d : Directory) (backup : ℕ → ℕ) (old : ℕ → ℕ → �
   pub committed : C → Claim d (committeds d backup) (b .release) (b .price) m
   -- the record of each live card on its backup, and those of dead cards on every live card
   pub held : (c : ℕ) → isLive d c ≡ true → isLive d (backup c) ≡ true
-    → Held c (b .release c) (b .last c) (load (sizeOf d) m (backup c))
+      → Held c (b .release c) (b .last c) (load (sizeOf d) m (backup c))
   pub dead : (g h o : ℕ) → isLive d g ≡ false → g < d .cards → isLive d h ≡ true → 20 + 18 * g ≤ o → o < 38 + 18 * g
-    → load (sizeOf d) m h o ≡ old h o
+      → load (sizeOf d) m h o ≡ old h o
 
 -- ---- a step before the close
 
 -- memory keeps what it has of a release whose words are kept
 pub standing-kept : (pages : ℕ) (m m′ : List ℕ) (c : ℕ) (R : Opened) → SameOwn (areaSize pages) m m′ c → Standing pages m c R
-  → Standing pages m′ c R
+    → Standing pages m′ c R
 standing-kept pages m m′ c none same standing = same .low releaseOpen (omega arith) ∙ standing
 standing-kept pages m m′ c (opened r list s) same standing =
     let kept = same-own-release (areaSize pages) m m′ c same in
@@ -91,8 +91,8 @@ steppedBook b c R price last =
     record { price = price; last = last; release = update (b .release) c R; failed = b .failed }
 
 module _ (d : Directory) (backup : ℕ → ℕ) (old : ℕ → ℕ → ℕ) (T C : Type 0) (m : List ℕ) (b : Book)
-  (core : Core d backup old T C m b) (c : ℕ) (live : isLive d c ≡ true) (r : Release) (list : List ℕ) (s : ℕ)
-  (is : b .release c ≡ opened r list s) where
+    (core : Core d backup old T C m b) (c : ℕ) (live : isLive d c ≡ true) (r : Release) (list : List ℕ) (s : ℕ)
+    (is : b .release c ≡ opened r list s) where
   few : c < 8
   few = omega (arith, core .shape .below c live, core .shape .few-cards)
 
@@ -103,10 +103,10 @@ module _ (d : Directory) (backup : ℕ → ℕ) (old : ℕ → ℕ → ℕ) (T C
   eight = rw is at (core .eights c)
 
   module _ (before : s < 4 * length (listPrices list) + 10) (price : ℕ → ℕ) (last : ℕ → Release)
-    (prices : PricesAfter (length (listPrices list)) s (b .price) price
+      (prices : PricesAfter (length (listPrices list)) s (b .price) price
       (λ label. laidAt (listPrices list) label (b .price label)))
-    (lasts : LastAfter (length (listPrices list)) s r (b .last c) (last c))
-    (others : (x : ℕ) → x ≢ c → last x ≡ b .last x) where
+      (lasts : LastAfter (length (listPrices list)) s r (b .last c) (last c))
+      (others : (x : ℕ) → x ≢ c → last x ≡ b .last x) where
     abbrev m′ : List ℕ
     m′ = stepMemory d (backup c) m c
 
@@ -115,7 +115,7 @@ module _ (d : Directory) (backup : ℕ → ℕ) (old : ℕ → ℕ → ℕ) (T C
 
     -- a word of a live card beside the own words
     wrote : (h o : ℕ) → isLive d h ≡ true → o < sizeOf d → 20 ≤ o
-      → load (sizeOf d) m′ h o ≡ written (stepWrite d (backup c) c r (listPrices list) s) h o (load (sizeOf d) m h o)
+        → load (sizeOf d) m′ h o ≡ written (stepWrite d (backup c) c r (listPrices list) s) h o (load (sizeOf d) m h o)
     wrote h o up inside above =
         load-step (core .shape) (backup c) c live (standing .stands) before h o up inside (λ _ e. omega arith)
 
@@ -126,7 +126,7 @@ module _ (d : Directory) (backup : ℕ → ℕ) (old : ℕ → ℕ → ℕ) (T C
     kept-other x up other = step-keeps-other (core .shape) (backup c) c live (standing .stands) before x up other
 
     kept-record : (x h o : ℕ) → x < 8 → x ≢ c → isLive d h ≡ true → 20 + 18 * x ≤ o → o < 38 + 18 * x
-      → load (sizeOf d) m′ h o ≡ load (sizeOf d) m h o
+        → load (sizeOf d) m′ h o ≡ load (sizeOf d) m h o
     kept-record = step-keeps-record (core .shape) (backup c) c live (standing .stands) before
 
     own-stands : Standing (d .pages) m′ c R′
@@ -160,41 +160,43 @@ module _ (d : Directory) (backup : ℕ → ℕ) (old : ℕ → ℕ → ℕ) (T C
         record {
           shape = shape-kept (core .shape) m′ (kept .same-length);
           standing = update-each (b .release) c R′ (λ x R. isLive d x ≡ true → Standing (d .pages) m′ x R) (λ _. own-stands)
-            (λ x other up. standing-kept (d .pages) m m′ x (b .release x) (kept-other x up other) (core .standing x up));
+              (λ x other up. standing-kept (d .pages) m m′ x (b .release x) (kept-other x up other) (core .standing x up));
           gone = update-each (b .release) c R′ (λ x R. isLive d x ≡ false → R ≡ none)
-            (λ dead. absurd (true≢false (sym live ∙ dead))) (λ x other. core .gone x);
+              (λ dead. absurd (true≢false (sym live ∙ dead))) (λ x other. core .gone x);
           under = update-each (b .release) c R′ (λ x R. Under R) (omega arith) (λ x other. core .under x);
           eights = update-each (b .release) c R′ (λ x R. EightWords R) eight (λ x other. core .eights x);
           last-eight = last-is-eight;
           apart = λ x y label other named.
-            rw (same-prices y) (core .apart x y label other (rw (same-prices x) at named));
+              rw (same-prices y) (core .apart x y label other (rw (same-prices x) at named));
           numbers = update-each (b .release) c R′ (λ x R. Numbers R (last x))
-            (step-numbers r list s (b .last c) (last c) lasts (rw is at (core .numbers c)))
-            (λ x other. rw (others x other) (core .numbers x));
+              (step-numbers r list s (b .last c) (last c) lasts (rw is at (core .numbers c)))
+              (λ x other. rw (others x other) (core .numbers x));
           owns = update-each (b .release) c R′ (λ x R. isLive d x ≡ true → Own R (ownRelease (sizeOf d) m′ x) (last x))
-            (λ _. rw (own-kept (sizeOf d) m m′ c kept) (rw is at (core .owns c live)))
-            (λ x other up. rw (own-kept (sizeOf d) m m′ x (same-own-release (sizeOf d) m m′ x (kept-other x up other)),
-              others x other) (core .owns x up));
+              (λ _. rw (own-kept (sizeOf d) m m′ c kept) (rw is at (core .owns c live)))
+              (λ x other up. rw (
+                own-kept (sizeOf d) m m′ x (same-own-release (sizeOf d) m m′ x (kept-other x up other)),
+                others x other,
+              ) (core .owns x up));
           tentative = λ t.
-            step-tentatives d backup (b .release) (b .price) price m m′ c few r list s is eight before prices
+              step-tentatives d backup (b .release) (b .price) price m m′ c few r list s is eight before prices
               (λ h p w word. wrote h _ (word .live) (omega (arith, word .page, word .word)) (omega arith))
               (core .tentative t);
           committed = λ t.
-            step-committeds d backup (b .release) (b .price) price m m′ c few r list s is eight before prices
+              step-committeds d backup (b .release) (b .price) price m m′ c few r list s is eight before prices
               (λ h p w word. wrote h _ (word .live) (omega (arith, word .page, word .word)) (omega arith))
               (core .committed t);
           held = update-each (b .release) c R′
-            (λ x R. isLive d x ≡ true → isLive d (backup x) ≡ true → Held x R (last x) (load (sizeOf d) m′ (backup x)))
-            (λ _ up. step-held r list s (b .last c) (last c) lasts (rw is at (core .numbers c)) d (backup c) c few eight before
+              (λ x R. isLive d x ≡ true → isLive d (backup x) ≡ true → Held x R (last x) (load (sizeOf d) m′ (backup x)))
+              (λ _ up. step-held r list s (b .last c) (last c) lasts (rw is at (core .numbers c)) d (backup c) c few eight before
               (load (sizeOf d) m (backup c)) (load (sizeOf d) m′ (backup c))
               (λ o above below. wrote (backup c) o up (omega (arith, few)) (omega arith)) (rw is at (core .held c live up)))
-            (λ x other lives up. rw (others x other)
+              (λ x other lives up. rw (others x other)
               (held-kept x (b .release x) (b .last x) (load (sizeOf d) m (backup x)) (load (sizeOf d) m′ (backup x))
-                (λ o above below. kept-record x (backup x) o (small x lives) other up above below) (core .held x lives up)));
+              (λ o above below. kept-record x (backup x) o (small x lives) other up above below) (core .held x lives up)));
           dead = λ g h o gone few′ up above below.
-            kept-record g h o (omega (arith, core .shape .few-cards)) (λ e. true≢false (sym live ∙ ap (isLive d) (sym e) ∙ gone))
+              kept-record g h o (omega (arith, core .shape .few-cards)) (λ e. true≢false (sym live ∙ ap (isLive d) (sym e) ∙ gone))
               up above below
-            ∙ core .dead g h o gone few′ up above below;
+              ∙ core .dead g h o gone few′ up above below;
         }
       where
         small : (x : ℕ) → isLive d x ≡ true → x < 8

@@ -37,7 +37,7 @@ module _ (d : Directory) (f : ℕ) (r : Release) (few : f < 8) (eight : length (
           record {
             same-length = length-record (sizeOf d) m′ n f r (omega arith) few eight ∙ below .same-length;
             same = λ h o inside away.
-              load-record (sizeOf d) m′ n f r (omega arith) few eight h o inside (inr away) ∙ below .same h o inside away;
+                load-record (sizeOf d) m′ n f r (omega arith) few eight h o inside (inr away) ∙ below .same h o inside away;
             held = λ h small up. at h small up (ℕ-discrete h n);
           }
         where
@@ -55,10 +55,10 @@ module _ (d : Directory) (f : ℕ) (r : Release) (few : f < 8) (eight : length (
             same-length = below .same-length;
             same = below .same;
             held = λ h small up.
-              elim (ℕ-discrete h n) [
-                | yes same ↦ absurd (true≢false (sym up ∙ rw same dead))
-                | no other ↦ below .held h (omega arith) up
-              ];
+                elim (ℕ-discrete h n) [
+                  | yes same ↦ absurd (true≢false (sym up ∙ rw same dead))
+                  | no other ↦ below .held h (omega arith) up
+                ];
           }
 
   pub failed-below : (n : ℕ) → FailedBelow d f r n m (inTurn (writeFailed d f r) n m)

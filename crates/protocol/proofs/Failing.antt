@@ -79,7 +79,7 @@ module _ (d : Directory) (f : ℕ) (m : List ℕ) (b : Book) (rack : RunningRack
 
   -- the second phase was under way: the tentative words are written, and the release counts
   struck-tentative : stamp ≢ done → Claim d (tentatives d (backupOf d)) (b .release) (b .price) m
-    → Claim d (tentatives d (backupOf d)) (update (b .release) f none) (b .price) m
+      → Claim d (tentatives d (backupOf d)) (update (b .release) f none) (b .price) m
   struck-tentative differ claim = go (b .release f) refl
     where
       go : (R : Opened) → b .release f ≡ R → Claim d (tentatives d (backupOf d)) (update (b .release) f none) (b .price) m
@@ -87,17 +87,17 @@ module _ (d : Directory) (f : ℕ) (m : List ℕ) (b : Book) (rack : RunningRack
       go (opened r list s) is =
           let marks = rw is at (held .done) in
           let counted : countsAt (length (listPrices list)) ≤ s =
-                elim (decLt s (countsAt (length (listPrices list)))) [
-                  | yes early ↦ absurd (differ (held .stamped ∙ sym (marks .0 early)))
-                  | no late ↦ omega arith
-                ] in
+          elim (decLt s (countsAt (length (listPrices list)))) [
+            | yes early ↦ absurd (differ (held .stamped ∙ sym (marks .0 early)))
+            | no late ↦ omega arith
+          ] in
           claim-struck d (tentatives d (backupOf d)) (b .release) (b .price) m f few (core .eights) (core .apart)
           (λ h p w v within. rw is (tentative-late d (backupOf d) f r list s (rw is at (core .eights f)) few (omega arith) h p w v within))
           (rw is (uncounted-late r list s counted)) claim
 
   -- it was not: no committed word is to be written, or all are
   struck-committed : stamp ≡ done → Claim d (committeds d (backupOf d)) (b .release) (b .price) m
-    → Claim d (committeds d (backupOf d)) (update (b .release) f none) (b .price) m
+      → Claim d (committeds d (backupOf d)) (update (b .release) f none) (b .price) m
   struck-committed agree claim =
       claim-struck d (committeds d (backupOf d)) (b .release) (b .price) m f few (core .eights) (core .apart)
       (λ h p w v within. rw (nothing (b .release f) refl) (over-none h _ v)) refl claim
@@ -108,6 +108,7 @@ module _ (d : Directory) (f : ℕ) (m : List ℕ) (b : Book) (rack : RunningRack
         where
           eight : length (r .desk) ≡ 8
           eight = rw is at (core .eights f)
+
           by-steps : Dec (s < countsAt (length (listPrices list))) → pendingCommitted d (backupOf d) f (opened r list s) ≡ []
           by-steps (yes early) = committed-early d (backupOf d) f r list s eight early
           by-steps (no late) =
@@ -162,31 +163,31 @@ module _ (d : Directory) (f : ℕ) (m : List ℕ) (b : Book) (rack : RunningRack
           below = λ c still. core .shape .below c (live-before c still .0);
         };
         standing = λ c still.
-          let was = live-before c still in
-          rw (update-other (b .release) f none c (was .1)) (core .standing c (was .0));
+            let was = live-before c still in
+            rw (update-other (b .release) f none c (was .1)) (core .standing c (was .0));
         gone = update-each (b .release) f none (λ c R. isLive d′ c ≡ false → R ≡ none) (λ _. refl)
-          (λ c other now. core .gone c (dead-before c other now));
+            (λ c other now. core .gone c (dead-before c other now));
         under = update-each (b .release) f none (λ c R. Under R) tt (λ c other. core .under c);
         eights = update-each (b .release) f none (λ c R. EightWords R) tt (λ c other. core .eights c);
         last-eight = core .last-eight;
         apart = apart-struck (b .release) f (core .apart);
         numbers = update-each (b .release) f none (λ c R. Numbers R (b .last c)) tt (λ c other. core .numbers c);
         owns = λ c still.
-          let was = live-before c still in
-          rw (update-other (b .release) f none c (was .1)) (core .owns c (was .0));
+            let was = live-before c still in
+            rw (update-other (b .release) f none c (was .1)) (core .owns c (was .0));
         tentative = λ differ.
-          claim-kept d d′ (tentatives d (backupOf d)) (tentatives d′ (backupOf d)) (update (b .release) f none) (b .price) m m
+            claim-kept d d′ (tentatives d (backupOf d)) (tentatives d′ (backupOf d)) (update (b .release) f none) (b .price) m m
             (λ c h p w word. home-word h p w word)
             (λ c h p w v word agrees. rw (pending-same d d′ refl refl (backupOf d) c (update (b .release) f none c)) agrees)
             (λ h p w word. refl) (struck-tentative differ (core .tentative tt));
         committed = λ agree.
-          claim-kept d d′ (committeds d (backupOf d)) (committeds d′ (backupOf d)) (update (b .release) f none) (b .price) m m
+            claim-kept d d′ (committeds d (backupOf d)) (committeds d′ (backupOf d)) (update (b .release) f none) (b .price) m m
             (λ c h p w word. home-word h p w word)
             (λ c h p w v word agrees. rw (committed-same d d′ refl refl (backupOf d) c (update (b .release) f none c)) agrees)
             (λ h p w word. refl) (struck-committed agree (core .committed tt));
         held = λ c still kept.
-          let was = live-before c still in
-          rw (update-other (b .release) f none c (was .1)) (core .held c (was .0) (live-before (backupOf d c) kept .0));
+            let was = live-before c still in
+            rw (update-other (b .release) f none c (was .1)) (core .held c (was .0) (live-before (backupOf d c) kept .0));
         dead = λ g h o gone little still above below. refl;
       }
 
@@ -205,9 +206,9 @@ module _ (d : Directory) (f : ℕ) (m : List ℕ) (b : Book) (rack : RunningRack
         real = core .shape .below f live;
         failed = refl;
         core = rw same-place (subst (λ (k : ℕ → ℕ). Core d′ k (load (sizeOf d) m) (stamp ≢ done) (stamp ≡ done) m (failBook b f))
-          (sym (fun-ext before)) core-before);
+            (sym (fun-ext before)) core-before);
         records = λ g h gone other little still.
-          rack .records g h (dead-before g other gone) little (live-before h still .0);
+            rack .records g h (dead-before g other gone) little (live-before h still .0);
         stamped = rw same-place (held .stamped);
         desked = λ j within. rw same-place (held .desked j within);
         two = two;

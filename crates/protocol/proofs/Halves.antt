@@ -34,22 +34,23 @@ drop-part us ws s n at = rw at (drop-append-add us ws n)
 -- ---- the writes of a release, at a page word
 
 module _ (d : Directory) (backup c : ℕ) (r : Release) (ps : List Price) (few : c < 8) (eight : length (r .desk) ≡ 8)
-  (on : OnPages 64 ps) where
+    (on : OnPages 64 ps) where
   -- the records stand below the pages
   records-miss : (card p w half : ℕ) → w < 32 → half ≤ 32
-    → Misses card (pageStart p + (half + w)) (runWrites backup (recordDesk c (r .number)) (r .desk))
-    × Misses card (pageStart p + (half + w)) (runWrites backup (recordStamp c) (r .number ∷ []))
-    × Misses card (pageStart p + (half + w)) (runWrites backup (recordDone c) (r .number ∷ []))
-  records-miss card p w half within small =
-      (run-misses backup (recordDesk c (r .number)) (r .desk) card _ (λ j inside e. omega arith),
-        run-misses backup (recordStamp c) (r .number ∷ []) card _ (λ j inside e. omega arith),
-        run-misses backup (recordDone c) (r .number ∷ []) card _ (λ j inside e. omega arith))
+      → Misses card (pageStart p + (half + w)) (runWrites backup (recordDesk c (r .number)) (r .desk))
+      × Misses card (pageStart p + (half + w)) (runWrites backup (recordStamp c) (r .number ∷ []))
+      × Misses card (pageStart p + (half + w)) (runWrites backup (recordDone c) (r .number ∷ []))
+  records-miss card p w half within small = (
+    run-misses backup (recordDesk c (r .number)) (r .desk) card _ (λ j inside e. omega arith),
+    run-misses backup (recordStamp c) (r .number ∷ []) card _ (λ j inside e. omega arith),
+    run-misses backup (recordDone c) (r .number ∷ []) card _ (λ j inside e. omega arith),
+  )
 
   -- the writes miss a page word if both halves' writes do
   all-miss : (card p w half : ℕ) → w < 32 → half ≤ 32
-    → Misses card (pageStart p + (half + w)) (priceWrites d tentativeHalf ps)
-    → Misses card (pageStart p + (half + w)) (priceWrites d committedHalf ps)
-    → Misses card (pageStart p + (half + w)) (releaseWrites d backup c r ps)
+      → Misses card (pageStart p + (half + w)) (priceWrites d tentativeHalf ps)
+      → Misses card (pageStart p + (half + w)) (priceWrites d committedHalf ps)
+      → Misses card (pageStart p + (half + w)) (releaseWrites d backup c r ps)
   unfolding releaseWrites
   all-miss card p w half within small first second =
       let records = records-miss card p w half within small in
@@ -58,14 +59,14 @@ module _ (d : Directory) (backup c : ℕ) (r : Release) (ps : List Price) (few :
 
   -- at a label that the prices do not name
   pub tentative-misses : (card p w : ℕ) → w < 32 → names ps (32 * p + w) ≡ false
-    → Misses card (pageStart p + (tentativeHalf + w)) (releaseWrites d backup c r ps)
+      → Misses card (pageStart p + (tentativeHalf + w)) (releaseWrites d backup c r ps)
   tentative-misses card p w within unnamed =
       all-miss card p w tentativeHalf within (omega arith)
       (unnamed-miss d tentativeHalf ps card p w within (omega arith) 64 on unnamed)
       (prices-miss d committedHalf ps card _ (λ q v inside e. omega arith) 64 on)
 
   pub committed-misses : (card p w : ℕ) → w < 32 → names ps (32 * p + w) ≡ false
-    → Misses card (pageStart p + (committedHalf + w)) (releaseWrites d backup c r ps)
+      → Misses card (pageStart p + (committedHalf + w)) (releaseWrites d backup c r ps)
   committed-misses card p w within unnamed =
       all-miss card p w committedHalf within (omega arith)
       (prices-miss d tentativeHalf ps card _ (λ q v inside e. omega arith) 64 on)
@@ -73,20 +74,20 @@ module _ (d : Directory) (backup c : ℕ) (r : Release) (ps : List Price) (few :
 
   -- what follows the tentative words misses them
   after-tentative : (card p w s : ℕ) → w < 32 → 2 * length ps ≤ s
-    → Misses card (pageStart p + (tentativeHalf + w)) (drop s (releaseWrites d backup c r ps))
+      → Misses card (pageStart p + (tentativeHalf + w)) (drop s (releaseWrites d backup c r ps))
   unfolding releaseWrites
   after-tentative card p w s within late =
       let records = records-miss card p w tentativeHalf within (omega arith) in
       let second = prices-miss d committedHalf ps card (pageStart p + (tentativeHalf + w)) (λ q u inside e. omega arith) 64 on in
       let at : s ≡ length (priceWrites d tentativeHalf ps) + (s - 2 * length ps) =
-            omega (arith, length-price-writes d tentativeHalf ps) in
+      omega (arith, length-price-writes d tentativeHalf ps) in
       rw (drop-part (priceWrites d tentativeHalf ps) _ s (s - 2 * length ps) at)
       (misses-drop (s - 2 * length ps)
       (misses-append (records .0) (misses-append (records .1) (misses-append second (records .2)))))
 
   -- what follows the stamp
   after-stamp : drop (countsAt (length ps)) (releaseWrites d backup c r ps)
-    ≡ priceWrites d committedHalf ps ++ runWrites backup (recordDone c) (r .number ∷ [])
+      ≡ priceWrites d committedHalf ps ++ runWrites backup (recordDone c) (r .number ∷ [])
   unfolding releaseWrites
   after-stamp =
       let first = length-price-writes d tentativeHalf ps in
@@ -96,8 +97,8 @@ module _ (d : Directory) (backup c : ℕ) (r : Release) (ps : List Price) (few :
 
   -- the writes from the count on lay the prices on the committed words
   pub committed-over : (h p w v : ℕ) → w < 32 → HomeOf d h p
-    → over (drop (countsAt (length ps)) (releaseWrites d backup c r ps)) h (pageStart p + (committedHalf + w)) v
-    ≡ laidAt ps (32 * p + w) v
+      → over (drop (countsAt (length ps)) (releaseWrites d backup c r ps)) h (pageStart p + (committedHalf + w)) v
+      ≡ laidAt ps (32 * p + w) v
   committed-over h p w v within home =
       rw after-stamp
       (over-append (priceWrites d committedHalf ps) _ h (pageStart p + (committedHalf + w)) v
@@ -106,7 +107,7 @@ module _ (d : Directory) (backup c : ℕ) (r : Release) (ps : List Price) (few :
 
   -- all of them lay the prices on the tentative words
   pub tentative-over : (h p w v : ℕ) → w < 32 → HomeOf d h p
-    → over (releaseWrites d backup c r ps) h (pageStart p + (tentativeHalf + w)) v ≡ laidAt ps (32 * p + w) v
+      → over (releaseWrites d backup c r ps) h (pageStart p + (tentativeHalf + w)) v ≡ laidAt ps (32 * p + w) v
   unfolding releaseWrites
   tentative-over h p w v within home =
       let records = records-miss h p w tentativeHalf within (omega arith) in
@@ -138,7 +139,7 @@ module _ (d : Directory) (backup : ℕ → ℕ) where
   committed-none c = refl
 
   pub pending-unnamed : (c h p w v : ℕ) (R : Opened) → c < 8 → EightWords R → w < 32 → names (pricesIn R) (32 * p + w) ≡ false
-    → over (pending d backup c R) h (pageStart p + (tentativeHalf + w)) v ≡ v
+      → over (pending d backup c R) h (pageStart p + (tentativeHalf + w)) v ≡ v
   unfolding pending
   pending-unnamed c h p w v none few eight within unnamed = over-none h _ v
   pending-unnamed c h p w v (opened r list s) few eight within unnamed =
@@ -146,15 +147,15 @@ module _ (d : Directory) (backup : ℕ → ℕ) where
       (misses-drop s (tentative-misses d (backup c) c r (listPrices list) few eight (on-pages list) h p w within unnamed))
 
   pub committed-unnamed : (c h p w v : ℕ) (R : Opened) → c < 8 → EightWords R → w < 32
-    → names (pricesIn R) (32 * p + w) ≡ false
-    → over (pendingCommitted d backup c R) h (pageStart p + (committedHalf + w)) v ≡ v
+      → names (pricesIn R) (32 * p + w) ≡ false
+      → over (pendingCommitted d backup c R) h (pageStart p + (committedHalf + w)) v ≡ v
   unfolding pendingCommitted
   committed-unnamed c h p w v none few eight within unnamed = over-none h _ v
   committed-unnamed c h p w v (opened r list s) few eight within unnamed = go (ltb s (countsAt (length (listPrices list))))
     where
       go : (early : Bool)
-        → over (cond early [] (drop s (releaseWrites d (backup c) c r (listPrices list)))) h (pageStart p + (committedHalf + w)) v
-        ≡ v
+          → over (cond early [] (drop s (releaseWrites d (backup c) c r (listPrices list)))) h (pageStart p + (committedHalf + w)) v
+          ≡ v
       go true = over-none h _ v
       go false =
           over-miss v
@@ -163,8 +164,8 @@ module _ (d : Directory) (backup : ℕ → ℕ) where
 -- the writes of an open release, one step on
 module _ (d : Directory) (backup : ℕ → ℕ) (c : ℕ) (r : Release) (list : List ℕ) (s : ℕ) (eight : length (r .desk) ≡ 8) where
   pub pending-first : (h o v : ℕ) → s < 4 * length (listPrices list) + 10
-    → over (pending d backup c (opened r list s)) h o v
-    ≡ over (pending d backup c (opened r list (suc s))) h o
+      → over (pending d backup c (opened r list s)) h o v
+      ≡ over (pending d backup c (opened r list (suc s))) h o
       (written (stepWrite d (backup c) c r (listPrices list) s) h o v)
   unfolding pending
   pending-first h o v before =
@@ -179,23 +180,23 @@ module _ (d : Directory) (backup : ℕ → ℕ) (c : ℕ) (r : Release) (list : 
 
   -- once the tentative words are written none of them is to be
   pub tentative-late : c < 8 → 2 * length (listPrices list) ≤ s → (h p w v : ℕ) → w < 32
-    → over (pending d backup c (opened r list s)) h (pageStart p + (tentativeHalf + w)) v ≡ v
+      → over (pending d backup c (opened r list s)) h (pageStart p + (tentativeHalf + w)) v ≡ v
   unfolding pending
   tentative-late few late h p w v within =
       over-miss v (after-tentative d (backup c) c r (listPrices list) few eight (on-pages list) h p w s within late)
 
   -- at the opening the tentative words are all to be written
   pub tentative-first : c < 8 → s ≡ 0 → (h p w v : ℕ) → w < 32 → HomeOf d h p
-    → over (pending d backup c (opened r list s)) h (pageStart p + (tentativeHalf + w)) v
-    ≡ laidAt (listPrices list) (32 * p + w) v
+      → over (pending d backup c (opened r list s)) h (pageStart p + (tentativeHalf + w)) v
+      ≡ laidAt (listPrices list) (32 * p + w) v
   unfolding pending
   tentative-first few opening h p w v within home =
       rw opening (tentative-over d (backup c) c r (listPrices list) few eight (on-pages list) h p w v within home)
 
   -- at the count the committed words are all to be written
   pub committed-first : c < 8 → s ≡ countsAt (length (listPrices list)) → (h p w v : ℕ) → w < 32 → HomeOf d h p
-    → over (pending d backup c (opened r list s)) h (pageStart p + (committedHalf + w)) v
-    ≡ laidAt (listPrices list) (32 * p + w) v
+      → over (pending d backup c (opened r list s)) h (pageStart p + (committedHalf + w)) v
+      ≡ laidAt (listPrices list) (32 * p + w) v
   unfolding pending
   committed-first few counts h p w v within home =
       rw counts (committed-over d (backup c) c r (listPrices list) few eight (on-pages list) h p w v within home)
@@ -205,7 +206,7 @@ module _ (d : Directory) (backup : ℕ → ℕ) (c : ℕ) (r : Release) (list : 
   committed-early early = rw (lt-ltb s (countsAt (length (listPrices list))) early)
 
   pub committed-late : countsAt (length (listPrices list)) ≤ s
-    → pendingCommitted d backup c (opened r list s) ≡ pending d backup c (opened r list s)
+      → pendingCommitted d backup c (opened r list s) ≡ pending d backup c (opened r list s)
   unfolding pendingCommitted pending
   committed-late late = rw (le-ltb s (countsAt (length (listPrices list))) late)
 

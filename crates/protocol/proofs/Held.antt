@@ -53,7 +53,7 @@ pub record Held (c : ℕ) (R : Opened) (last : Release) (f : ℕ → ℕ) : Type
 
 -- words of the record, and only those, matter
 pub held-kept : (c : ℕ) (R : Opened) (last : Release) (f f′ : ℕ → ℕ)
-  → ((o : ℕ) → 20 + 18 * c ≤ o → o < 38 + 18 * c → f′ o ≡ f o) → Held c R last f → Held c R last f′
+    → ((o : ℕ) → 20 + 18 * c ≤ o → o < 38 + 18 * c → f′ o ≡ f o) → Held c R last f → Held c R last f′
 held-kept c R last f f′ same held =
     record {
       stamped = same (recordStamp c) (omega arith) (omega arith) ∙ held .stamped;
@@ -65,7 +65,7 @@ held-kept c R last f f′ same held =
     go : (R : Opened) → Parts c R f → Parts c R f′
     go none parts = tt
     go (opened r list s) parts = λ j within written early.
-      same (recordDesk c (r .number) + j) (omega arith) (omega arith) ∙ parts j within written early
+        same (recordDesk c (r .number) + j) (omega arith) (omega arith) ∙ parts j within written early
 
 -- ---- a step
 
@@ -75,7 +75,7 @@ pub record LastAfter (k s : ℕ) (r last last′ : Release) : Type 0 where
   pub plain : suc s ≢ countsAt k → last′ ≡ last
 
 module _ (r : Release) (list : List ℕ) (s : ℕ) (last last′ : Release)
-  (after : LastAfter (length (listPrices list)) s r last last′) (numbers : Numbers (opened r list s) last) where
+    (after : LastAfter (length (listPrices list)) s r last last′) (numbers : Numbers (opened r list s) last) where
   pub step-numbers : Numbers (opened r list (suc s)) last′
   step-numbers = ((λ early. rw (after .plain (omega arith)) (numbers .0 (omega arith))), late)
     where
@@ -87,20 +87,20 @@ module _ (r : Release) (list : List ℕ) (s : ℕ) (last last′ : Release)
           ]
 
   module _ (d : Directory) (backup c : ℕ) (few : c < 8) (eight : length (r .desk) ≡ 8)
-    (before : s < 4 * length (listPrices list) + 10) (f f′ : ℕ → ℕ)
-    (wrote : (o : ℕ) → 20 + 18 * c ≤ o → o < 38 + 18 * c
+      (before : s < 4 * length (listPrices list) + 10) (f f′ : ℕ → ℕ)
+      (wrote : (o : ℕ) → 20 + 18 * c ≤ o → o < 38 + 18 * c
       → f′ o ≡ written (stepWrite d backup c r (listPrices list) s) backup o (f o)) where
     -- a word of the record that the step does not write
     other-word : (o w : ℕ) → 20 + 18 * c ≤ o → o < 38 + 18 * c
-      → stepWrite d backup c r (listPrices list) s .offset ≡ w → w ≢ o → f′ o ≡ f o
+        → stepWrite d backup c r (listPrices list) s .offset ≡ w → w ≢ o → f′ o ≡ f o
     other-word o w above under at apart =
         wrote o above under ∙ written-other-offset _ backup o (f o) (λ e. apart (sym at ∙ e))
 
     -- a step that leaves the record, and does not count the release
     same-record : ((o : ℕ) → 20 + 18 * c ≤ o → o < 38 + 18 * c → f′ o ≡ f o)
-      → suc s ≢ countsAt (length (listPrices list))
-      → Done (opened r list (suc s)) (f (recordDone c)) (last .number) → Parts c (opened r list (suc s)) f
-      → Held c (opened r list s) last f → Held c (opened r list (suc s)) last′ f′
+        → suc s ≢ countsAt (length (listPrices list))
+        → Done (opened r list (suc s)) (f (recordDone c)) (last .number) → Parts c (opened r list (suc s)) f
+        → Held c (opened r list s) last f → Held c (opened r list (suc s)) last′ f′
     same-record same plain done parts held =
         rw (after .plain plain)
         (held-kept c (opened r list (suc s)) last f f′ same
@@ -108,38 +108,43 @@ module _ (r : Release) (list : List ℕ) (s : ℕ) (last last′ : Release)
 
     -- a desk word is written: the desk of the other evenness stays
     desk-held : (i : ℕ) → s ≡ 2 * length (listPrices list) + i → i < 8 → Held c (opened r list s) last f
-      → Held c (opened r list (suc s)) last′ f′
+        → Held c (opened r list (suc s)) last′ f′
     desk-held i at inside held =
         rw (after .plain (omega arith))
         (record {
           stamped = away (recordStamp c) (omega arith) (omega arith) (λ e. omega arith) ∙ held .stamped;
           desked = λ j within.
-            away (recordDesk c (last .number) + j) (omega arith) (omega arith) (λ e. omega (arith, next)) ∙ held .desked j within;
-          done =
-              ((λ soon. away (recordDone c) (omega arith) (omega arith) (λ e. omega arith) ∙ held .done .0 (omega arith)),
-                (λ late _. absurd (omega arith)), (λ late. absurd (omega arith)));
+              away (recordDesk c (last .number) + j) (omega arith) (omega arith) (λ e. omega (arith, next)) ∙ held .desked j within;
+          done = (
+            (λ soon. away (recordDone c) (omega arith) (omega arith) (λ e. omega arith) ∙ held .done .0 (omega arith)),
+            (λ late _. absurd (omega arith)),
+            (λ late. absurd (omega arith)),
+          );
           parts = λ j within there soon. part j within there (ℕ-discrete j i);
         })
       where
         to : stepWrite d backup c r (listPrices list) s .offset ≡ recordDesk c (r .number) + i
         to = ap (λ w. w .offset) (write-desk d backup c r (listPrices list) eight s i at inside)
+
         next : r .number ≡ suc (last .number)
         next = numbers .0 (omega (arith, at, inside))
+
         away : (o : ℕ) → 20 + 18 * c ≤ o → o < 38 + 18 * c → recordDesk c (r .number) + i ≢ o → f′ o ≡ f o
         away o above under apart = other-word o (recordDesk c (r .number) + i) above under to apart
+
         part : (j : ℕ) → j < 8 → 2 * length (listPrices list) + j < suc s → Dec (j ≡ i)
-          → f′ (recordDesk c (r .number) + j) ≡ getD (r .desk) j 0
+            → f′ (recordDesk c (r .number) + j) ≡ getD (r .desk) j 0
         part j within there (yes same) =
             wrote (recordDesk c (r .number) + j) (omega arith) (omega arith)
             ∙ rw (write-desk d backup c r (listPrices list) eight s i at inside)
-              (written-here _ backup _ _ refl (omega arith) ∙ rw same)
+            (written-here _ backup _ _ refl (omega arith) ∙ rw same)
         part j within there (no other) =
             away (recordDesk c (r .number) + j) (omega arith) (omega arith) (λ e. omega arith)
             ∙ held .parts j within (omega (arith, at)) (omega (arith, at, inside))
 
     -- the stamp is written, and the release counts: its desk is all there
     stamp-held : s ≡ 2 * length (listPrices list) + 8 → Held c (opened r list s) last f
-      → Held c (opened r list (suc s)) last′ f′
+        → Held c (opened r list (suc s)) last′ f′
     stamp-held at held =
         rw (after .counts (omega arith))
         (record {
@@ -147,33 +152,37 @@ module _ (r : Release) (list : List ℕ) (s : ℕ) (last last′ : Release)
               wrote (recordStamp c) (omega arith) (omega arith)
               ∙ rw (write-stamp d backup c r (listPrices list) eight s at) (written-here _ backup _ _ refl refl);
           desked = λ j within.
-            away (recordDesk c (r .number) + j) (omega arith) (omega arith) (λ e. omega arith)
-            ∙ held .parts j within (omega (arith, at)) (omega (arith, at));
-          done =
-              ((λ soon. absurd (omega arith)),
-                (λ late _. ap suc (away (recordDone c) (omega arith) (omega arith) (λ e. omega arith) ∙ held .done .0 (omega arith)) ∙ sym next),
-                (λ late. absurd (omega arith)));
+              away (recordDesk c (r .number) + j) (omega arith) (omega arith) (λ e. omega arith)
+              ∙ held .parts j within (omega (arith, at)) (omega (arith, at));
+          done = (
+            (λ soon. absurd (omega arith)),
+            (λ late _. ap suc (away (recordDone c) (omega arith) (omega arith) (λ e. omega arith) ∙ held .done .0 (omega arith)) ∙ sym next),
+            (λ late. absurd (omega arith)),
+          );
           parts = λ j within there soon. absurd (omega arith);
         })
       where
         next : r .number ≡ suc (last .number)
         next = numbers .0 (omega (arith, at))
+
         away : (o : ℕ) → 20 + 18 * c ≤ o → o < 38 + 18 * c → recordStamp c ≢ o → f′ o ≡ f o
         away o above under apart =
             other-word o (recordStamp c) above under
             (ap (λ w. w .offset) (write-stamp d backup c r (listPrices list) eight s at)) apart
 
     done-held : s ≡ 4 * length (listPrices list) + 9 → Held c (opened r list s) last f
-      → Held c (opened r list (suc s)) last′ f′
+        → Held c (opened r list (suc s)) last′ f′
     done-held at held =
         rw (after .plain (omega arith))
         (record {
           stamped = away (recordStamp c) (omega arith) (omega arith) (λ e. omega arith) ∙ held .stamped;
           desked = λ j within.
-            away (recordDesk c (last .number) + j) (omega arith) (omega arith) (λ e. omega arith) ∙ held .desked j within;
-          done =
-              ((λ soon. absurd (omega arith)), (λ late soon. absurd (omega arith)),
-                (λ late. marked ∙ ap (λ l. l .number) (sym (numbers .1 (omega (arith, at))))));
+              away (recordDesk c (last .number) + j) (omega arith) (omega arith) (λ e. omega arith) ∙ held .desked j within;
+          done = (
+            (λ soon. absurd (omega arith)),
+            (λ late soon. absurd (omega arith)),
+            (λ late. marked ∙ ap (λ l. l .number) (sym (numbers .1 (omega (arith, at))))),
+          );
           parts = λ j within there soon. absurd (omega arith);
         })
       where
@@ -181,6 +190,7 @@ module _ (r : Release) (list : List ℕ) (s : ℕ) (last last′ : Release)
         marked =
             wrote (recordDone c) (omega arith) (omega arith)
             ∙ rw (write-done d backup c r (listPrices list) eight s at) (written-here _ backup _ _ refl refl)
+
         away : (o : ℕ) → 20 + 18 * c ≤ o → o < 38 + 18 * c → recordDone c ≢ o → f′ o ≡ f o
         away o above under apart =
             other-word o (recordDone c) above under
@@ -199,17 +209,19 @@ module _ (r : Release) (list : List ℕ) (s : ℕ) (last last′ : Release)
         go (to-stamp at) = stamp-held at held
         go (to-committed i at inside) =
             let to = ap (λ w. w .offset) (write-committed d backup c r (listPrices list) eight s i at inside) in
-            same-record (λ o above under. other-word o _ above under to (λ e. omega arith)) (omega arith)
-            ((λ soon. absurd (omega arith)), (λ late _. held .done .1 (omega arith) (omega arith)),
-              (λ late. absurd (omega arith)))
+            same-record (λ o above under. other-word o _ above under to (λ e. omega arith)) (omega arith) (
+              (λ soon. absurd (omega arith)),
+              (λ late _. held .done .1 (omega arith) (omega arith)),
+              (λ late. absurd (omega arith)),
+            )
             (λ j within there soon. absurd (omega arith)) held
         go (to-done at) = done-held at held
         go (to-close at) = absurd (omega arith)
 
 -- the close leaves the record, which is settled
 pub close-held : (c : ℕ) (r : Release) (list : List ℕ) (s : ℕ) (last : Release) (f f′ : ℕ → ℕ)
-  → 4 * length (listPrices list) + 10 ≤ s → ((o : ℕ) → 20 + 18 * c ≤ o → o < 38 + 18 * c → f′ o ≡ f o)
-  → Held c (opened r list s) last f → Held c none last f′
+    → 4 * length (listPrices list) + 10 ≤ s → ((o : ℕ) → 20 + 18 * c ≤ o → o < 38 + 18 * c → f′ o ≡ f o)
+    → Held c (opened r list s) last f → Held c none last f′
 close-held c r list s last f f′ past same held =
     held-kept c none last f f′ same
     (record { stamped = held .stamped; desked = held .desked; done = held .done .2 past; parts = tt })

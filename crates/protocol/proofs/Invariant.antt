@@ -60,7 +60,7 @@ pub record RunningRack (d : Directory) (m : List ℕ) (b : Book) : Type 0 where
   pub core : Core d (backupOf d) (load (sizeOf d) m) (Unit {0}) (Unit {0}) m b
   -- the record of each dead card is settled on every live card
   pub records : (g h : ℕ) → isLive d g ≡ false → g < d .cards → isLive d h ≡ true
-    → Held g none (b .last g) (load (sizeOf d) m h)
+      → Held g none (b .last g) (load (sizeOf d) m h)
   pub two : TwoLive d
   pub primary-live : (p : ℕ) → p < d .pages → isLive d (primaryOf d p) ≡ true
   pub secondary-live : (p : ℕ) → p < d .pages → isLive d (secondaryOf d p) ≡ true
@@ -84,10 +84,10 @@ pub record AwaitingRack (d : Directory) (f : ℕ) (m : List ℕ) (b : Book) : Ty
   -- the tentative words are right if the second phase was under way, else the committed ones
   pub core : Core d (backupBefore d f) (load (sizeOf d) m) (stampOf d f m ≢ doneOf d f m) (stampOf d f m ≡ doneOf d f m) m b
   pub records : (g h : ℕ) → isLive d g ≡ false → g ≢ f → g < d .cards → isLive d h ≡ true
-    → Held g none (b .last g) (load (sizeOf d) m h)
+      → Held g none (b .last g) (load (sizeOf d) m h)
   pub stamped : stampOf d f m ≡ b .last f .number
   pub desked : (j : ℕ) → j < 8
-    → load (sizeOf d) m (nextLiveOf d f) (recordDesk f (b .last f .number) + j) ≡ getD (b .last f .desk) j 0
+      → load (sizeOf d) m (nextLiveOf d f) (recordDesk f (b .last f .number) + j) ≡ getD (b .last f .desk) j 0
   pub two : TwoLive d
   pub primary-live : (p : ℕ) → p < d .pages → (isLive d (primaryOf d p) ≡ true) ⊎ (primaryOf d p ≡ f)
   pub secondary-live : (p : ℕ) → p < d .pages → (isLive d (secondaryOf d p) ≡ true) ⊎ (secondaryOf d p ≡ f)
@@ -110,5 +110,5 @@ module _ (d : Directory) (two : TwoLive d) (below : (c : ℕ) → isLive d c ≡
 
 -- a mark that is made and unmade
 pub unmarked : (marks : List Bool) (c : ℕ) (mark : Bool) → getD marks c false ≡ mark → (other : Bool)
-  → set (set marks c other) c mark ≡ marks
+    → set (set marks c other) c mark ≡ marks
 unmarked marks c mark is other = set-set marks c other mark ∙ (rw is at (set-getD marks c false))

@@ -28,7 +28,7 @@ use Rattle.protocol.proofs.Shape.{Shape, area-of, area-of-live, shape-k
 -- ---- the area reset
 
 module _ (d : Directory) (x : ℕ) (m : List ℕ) (shape : Shape d m) (real : x < d .cards)
-  (eight : length (recordedRelease (sizeOf d) m (nextLiveOf d x) x .desk) ≡ 8) where
+    (eight : length (recordedRelease (sizeOf d) m (nextLiveOf d x) x .desk) ≡ 8) where
   abbrev r : Release
   r = recordedRelease (sizeOf d) m (nextLiveOf d x) x
 
@@ -59,14 +59,14 @@ module _ (d : Directory) (x : ℕ) (m : List ℕ) (shape : Shape d m) (real : x 
   reset-word o small =
       rw (zero-add o) at
       (load-store-run-inside (sizeOf d) cleared x ownStamp (r .number ∷ r .desk) (rw length-clear-run area) (omega arith) o
-        (omega arith))
+      (omega arith))
 
   pub reset-own : ownRelease (sizeOf d) (resetArea d x m) x ≡ r
   unfolding ownRelease
   reset-own =
       let desk =
-            load-run-is (sizeOf d) (resetArea d x m) x ownDesk deskSize (r .desk) eight (rw length-reset area) (omega arith)
-              (λ j within. let at : 1 + j ≡ suc j = omega arith in reset-word (1 + j) (omega arith) ∙ rw at) in
+      load-run-is (sizeOf d) (resetArea d x m) x ownDesk deskSize (r .desk) eight (rw length-reset area) (omega arith)
+      (λ j within. let at : 1 + j ≡ suc j = omega arith in reset-word (1 + j) (omega arith) ∙ rw at) in
       rw (reset-word ownStamp (omega arith), desk)
 
 -- ---- the records of other dead cards
@@ -76,10 +76,10 @@ pub record CopiedBelow (d : Directory) (x n : ℕ) (m m′ : List ℕ) : Type 0 
   pub other-card : (h o : ℕ) → h ≢ x → o < sizeOf d → load (sizeOf d) m′ h o ≡ load (sizeOf d) m h o
   pub low : (o : ℕ) → o < 20 → load (sizeOf d) m′ x o ≡ load (sizeOf d) m x o
   pub copied : (g o : ℕ) → g < n → g < 8 → isLive d g ≡ false → g ≢ x → 20 + 18 * g ≤ o → o < 38 + 18 * g
-    → load (sizeOf d) m′ x o ≡ load (sizeOf d) m (nextLiveOf d g) o
+      → load (sizeOf d) m′ x o ≡ load (sizeOf d) m (nextLiveOf d g) o
 
 module _ (d : Directory) (x : ℕ) (m : List ℕ) (shape : Shape d m) (real : x < d .cards) (dead : isLive d x ≡ false)
-  (nexts : (g : ℕ) → isLive d (nextLiveOf d g) ≡ true) where
+    (nexts : (g : ℕ) → isLive d (nextLiveOf d g) ≡ true) where
   not-x : (h : ℕ) → isLive d h ≡ true → h ≢ x
   not-x h live same = true≢false (sym live ∙ rw same dead)
 
@@ -89,11 +89,13 @@ module _ (d : Directory) (x : ℕ) (m : List ℕ) (shape : Shape d m) (real : x 
     where
       few : n < 8
       few = omega (arith, less, shape .few-cards)
+
       shape′ : Shape d m′
       shape′ = shape-kept shape m′ (below .same-length)
+
       outside : (h o : ℕ) → o < sizeOf d → (h ≢ x) ⊎ ((o < 20 + 18 * n) ⊎ (38 + 18 * n ≤ o))
-        → load (sizeOf d) (copyRun (sizeOf d) m′ (nextLiveOf d n) (recordStamp n) x (recordStamp n) recordSize) h o
-        ≡ load (sizeOf d) m′ h o
+          → load (sizeOf d) (copyRun (sizeOf d) m′ (nextLiveOf d n) (recordStamp n) x (recordStamp n) recordSize) h o
+          ≡ load (sizeOf d) m′ h o
       outside h o inside (inl other) =
           load-copy-run-outside (sizeOf d) m′ _ _ x (recordStamp n) recordSize h o
           (outside-other-card other (omega (arith, few)) inside)
@@ -101,19 +103,20 @@ module _ (d : Directory) (x : ℕ) (m : List ℕ) (shape : Shape d m) (real : x 
           load-copy-run-outside (sizeOf d) m′ _ _ x (recordStamp n) recordSize h o (outside-below (omega arith) (omega (arith, few)))
       outside h o inside (inr (inr over)) =
           load-copy-run-outside (sizeOf d) m′ _ _ x (recordStamp n) recordSize h o (outside-above (omega arith) inside)
+
       go : (copies : Bool) → not (isLive d n) && not (eqb n x) ≡ copies
-        → CopiedBelow d x (suc n) m (cond copies (copyRun (sizeOf d) m′ (nextLiveOf d n) (recordStamp n) x (recordStamp n) recordSize) m′)
+          → CopiedBelow d x (suc n) m (cond copies (copyRun (sizeOf d) m′ (nextLiveOf d n) (recordStamp n) x (recordStamp n) recordSize) m′)
       go true both =
           record {
             same-length = length-copy-run (sizeOf d) m′ _ _ _ _ recordSize ∙ below .same-length;
             other-card = λ h o other inside. outside h o inside (inl other) ∙ below .other-card h o other inside;
             low = λ o small. outside x o (omega arith) (inr (inl (omega arith))) ∙ below .low o small;
             copied = λ g o under little gone other above beneath.
-              elim (ℕ-discrete g n) [
-                | yes same ↦ here g o same above beneath
-                | no differs ↦ outside x o (omega arith) (inr (apart g o differs above beneath))
-                    ∙ below .copied g o (omega arith) little gone other above beneath
-              ];
+                elim (ℕ-discrete g n) [
+                  | yes same ↦ here g o same above beneath
+                  | no differs ↦ outside x o (omega arith) (inr (apart g o differs above beneath))
+                      ∙ below .copied g o (omega arith) little gone other above beneath
+                ];
           }
         where
           apart : (g o : ℕ) → g ≢ n → 20 + 18 * g ≤ o → o < 38 + 18 * g → (o < 20 + 18 * n) ⊎ (38 + 18 * n ≤ o)
@@ -122,15 +125,16 @@ module _ (d : Directory) (x : ℕ) (m : List ℕ) (shape : Shape d m) (real : x 
                 | yes less ↦ inl (omega arith)
                 | no more ↦ inr (omega arith)
               ]
+
           here : (g o : ℕ) → g ≡ n → 20 + 18 * g ≤ o → o < 38 + 18 * g
-            → load (sizeOf d) (copyRun (sizeOf d) m′ (nextLiveOf d n) (recordStamp n) x (recordStamp n) recordSize) x o
-            ≡ load (sizeOf d) m (nextLiveOf d g) o
+              → load (sizeOf d) (copyRun (sizeOf d) m′ (nextLiveOf d n) (recordStamp n) x (recordStamp n) recordSize) x o
+              ≡ load (sizeOf d) m (nextLiveOf d g) o
           here g o same above beneath =
               let at : o ≡ recordStamp n + (o - recordStamp n) = omega arith in
               let source = area-of-live shape′ (nextLiveOf d n) (nexts n) in
               let inside =
-                    load-copy-run-inside (sizeOf d) m′ (nextLiveOf d n) (recordStamp n) x (recordStamp n) recordSize source
-                      (area-of shape′ x real) (omega (arith, few)) (omega (arith, few)) (o - recordStamp n) (omega arith) in
+              load-copy-run-inside (sizeOf d) m′ (nextLiveOf d n) (recordStamp n) x (recordStamp n) recordSize source
+              (area-of shape′ x real) (omega (arith, few)) (omega (arith, few)) (o - recordStamp n) (omega arith) in
               rw same
               ((rw (← at) at inside) ∙ below .other-card (nextLiveOf d n) o (not-x (nextLiveOf d n) (nexts n)) (omega (arith, few)))
       go false neither =
@@ -139,10 +143,10 @@ module _ (d : Directory) (x : ℕ) (m : List ℕ) (shape : Shape d m) (real : x 
             other-card = below .other-card;
             low = below .low;
             copied = λ g o under little gone other above beneath.
-              elim (ℕ-discrete g n) [
-                | yes same ↦ absurd (true≢false (sym (copied-too (rw same at gone) (λ e. other (same ∙ e))) ∙ neither))
-                | no differs ↦ below .copied g o (omega arith) little gone other above beneath
-              ];
+                elim (ℕ-discrete g n) [
+                  | yes same ↦ absurd (true≢false (sym (copied-too (rw same at gone) (λ e. other (same ∙ e))) ∙ neither))
+                  | no differs ↦ below .copied g o (omega arith) little gone other above beneath
+                ];
           }
         where
           copied-too : isLive d n ≡ false → n ≢ x → not (isLive d n) && not (eqb n x) ≡ true

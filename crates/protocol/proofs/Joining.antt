@@ -33,7 +33,7 @@ use Rattle.protocol.proofs.JoinedArea.{length-reset, reset-other, reset
 use Rattle.protocol.proofs.Invariant.{RunningRack, TwoLive, next-is-live, next-is-other, unmarked}
 
 module _ (d : Directory) (x : ℕ) (m : List ℕ) (b : Book) (rack : RunningRack d m b) (dead : isLive d x ≡ false)
-  (real : x < d .cards) (idle : (c : ℕ) → b .release c ≡ none) where
+    (real : x < d .cards) (idle : (c : ℕ) → b .release c ≡ none) where
   abbrev d′ : Directory
   d′ = markedLive d x
 
@@ -63,9 +63,9 @@ module _ (d : Directory) (x : ℕ) (m : List ℕ) (b : Book) (rack : RunningRack
   unfolding recordedRelease
   recorded =
       let desk =
-            load-run-is (sizeOf d) m (nextLiveOf d x) (recordDesk x (b .last x .number)) deskSize (b .last x .desk)
-              (rack .core .last-eight x) (area-of-live shape (nextLiveOf d x) (nexts x)) (omega (arith, few))
-              (λ j within. held-x .desked j within) in
+      load-run-is (sizeOf d) m (nextLiveOf d x) (recordDesk x (b .last x .number)) deskSize (b .last x .desk)
+      (rack .core .last-eight x) (area-of-live shape (nextLiveOf d x) (nexts x)) (omega (arith, few))
+      (λ j within. held-x .desked j within) in
       rw (held-x .stamped, desk)
 
   eight : length (recordedRelease (sizeOf d) m (nextLiveOf d x) x .desk) ≡ 8
@@ -139,14 +139,17 @@ module _ (d : Directory) (x : ℕ) (m : List ℕ) (b : Book) (rack : RunningRack
   home-live h p page (inr home) = rw home (rack .primary-live p page)
 
   page-word : (h p w half : ℕ) → HomeWord d′ h p w → half ≤ 32
-    → load (sizeOf d) m₃ h (pageStart p + (half + w)) ≡ load (sizeOf d) m h (pageStart p + (half + w))
+      → load (sizeOf d) m₃ h (pageStart p + (half + w)) ≡ load (sizeOf d) m h (pageStart p + (half + w))
   page-word h p w half word less =
       others h _ (not-x h (home-live h p (word .page) (word .home))) (omega (arith, word .page, word .word))
 
   home-word : (h p w : ℕ) → HomeWord d′ h p w → HomeWord d h p w
   home-word h p w word =
       record {
-        live = home-live h p (word .page) (word .home); home = word .home; page = word .page; word = word .word;
+        live = home-live h p (word .page) (word .home);
+        home = word .home;
+        page = word .page;
+        word = word .word;
       }
 
   -- ---- what stands on x
@@ -154,7 +157,7 @@ module _ (d : Directory) (x : ℕ) (m : List ℕ) (b : Book) (rack : RunningRack
   x-own : ownRelease (sizeOf d) m₃ x ≡ b .last x
   x-own =
       own-words-kept (sizeOf d) m₁ m₃ x (backed .same-length ∙ copied .same-length)
-        (λ o less. backed .low x o (omega arith) ∙ copied .low o (omega arith))
+      (λ o less. backed .low x o (omega arith) ∙ copied .low o (omega arith))
       ∙ reset-own d x m shape real eight ∙ recorded
 
   x-closed : load (sizeOf d) m₃ x releaseOpen ≡ 0
@@ -167,9 +170,9 @@ module _ (d : Directory) (x : ℕ) (m : List ℕ) (b : Book) (rack : RunningRack
   dead-on-x g gone other less =
       held-kept g none (b .last g) _ _
       (λ o above below.
-        backed .records g x o (omega (arith, shape .few-cards)) (not-due g gone) above below
-        ∙ copied .copied g o less (omega (arith, shape .few-cards)) gone other above below
-        ∙ reset-other d x m shape real eight (nextLiveOf d g) o (not-x (nextLiveOf d g) (nexts g)) (omega (arith, shape .few-cards)))
+      backed .records g x o (omega (arith, shape .few-cards)) (not-due g gone) above below
+      ∙ copied .copied g o less (omega (arith, shape .few-cards)) gone other above below
+      ∙ reset-other d x m shape real eight (nextLiveOf d g) o (not-x (nextLiveOf d g) (nexts g)) (omega (arith, shape .few-cards)))
       (rack .records g (nextLiveOf d g) gone less (nexts g))
     where
       not-due : (g : ℕ) → isLive d g ≡ false → backupIs d x g ≡ false
@@ -196,7 +199,7 @@ module _ (d : Directory) (x : ℕ) (m : List ℕ) (b : Book) (rack : RunningRack
 
   -- a record on another card than x
   kept-held : (c h : ℕ) (R : Opened) → c < 8 → h ≢ x → Held c R (b .last c) (load (sizeOf d) m h)
-    → Held c R (b .last c) (load (sizeOf d) m₃ h)
+      → Held c R (b .last c) (load (sizeOf d) m₃ h)
   kept-held c h R little other held =
       held-kept c R (b .last c) _ _ (λ o above under. others h o other (omega arith)) held
 
@@ -264,16 +267,16 @@ module _ (d : Directory) (x : ℕ) (m : List ℕ) (b : Book) (rack : RunningRack
         numbers = core .numbers;
         owns = owns;
         tentative = λ _.
-          claim-kept d d′ (tentatives d (backupOf d)) (tentatives d′ (backupOf d′)) (b .release) (b .price) m m₃
+            claim-kept d d′ (tentatives d (backupOf d)) (tentatives d′ (backupOf d′)) (b .release) (b .price) m m₃
             (λ c h p w word. home-word h p w word)
             (λ c h p w v word agrees.
-              rw (idle c, pending-none d′ (backupOf d′) c) (rw (idle c, pending-none d (backupOf d) c) at agrees))
+            rw (idle c, pending-none d′ (backupOf d′) c) (rw (idle c, pending-none d (backupOf d) c) at agrees))
             (λ h p w word. page-word h p w _ word (omega arith)) (core .tentative tt);
         committed = λ _.
-          claim-kept d d′ (committeds d (backupOf d)) (committeds d′ (backupOf d′)) (b .release) (b .price) m m₃
+            claim-kept d d′ (committeds d (backupOf d)) (committeds d′ (backupOf d′)) (b .release) (b .price) m m₃
             (λ c h p w word. home-word h p w word)
             (λ c h p w v word agrees.
-              rw (idle c, committed-none d′ (backupOf d′) c) (rw (idle c, committed-none d (backupOf d) c) at agrees))
+            rw (idle c, committed-none d′ (backupOf d′) c) (rw (idle c, committed-none d (backupOf d) c) at agrees))
             (λ h p w word. page-word h p w _ word (omega arith)) (core .committed tt);
         held = λ c live up. rw (idle c) (live-held c live);
         dead = λ g h o gone less up above under. refl;

@@ -25,3 +25,4 @@ pub mod Recovering
 pub mod Recovered
 pub mod JoinedArea
 pub mod Joining
+pub mod Accepting

@@ -54,73 +54,78 @@ pub record MovedBelow (d : Directory) (f n : ℕ) (moved : Directory) : Type 0 w
 
 module _ (d : Directory) (f : ℕ) (most : d .pages ≤ 64) (firsts : length (d .primary) ≡ 64) (seconds : length (d .secondary) ≡ 64)
   where
-  moved-more : (n : ℕ) (moved : Directory) → n < d .pages → MovedBelow d f n moved
-    → MovedBelow d f (suc n) (moveHome d f n moved)
-  unfolding moveHome
-  moved-more n moved fits below = go (lostHome d f n) refl
-    where
-      go : (was : Bool) → lostHome d f n ≡ was
-        → MovedBelow d f (suc n) (cond was (withHomes moved n (keptHome d f n) (newHome d f n)) moved)
-      go true lost =
-          record {
-            cards = below .cards;
-            pages = below .pages;
-            live = below .live;
-            primaries = length-set (moved .primary) n (keptHome d f n) ∙ below .primaries;
-            secondaries = length-set (moved .secondary) n (newHome d f n) ∙ below .secondaries;
-            first = λ p less. elim (ℕ-discrete p n) [
-              | yes same ↦ rw same (primary-of-moved moved n (keptHome d f n) (newHome d f n) (omega (arith, below .primaries)))
-              | no other ↦ primary-of-other moved n (keptHome d f n) (newHome d f n) p other ∙ below .first p (omega arith)
-            ];
-            second = λ p less. elim (ℕ-discrete p n) [
-              | yes same ↦ rw (same, lost) (secondary-of-moved moved n (keptHome d f n) (newHome d f n) (omega (arith, below .secondaries)))
-              | no other ↦ secondary-of-other moved n (keptHome d f n) (newHome d f n) p other ∙ below .second p (omega arith)
-            ];
-            later = λ p more.
-              (primary-of-other moved n (keptHome d f n) (newHome d f n) p (omega arith) ∙ below .later p (omega arith) .0,
-                secondary-of-other moved n (keptHome d f n) (newHome d f n) p (omega arith) ∙ below .later p (omega arith) .1);
-          }
-      go false whole =
-          record {
-            cards = below .cards;
-            pages = below .pages;
-            live = below .live;
-            primaries = below .primaries;
-            secondaries = below .secondaries;
-            first = λ p less. elim (ℕ-discrete p n) [
-              | yes same ↦ rw same (below .later n (omega arith) .0 ∙ sym (kept-primary d f n (whole-primary d f n whole)))
-              | no other ↦ below .first p (omega arith)
-            ];
-            second = λ p less. elim (ℕ-discrete p n) [
-              | yes same ↦ rw (same, whole) (below .later n (omega arith) .1)
-              | no other ↦ below .second p (omega arith)
-            ];
-            later = λ p more. below .later p (omega arith);
-          }
+    moved-more : (n : ℕ) (moved : Directory) → n < d .pages → MovedBelow d f n moved
+        → MovedBelow d f (suc n) (moveHome d f n moved)
+    unfolding moveHome
+    moved-more n moved fits below = go (lostHome d f n) refl
+      where
+        go : (was : Bool) → lostHome d f n ≡ was
+            → MovedBelow d f (suc n) (cond was (withHomes moved n (keptHome d f n) (newHome d f n)) moved)
+        go true lost =
+            record {
+              cards = below .cards;
+              pages = below .pages;
+              live = below .live;
+              primaries = length-set (moved .primary) n (keptHome d f n) ∙ below .primaries;
+              secondaries = length-set (moved .secondary) n (newHome d f n) ∙ below .secondaries;
+              first = λ p less. elim (ℕ-discrete p n) [
+                | yes same ↦ rw same (primary-of-moved moved n (keptHome d f n) (newHome d f n) (omega (arith, below .primaries)))
+                | no other ↦ primary-of-other moved n (keptHome d f n) (newHome d f n) p other ∙ below .first p (omega arith)
+              ];
+              second = λ p less. elim (ℕ-discrete p n) [
+                | yes same ↦ rw (same, lost) (secondary-of-moved moved n (keptHome d f n) (newHome d f n) (omega (arith, below .secondaries)))
+                | no other ↦ secondary-of-other moved n (keptHome d f n) (newHome d f n) p other ∙ below .second p (omega arith)
+              ];
+              later = λ p more. (
+                primary-of-other moved n (keptHome d f n) (newHome d f n) p (omega arith) ∙ below .later p (omega arith) .0,
+                secondary-of-other moved n (keptHome d f n) (newHome d f n) p (omega arith) ∙ below .later p (omega arith) .1,
+              );
+            }
+        go false whole =
+            record {
+              cards = below .cards;
+              pages = below .pages;
+              live = below .live;
+              primaries = below .primaries;
+              secondaries = below .secondaries;
+              first = λ p less. elim (ℕ-discrete p n) [
+                | yes same ↦ rw same (below .later n (omega arith) .0 ∙ sym (kept-primary d f n (whole-primary d f n whole)))
+                | no other ↦ below .first p (omega arith)
+              ];
+              second = λ p less. elim (ℕ-discrete p n) [
+                | yes same ↦ rw (same, whole) (below .later n (omega arith) .1)
+                | no other ↦ below .second p (omega arith)
+              ];
+              later = λ p more. below .later p (omega arith);
+            }
 
-  moved-below : (n : ℕ) → n ≤ d .pages → MovedBelow d f n (inTurn (moveHome d f) n d)
-  unfolding inTurn
-  moved-below zero fits =
-      record {
-        cards = refl; pages = refl; live = refl; primaries = refl; secondaries = refl;
-        first = λ p less. absurd (omega arith);
-        second = λ p less. absurd (omega arith);
-        later = λ p more. (refl, refl);
-      }
-  moved-below (suc n) fits = moved-more n (inTurn (moveHome d f) n d) (omega arith) (moved-below n (omega arith))
+    moved-below : (n : ℕ) → n ≤ d .pages → MovedBelow d f n (inTurn (moveHome d f) n d)
+    unfolding inTurn
+    moved-below zero fits =
+        record {
+          cards = refl;
+          pages = refl;
+          live = refl;
+          primaries = refl;
+          secondaries = refl;
+          first = λ p less. absurd (omega arith);
+          second = λ p less. absurd (omega arith);
+          later = λ p more. (refl, refl);
+        }
+    moved-below (suc n) fits = moved-more n (inTurn (moveHome d f) n d) (omega arith) (moved-below n (omega arith))
 
-  -- the homes after the move
-  pub movedHomes : Directory
-  movedHomes = inTurn (moveHome d f) (d .pages) d
+    -- the homes after the move
+    pub movedHomes : Directory
+    movedHomes = inTurn (moveHome d f) (d .pages) d
 
-  pub moved : MovedBelow d f (d .pages) movedHomes
-  unfolding movedHomes
-  moved = moved-below (d .pages) (omega arith)
+    pub moved : MovedBelow d f (d .pages) movedHomes
+    unfolding movedHomes
+    moved = moved-below (d .pages) (omega arith)
 
-  -- the directory by its parts
-  pub recovered-parts : recoveredDirectory d f
-    ≡ directoryOf (d .cards) (d .pages) (d .live) (movedHomes .primary) (movedHomes .secondary) Running
-  unfolding recoveredDirectory movedHomes
-  recovered-parts =
-      let m = moved-below (d .pages) (omega arith) in
-      rw (m .cards, m .pages, m .live)
+    -- the directory by its parts
+    pub recovered-parts : recoveredDirectory d f
+        ≡ directoryOf (d .cards) (d .pages) (d .live) (movedHomes .primary) (movedHomes .secondary) Running
+    unfolding recoveredDirectory movedHomes
+    recovered-parts =
+        let m = moved-below (d .pages) (omega arith) in
+        rw (m .cards, m .pages, m .live)

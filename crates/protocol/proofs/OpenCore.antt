@@ -59,7 +59,7 @@ module _ (pages : ℕ) (list rest : List ℕ) (few-pages : pages ≤ 64) (few : 
 -- ---- the words after an opening
 
 module _ (size : ℕ) (m : List ℕ) (c : ℕ) (r : Release) (list : List ℕ) (long : 676 ≤ size) (eight : length (r .desk) ≡ 8)
-  (few : length list ≤ 512) where
+    (few : length list ≤ 512) where
   abbrev head : List ℕ
   head = 1 ∷ 0 ∷ r .number ∷ r .desk
 
@@ -69,7 +69,7 @@ module _ (size : ℕ) (m : List ℕ) (c : ℕ) (r : Release) (list : List ℕ) (
 
   -- another card's words; the own stamp and desk, the records and the pages
   pub load-open : (h o : ℕ) → o < size → (h ≢ c) ⊎ ((o < 9) ⊎ (((20 ≤ o) × (o < 164)) ⊎ (676 ≤ o)))
-    → load size (openMemory size m c r list) h o ≡ load size m h o
+      → load size (openMemory size m c r list) h o ≡ load size m h o
   unfolding openMemory
   load-open h o inside (inl other) =
       load-store-run-outside size _ c listStart list h o (outside-other-card other (omega arith) inside)
@@ -96,12 +96,12 @@ module _ (size : ℕ) (m : List ℕ) (c : ℕ) (r : Release) (list : List ℕ) (
     unfolding openRelease
     opened-release =
         let desk =
-              load-run-is size (openMemory size m c r list) c releaseDesk deskSize (r .desk) eight (rw length-open area)
-                (omega arith)
-                (λ j within.
-                  let at : releaseDesk + j ≡ releaseOpen + (3 + j) = omega arith in
-                  let on : 3 + j ≡ suc (suc (suc j)) = omega arith in
-                  rw at (open-word (3 + j) (omega arith) ∙ rw on)) in
+        load-run-is size (openMemory size m c r list) c releaseDesk deskSize (r .desk) eight (rw length-open area)
+        (omega arith)
+        (λ j within.
+        let at : releaseDesk + j ≡ releaseOpen + (3 + j) = omega arith in
+        let on : 3 + j ≡ suc (suc (suc j)) = omega arith in
+        rw at (open-word (3 + j) (omega arith) ∙ rw on)) in
         rw (open-word 2 (omega arith), desk)
 
     pub opened-list : (rest : List ℕ) × (openList size (openMemory size m c r list) c ≡ list ++ rest)
@@ -110,18 +110,19 @@ module _ (size : ℕ) (m : List ℕ) (c : ℕ) (r : Release) (list : List ℕ) (
         let m₁ : List ℕ = storeRun size m c releaseOpen head in
         let m₂ : List ℕ = storeRun size m₁ c listStart list in
         let all : listSize ≡ length list + (listSize - length list) = omega arith in
-        let front = load-run-store-run size m₁ c listStart list (rw length-store-run area) (omega arith) (length list) refl in
-        (loadRun size m₂ c (listStart + length list) (listSize - length list),
+        let front = load-run-store-run size m₁ c listStart list (rw length-store-run area) (omega arith) (length list) refl in (
+          loadRun size m₂ c (listStart + length list) (listSize - length list),
           ap (loadRun size m₂ c listStart) all
-          ∙ load-run-append size m₂ c listStart (length list) (listSize - length list) ∙ rw front)
+              ∙ load-run-append size m₂ c listStart (length list) (listSize - length list) ∙ rw front,
+        )
 
 -- ---- the invariant
 
 module _ (d : Directory) (backup : ℕ → ℕ) (old : ℕ → ℕ → ℕ) (T C : Type 0) (m : List ℕ) (b : Book)
-  (core : Core d backup old T C m b) (c : ℕ) (live : isLive d c ≡ true) (idle : b .release c ≡ none) (r : Release)
-  (list : List ℕ) (eight : length (r .desk) ≡ 8) (few : length list ≤ 512) (allowed : Allowed (d .pages) list)
-  (next : r .number ≡ suc (b .last c .number))
-  (free : (x label : ℕ) → x ≢ c → names (listPrices list) label ≡ true → names (pricesIn (b .release x)) label ≡ false) where
+    (core : Core d backup old T C m b) (c : ℕ) (live : isLive d c ≡ true) (idle : b .release c ≡ none) (r : Release)
+    (list : List ℕ) (eight : length (r .desk) ≡ 8) (few : length list ≤ 512) (allowed : Allowed (d .pages) list)
+    (next : r .number ≡ suc (b .last c .number))
+    (free : (x label : ℕ) → x ≢ c → names (listPrices list) label ≡ true → names (pricesIn (b .release x)) label ≡ false) where
   abbrev m′ : List ℕ
   m′ = openMemory (sizeOf d) m c r list
 
@@ -135,7 +136,7 @@ module _ (d : Directory) (backup : ℕ → ℕ) (old : ℕ → ℕ → ℕ) (T C
   area = area-of-live (core .shape) c live
 
   elsewhere : (h o : ℕ) → o < sizeOf d → (h ≢ c) ⊎ ((o < 9) ⊎ (((20 ≤ o) × (o < 164)) ⊎ (676 ≤ o)))
-    → load (sizeOf d) m′ h o ≡ load (sizeOf d) m h o
+      → load (sizeOf d) m′ h o ≡ load (sizeOf d) m h o
   elsewhere = load-open (sizeOf d) m c r list (omega arith) eight few
 
   same-size : length m′ ≡ length m
@@ -150,7 +151,7 @@ module _ (d : Directory) (backup : ℕ → ℕ) (old : ℕ → ℕ → ℕ) (T C
       }
 
   page-word : (h p w half : ℕ) → HomeWord d h p w → half ≤ 32
-    → load (sizeOf d) m′ h (pageStart p + (half + w)) ≡ load (sizeOf d) m h (pageStart p + (half + w))
+      → load (sizeOf d) m′ h (pageStart p + (half + w)) ≡ load (sizeOf d) m h (pageStart p + (half + w))
   page-word h p w half word small = elsewhere h _ (omega (arith, word .page, word .word)) (inr (inr (inr (omega arith))))
 
   record-word : (x h o : ℕ) → x < 8 → 20 + 18 * x ≤ o → o < 38 + 18 * x → load (sizeOf d) m′ h o ≡ load (sizeOf d) m h o
@@ -200,7 +201,7 @@ module _ (d : Directory) (backup : ℕ → ℕ) (old : ℕ → ℕ → ℕ) (T C
   own-same = own-words-kept (sizeOf d) m m′ c same-size (λ o small. elsewhere c o (omega arith) (inr (inl small)))
 
   open-tentative : Claim d (tentatives d backup) (b .release) (b .price) m
-    → Claim d (tentatives d backup) (update (b .release) c R′) (b .price) m′
+      → Claim d (tentatives d backup) (update (b .release) c R′) (b .price) m′
   open-tentative =
       claim-moves d (tentatives d backup) (b .release) (b .price) (b .price) m m′ c R′
       (record {
@@ -208,14 +209,14 @@ module _ (d : Directory) (backup : ℕ → ℕ) (old : ℕ → ℕ → ℕ) (T C
         same-price = λ label _. refl;
         same-word = λ h p w word _. page-word h p w tentativeHalf word (omega arith);
         own = λ h p w word agrees.
-          let was = sym (over-none h _ _) ∙ (rw (idle, pending-none d backup c, uncounted-none) at agrees) ∙ laid-none (32 * p + w) _ in
-          rw (page-word h p w tentativeHalf word (omega arith), uncounted-early r list 0 (omega arith))
-          (tentative-first d backup c r list 0 eight little refl h p w _ (word .word) (word .home)
-          ∙ ap (laidAt (listPrices list) (32 * p + w)) was);
+            let was = sym (over-none h _ _) ∙ (rw (idle, pending-none d backup c, uncounted-none) at agrees) ∙ laid-none (32 * p + w) _ in
+            rw (page-word h p w tentativeHalf word (omega arith), uncounted-early r list 0 (omega arith))
+            (tentative-first d backup c r list 0 eight little refl h p w _ (word .word) (word .home)
+            ∙ ap (laidAt (listPrices list) (32 * p + w)) was);
       })
 
   open-committed : Claim d (committeds d backup) (b .release) (b .price) m
-    → Claim d (committeds d backup) (update (b .release) c R′) (b .price) m′
+      → Claim d (committeds d backup) (update (b .release) c R′) (b .price) m′
   open-committed =
       claim-moves d (committeds d backup) (b .release) (b .price) (b .price) m m′ c R′
       (record {
@@ -223,8 +224,8 @@ module _ (d : Directory) (backup : ℕ → ℕ) (old : ℕ → ℕ → ℕ) (T C
         same-price = λ label _. refl;
         same-word = λ h p w word _. page-word h p w committedHalf word (omega arith);
         own = λ h p w word agrees.
-          rw (page-word h p w committedHalf word (omega arith), committed-early d backup c r list 0 eight (omega arith))
-          (rw (idle, committed-none d backup c) at agrees);
+            rw (page-word h p w committedHalf word (omega arith), committed-early d backup c r list 0 eight (omega arith))
+            (rw (idle, committed-none d backup c) at agrees);
       })
 
   pub open-core : Core d backup old T C m′ (setOpen b c R′)
@@ -232,33 +233,33 @@ module _ (d : Directory) (backup : ℕ → ℕ) (old : ℕ → ℕ → ℕ) (T C
       record {
         shape = shape-kept (core .shape) m′ same-size;
         standing = update-each (b .release) c R′ (λ x R. isLive d x ≡ true → Standing (d .pages) m′ x R) (λ _. own-stands)
-          (λ x other up. standing-kept (d .pages) m m′ x (b .release x) (kept-other x other) (core .standing x up));
+            (λ x other up. standing-kept (d .pages) m m′ x (b .release x) (kept-other x other) (core .standing x up));
         gone = update-each (b .release) c R′ (λ x R. isLive d x ≡ false → R ≡ none)
-          (λ dead. absurd (true≢false (sym live ∙ dead))) (λ x other. core .gone x);
+            (λ dead. absurd (true≢false (sym live ∙ dead))) (λ x other. core .gone x);
         under = update-each (b .release) c R′ (λ x R. Under R) (omega arith) (λ x other. core .under x);
         eights = update-each (b .release) c R′ (λ x R. EightWords R) eight (λ x other. core .eights x);
         last-eight = core .last-eight;
         apart = apart-opened;
         numbers = update-each (b .release) c R′ (λ x R. Numbers R (b .last x))
-          ((λ _. next), (λ late. absurd (omega arith))) (λ x other. core .numbers x);
+            ((λ _. next), (λ late. absurd (omega arith))) (λ x other. core .numbers x);
         owns = update-each (b .release) c R′ (λ x R. isLive d x ≡ true → Own R (ownRelease (sizeOf d) m′ x) (b .last x))
-          (λ _. rw (own-same, rw idle at (core .owns c live)) next)
-          (λ x other up. rw (own-kept (sizeOf d) m m′ x (same-own-release (sizeOf d) m m′ x (kept-other x other)))
+            (λ _. rw (own-same, rw idle at (core .owns c live)) next)
+            (λ x other up. rw (own-kept (sizeOf d) m m′ x (same-own-release (sizeOf d) m m′ x (kept-other x other)))
             (core .owns x up));
         tentative = λ t. open-tentative (core .tentative t);
         committed = λ t. open-committed (core .committed t);
         held = update-each (b .release) c R′
-          (λ x R. isLive d x ≡ true → isLive d (backup x) ≡ true → Held x R (b .last x) (load (sizeOf d) m′ (backup x)))
-          (λ _ up. held-opened (core .held c live up))
-          (λ x other lives up. held-kept x (b .release x) (b .last x) _ _
+            (λ x R. isLive d x ≡ true → isLive d (backup x) ≡ true → Held x R (b .last x) (load (sizeOf d) m′ (backup x)))
+            (λ _ up. held-opened (core .held c live up))
+            (λ x other lives up. held-kept x (b .release x) (b .last x) _ _
             (λ o above below. record-word x (backup x) o (omega (arith, core .shape .below x lives, core .shape .few-cards)) above below)
             (core .held x lives up));
         dead = λ g h o gone small up above below.
-          record-word g h o (omega (arith, core .shape .few-cards)) above below ∙ core .dead g h o gone small up above below;
+            record-word g h o (omega (arith, core .shape .few-cards)) above below ∙ core .dead g h o gone small up above below;
       }
     where
       held-opened : Held c (b .release c) (b .last c) (load (sizeOf d) m (backup c))
-        → Held c R′ (b .last c) (load (sizeOf d) m′ (backup c))
+          → Held c R′ (b .last c) (load (sizeOf d) m′ (backup c))
       held-opened held =
           let before = rw idle at held in
           held-kept c R′ (b .last c) _ _ (λ o above below. record-word c (backup c) o little above below)

@@ -66,12 +66,12 @@ over-none card offset v = refl
 
 -- the writes from step s on: the first of them, and the rest
 pub over-first : (ws : List Write) (s card offset v : ℕ) → s < length ws
-  → over (drop s ws) card offset v ≡ over (drop (suc s) ws) card offset (written (getD ws s noWrite) card offset v)
+    → over (drop s ws) card offset v ≡ over (drop (suc s) ws) card offset (written (getD ws s noWrite) card offset v)
 unfolding over
 over-first ws s card offset v within = rw (drop-cons ws s noWrite within)
 
 pub over-append : (us ws : List Write) (card offset v : ℕ)
-  → over (us ++ ws) card offset v ≡ over ws card offset (over us card offset v)
+    → over (us ++ ws) card offset v ≡ over ws card offset (over us card offset v)
 unfolding over
 over-append [] ws card offset v = refl
 over-append (u ∷ us) ws card offset v = over-append us ws card offset (written u card offset v)
@@ -82,10 +82,10 @@ over-append (u ∷ us) ws card offset v = over-append us ws card offset (written
 pub data Misses (card offset : ℕ) : List Write → Type 0 where
   misses-none : Misses card offset []
   misses-more : {w : Write} {ws : List Write} → (w .card ≡ card → w .offset ≢ offset) → Misses card offset ws
-    → Misses card offset (w ∷ ws)
+      → Misses card offset (w ∷ ws)
 
 pub written-miss : (w : Write) (card offset v : ℕ) → (w .card ≡ card → w .offset ≢ offset)
-  → written w card offset v ≡ v
+    → written w card offset v ≡ v
 written-miss w card offset v other =
     elim (ℕ-discrete (w .card) card) [
       | yes same ↦ written-other-offset w card offset v (other same)
@@ -99,7 +99,7 @@ over-miss {card = card} {offset = offset} v (misses-more {w = w} other rest) =
     rw (written-miss w card offset v other) (over-miss v rest)
 
 pub misses-append : {us ws : List Write} {card offset : ℕ} → Misses card offset us → Misses card offset ws
-  → Misses card offset (us ++ ws)
+    → Misses card offset (us ++ ws)
 misses-append misses-none b = b
 misses-append (misses-more other rest) b = misses-more other (misses-append rest b)
 
@@ -109,14 +109,14 @@ misses-drop (suc s) misses-none = misses-none
 misses-drop (suc s) (misses-more other rest) = misses-drop s rest
 
 pub misses-at : {ws : List Write} {card offset : ℕ} (s : ℕ) → s < length ws → Misses card offset ws
-  → getD ws s noWrite .card ≡ card → getD ws s noWrite .offset ≢ offset
+    → getD ws s noWrite .card ≡ card → getD ws s noWrite .offset ≢ offset
 misses-at s within misses-none = absurd (omega arith)
 misses-at zero within (misses-more other rest) = other
 misses-at (suc s) within (misses-more other rest) = misses-at s (omega arith) rest
 
 -- a run of writes outside a word's offset
 pub run-misses : (backup start : ℕ) (vs : List ℕ) (card offset : ℕ)
-  → ((j : ℕ) → j < length vs → start + j ≢ offset) → Misses card offset (runWrites backup start vs)
+    → ((j : ℕ) → j < length vs → start + j ≢ offset) → Misses card offset (runWrites backup start vs)
 run-misses backup start [] card offset apart = misses-none
 run-misses backup start (v ∷ vs) card offset apart =
     let here : start ≢ offset = λ e. apart 0 (omega arith) (omega arith) in
@@ -132,8 +132,8 @@ HomeOf d h p = (h ≡ secondaryOf d p) ⊎ (h ≡ primaryOf d p)
 module _ (d : Directory) (half : ℕ) where
   -- at an offset that no price has
   pub prices-miss : (ps : List Price) (card offset : ℕ)
-    → ((p w : ℕ) → w < 32 → pageStart p + (half + w) ≢ offset) → (pages : ℕ) → OnPages pages ps
-    → Misses card offset (priceWrites d half ps)
+      → ((p w : ℕ) → w < 32 → pageStart p + (half + w) ≢ offset) → (pages : ℕ) → OnPages pages ps
+      → Misses card offset (priceWrites d half ps)
   prices-miss [] card offset apart pages on = misses-none
   prices-miss (p ∷ ps) card offset apart pages on =
       let here = apart (p .page) (p .word) (on .1) in
@@ -141,14 +141,14 @@ module _ (d : Directory) (half : ℕ) where
 
   -- at a label that no price names
   pub unnamed-miss : (ps : List Price) (card p w : ℕ) → w < 32 → half ≤ 32 → (pages : ℕ) → OnPages pages ps
-    → names ps (32 * p + w) ≡ false → Misses card (pageStart p + (half + w)) (priceWrites d half ps)
+      → names ps (32 * p + w) ≡ false → Misses card (pageStart p + (half + w)) (priceWrites d half ps)
   unnamed-miss [] card p w within small pages on none = misses-none
   unnamed-miss (q ∷ qs) card p w within small pages on none =
       go (ℕ-discrete (labelOf q) (32 * p + w)) (unnamed-miss qs card p w within small pages (on .2))
     where
       go : Dec (labelOf q ≡ 32 * p + w)
-        → (names qs (32 * p + w) ≡ false → Misses card (pageStart p + (half + w)) (priceWrites d half qs))
-        → Misses card (pageStart p + (half + w)) (priceWrites d half (q ∷ qs))
+          → (names qs (32 * p + w) ≡ false → Misses card (pageStart p + (half + w)) (priceWrites d half qs))
+          → Misses card (pageStart p + (half + w)) (priceWrites d half (q ∷ qs))
       go (yes here) rest = absurd (true≢false (sym (names-first q qs (32 * p + w) here) ∙ none))
       go (no there) rest =
           let apart : pageStart (q .page) + (half + q .word) ≢ pageStart p + (half + w) = omega (arith, on .1, within) in
@@ -157,7 +157,7 @@ module _ (d : Directory) (half : ℕ) where
 
   -- at a home of the label's page: all of them leave what the prices lay there
   pub prices-over : (ps : List Price) (h p w v : ℕ) → w < 32 → half ≤ 32 → HomeOf d h p → (pages : ℕ) → OnPages pages ps
-    → over (priceWrites d half ps) h (pageStart p + (half + w)) v ≡ laidAt ps (32 * p + w) v
+      → over (priceWrites d half ps) h (pageStart p + (half + w)) v ≡ laidAt ps (32 * p + w) v
   unfolding over
   prices-over [] h p w v within small home pages on = sym (laid-none (32 * p + w) v)
   prices-over (q ∷ qs) h p w v within small home pages on =
@@ -165,20 +165,24 @@ module _ (d : Directory) (half : ℕ) where
     where
       offset : ℕ
       offset = pageStart p + (half + w)
+
       second : Write
       second = priceWrite (secondaryOf d) half q
+
       first : Write
       first = priceWrite (primaryOf d) half q
+
       -- the price reaches the home, whichever it is
       reached : q .page ≡ p → pageStart (q .page) + (half + q .word) ≡ offset → HomeOf d h p
-        → written first h offset (written second h offset v) ≡ q .price
+          → written first h offset (written second h offset v) ≡ q .price
       reached page at (inl home) =
           rw (written-here second h offset v (rw page (sym home)) at) (written-again first h offset)
       reached page at (inr home) = written-here first h offset _ (rw page (sym home)) at
+
       go : Dec (labelOf q ≡ 32 * p + w)
-        → ((v : ℕ) → over (priceWrites d half qs) h offset v ≡ laidAt qs (32 * p + w) v)
-        → over (priceWrites d half qs) h offset (written first h offset (written second h offset v))
-        ≡ laidAt (q ∷ qs) (32 * p + w) v
+          → ((v : ℕ) → over (priceWrites d half qs) h offset v ≡ laidAt qs (32 * p + w) v)
+          → over (priceWrites d half qs) h offset (written first h offset (written second h offset v))
+          ≡ laidAt (q ∷ qs) (32 * p + w) v
       go (yes here) rest =
           let page : q .page ≡ p = omega (arith, on .1, within) in
           let at : pageStart (q .page) + (half + q .word) ≡ offset = omega (arith, on .1, within) in

@@ -43,26 +43,26 @@ module _ (r : Release) (eight : length (r .desk) ≡ 8) where
   settled-desk j i within at = go (eqb (r .number % 2) 0) refl
     where
       go : (even : Bool) → eqb (r .number % 2) 0 ≡ even
-        → getD (r .number ∷ r .number ∷ desks even) i 0 ≡ getD (r .desk) j 0
+          → getD (r .number ∷ r .number ∷ desks even) i 0 ≡ getD (r .desk) j 0
       go true even =
           let here : i ≡ suc (suc j) = omega (arith, eqb-true (r .number % 2) 0 even) in
           rw here (List·getD-append (r .desk) (zeros deskSize) 0 j (omega arith))
       go false odd =
           let here : i ≡ suc (suc (length (zeros deskSize) + j)) =
-                omega (arith, eqb-false (r .number % 2) 0 odd, length-zeros deskSize) in
+          omega (arith, eqb-false (r .number % 2) 0 odd, length-zeros deskSize) in
           rw here (getD-append-add (zeros deskSize) (r .desk) j 0)
 
 -- ---- one record written
 
 module _ (size : ℕ) (m : List ℕ) (holder c : ℕ) (r : Release) (long : 676 ≤ size) (few : c < 8)
-  (eight : length (r .desk) ≡ 8) where
+    (eight : length (r .desk) ≡ 8) where
   pub length-record : length (writeRecord size m holder c r) ≡ length m
   unfolding writeRecord
   length-record = length-store-run size m holder (recordStamp c) (settledRecord r)
 
   -- every other word
   pub load-record : (h o : ℕ) → o < size → (h ≢ holder) ⊎ ((o < 20 + 18 * c) ⊎ (38 + 18 * c ≤ o))
-    → load size (writeRecord size m holder c r) h o ≡ load size m h o
+      → load size (writeRecord size m holder c r) h o ≡ load size m h o
   unfolding writeRecord
   load-record h o inside (inl other) =
       let long-enough = length-settled r eight in
@@ -90,8 +90,8 @@ module _ (size : ℕ) (m : List ℕ) (holder c : ℕ) (r : Release) (long : 676 
         record {
           stamped = let at : recordStamp c ≡ recordStamp c + 0 = omega arith in rw at (record-word 0 (omega arith) ∙ first-words .0);
           desked = λ j within.
-            let at : recordDesk c (r .number) + j ≡ recordStamp c + (2 + 8 * (r .number % 2) + j) = omega arith in
-            rw at (record-word _ (omega arith) ∙ settled-desk r eight j _ within refl);
+              let at : recordDesk c (r .number) + j ≡ recordStamp c + (2 + 8 * (r .number % 2) + j) = omega arith in
+              rw at (record-word _ (omega arith) ∙ settled-desk r eight j _ within refl);
           done = let at : recordDone c ≡ recordStamp c + 1 = omega arith in rw at (record-word 1 (omega arith) ∙ first-words .1);
           parts = tt;
         }

@@ -41,21 +41,21 @@ use Rattle.protocol.proofs.Recovering as recovering
 
 -- both claims hold of pages that are right, with nothing open
 module _ (d : Directory) (backup : ℕ → ℕ) (price : ℕ → ℕ) (m : List ℕ)
-  (right : (h p : ℕ) → isLive d h ≡ true → HomeOf d h p → p < d .pages → Right (sizeOf d) price m h p) where
+    (right : (h p : ℕ) → isLive d h ≡ true → HomeOf d h p → p < d .pages → Right (sizeOf d) price m h p) where
   pub tentative-right : Claim d (tentatives d backup) (λ c. none) price m
   tentative-right =
       record {
         agrees = λ c h p w few word alone.
-          rw (pending-none d backup c, uncounted-none)
-          (over-none h _ _ ∙ right h p (word .live) (word .home) (word .page) .tentatives w (word .word) ∙ sym (laid-none (32 * p + w) _));
+            rw (pending-none d backup c, uncounted-none)
+            (over-none h _ _ ∙ right h p (word .live) (word .home) (word .page) .tentatives w (word .word) ∙ sym (laid-none (32 * p + w) _));
       }
 
   pub committed-right : Claim d (committeds d backup) (λ c. none) price m
   committed-right =
       record {
         agrees = λ c h p w few word alone.
-          rw (committed-none d backup c)
-          (over-none h _ _ ∙ right h p (word .live) (word .home) (word .page) .committeds w (word .word) ∙ sym (laid-none (32 * p + w) _));
+            rw (committed-none d backup c)
+            (over-none h _ _ ∙ right h p (word .live) (word .home) (word .page) .committeds w (word .word) ∙ sym (laid-none (32 * p + w) _));
       }
 
 module _ (d : Directory) (f : ℕ) (m : List ℕ) (b : Book) (rack : AwaitingRack d f m b) where
@@ -138,7 +138,7 @@ module _ (d : Directory) (f : ℕ) (m : List ℕ) (b : Book) (rack : AwaitingRac
 
   -- a record that is not written
   other-record : (g h o : ℕ) → g < 8 → g ≢ f → (isLive d g ≡ true → backupBefore d f g ≢ f) → 20 + 18 * g ≤ o → o < 38 + 18 * g
-    → load (sizeOf d) m₅ h o ≡ load (sizeOf d) m₁ h o
+      → load (sizeOf d) m₅ h o ≡ load (sizeOf d) m₁ h o
   other-record g h o little other not-his above below =
       backed .records g h o little (not-due g not-his) above below
       ∙ failed .same h o (omega arith) (apart (decLt g f)) ∙ recovering.low-kept d f m b rack h o (omega arith)
@@ -178,11 +178,11 @@ module _ (d : Directory) (f : ℕ) (m : List ℕ) (b : Book) (rack : AwaitingRac
 
   -- a page's second home is a new one, or the one it had
   second : (p : ℕ) → p < d .pages
-    → ((lostHome d f p ≡ true) × (secondaryOf d′ p ≡ newHome d f p)) ⊎ ((lostHome d f p ≡ false) × (secondaryOf d′ p ≡ secondaryOf d p))
+      → ((lostHome d f p ≡ true) × (secondaryOf d′ p ≡ newHome d f p)) ⊎ ((lostHome d f p ≡ false) × (secondaryOf d′ p ≡ secondaryOf d p))
   second p page = go (lostHome d f p) refl
     where
       go : (lost : Bool) → lostHome d f p ≡ lost
-        → ((lostHome d f p ≡ true) × (secondaryOf d′ p ≡ newHome d f p)) ⊎ ((lostHome d f p ≡ false) × (secondaryOf d′ p ≡ secondaryOf d p))
+          → ((lostHome d f p ≡ true) × (secondaryOf d′ p ≡ newHome d f p)) ⊎ ((lostHome d f p ≡ false) × (secondaryOf d′ p ≡ secondaryOf d p))
       go true lost = inl (lost, moves .second p page ∙ rw lost)
       go false whole = inr (whole, moves .second p page ∙ rw whole)
 
@@ -202,7 +202,7 @@ module _ (d : Directory) (f : ℕ) (m : List ℕ) (b : Book) (rack : AwaitingRac
   right-home h p live (inl home) page = go (second p page)
     where
       go : ((lostHome d f p ≡ true) × (secondaryOf d′ p ≡ newHome d f p)) ⊎ ((lostHome d f p ≡ false) × (secondaryOf d′ p ≡ secondaryOf d p))
-        → Right (sizeOf d) (b₁ .price) m₅ h p
+          → Right (sizeOf d) (b₁ .price) m₅ h p
       go (inl new) =
           rw (home, new .1)
           (page-right (newHome d f p) p page (recovering.m₃-rehomed d f m b rack .new p page page (new .0)))
@@ -251,9 +251,9 @@ module _ (d : Directory) (f : ℕ) (m : List ℕ) (b : Book) (rack : AwaitingRac
             rw (recovering.last-same d f m b rack g dead)
             (held-kept g none (b .last g) _ _
             (λ o above below.
-              other-record g h o (omega (arith, rack .core .shape .few-cards)) other (λ up. absurd (true≢false (sym up ∙ dead)))
-                above below
-              ∙ recovering.closed d f m b rack .dead g h o dead less live above below)
+            other-record g h o (omega (arith, rack .core .shape .few-cards)) other (λ up. absurd (true≢false (sym up ∙ dead)))
+            above below
+            ∙ recovering.closed d f m b rack .dead g h o dead less live above below)
             (rack .records g h dead other less live))
       ]
 
@@ -307,13 +307,14 @@ module _ (d : Directory) (f : ℕ) (m : List ℕ) (b : Book) (rack : AwaitingRac
       }
     where
       second-live : (p : ℕ) → p < d .pages
-        → ((lostHome d f p ≡ true) × (secondaryOf d′ p ≡ newHome d f p)) ⊎ ((lostHome d f p ≡ false) × (secondaryOf d′ p ≡ secondaryOf d p))
-        → isLive d (secondaryOf d′ p) ≡ true
+          → ((lostHome d f p ≡ true) × (secondaryOf d′ p ≡ newHome d f p)) ⊎ ((lostHome d f p ≡ false) × (secondaryOf d′ p ≡ secondaryOf d p))
+          → isLive d (secondaryOf d′ p) ≡ true
       second-live p page (inl new) = rw (new .1) (recovering.new-home d f m b rack p)
       second-live p page (inr old) = rw (old .1) (whole-live p page (old .0))
+
       differ : (p : ℕ) → p < d .pages
-        → ((lostHome d f p ≡ true) × (secondaryOf d′ p ≡ newHome d f p)) ⊎ ((lostHome d f p ≡ false) × (secondaryOf d′ p ≡ secondaryOf d p))
-        → primaryOf d′ p ≢ secondaryOf d′ p
+          → ((lostHome d f p ≡ true) × (secondaryOf d′ p ≡ newHome d f p)) ⊎ ((lostHome d f p ≡ false) × (secondaryOf d′ p ≡ secondaryOf d p))
+          → primaryOf d′ p ≢ secondaryOf d′ p
       differ p page (inl new) same = recovering.new-is-other d f m b rack p (sym (new .1) ∙ sym same ∙ first p page)
       differ p page (inr old) same =
           rack .homes-differ p page

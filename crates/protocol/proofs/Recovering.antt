@@ -37,20 +37,22 @@ use Rattle.protocol.proofs.Invariant.{AwaitingRack, stampOf, doneOf, ne
 -- ---- the book counts nothing for a card with none open
 
 last-kept : (b : Book) (f n : ℕ) → b .release f ≡ none
-  → inTurn (λ c. countUncounted c (b .release c)) n b .last f ≡ b .last f
+    → inTurn (λ c. countUncounted c (b .release c)) n b .last f ≡ b .last f
 unfolding inTurn countUncounted
 last-kept b f zero idle = refl
 last-kept b f (suc n) idle = go (b .release n) refl (last-kept b f n idle)
   where
     go : (R : Opened) → b .release n ≡ R → inTurn (λ c. countUncounted c (b .release c)) n b .last f ≡ b .last f
-      → countUncounted n R (inTurn (λ c. countUncounted c (b .release c)) n b) .last f ≡ b .last f
+        → countUncounted n R (inTurn (λ c. countUncounted c (b .release c)) n b) .last f ≡ b .last f
     go none is rest = rest
     go (opened r list s) is rest = by-count (ltb s (countsAt (length (listPrices list))))
       where
         now : Book
         now = inTurn (λ c. countUncounted c (b .release c)) n b
+
         other : f ≢ n
         other same = let z : _≡_ {A = ℕ} 0 1 = cc (ap (b .release) same) in omega arith
+
         by-count : (early : Bool) → cond early (count now n r list) now .last f ≡ b .last f
         by-count true = update-other (now .last) n r f other ∙ rest
         by-count false = rest
@@ -107,7 +109,7 @@ module _ (d : Directory) (f : ℕ) (m : List ℕ) (b : Book) (rack : AwaitingRac
 
   -- f's record is not touched
   record-kept : (o : ℕ) → 20 + 18 * f ≤ o → o < 38 + 18 * f
-    → load (sizeOf d) m₁ (nextLiveOf d f) o ≡ load (sizeOf d) m (nextLiveOf d f) o
+      → load (sizeOf d) m₁ (nextLiveOf d f) o ≡ load (sizeOf d) m (nextLiveOf d f) o
   record-kept o above below = closed .dead f (nextLiveOf d f) o (rack .lost) (rack .real) up above below
 
   pub last-same : (g : ℕ) → isLive d g ≡ false → b₁ .last g ≡ b .last g
@@ -118,11 +120,11 @@ module _ (d : Directory) (f : ℕ) (m : List ℕ) (b : Book) (rack : AwaitingRac
   unfolding failedRelease recordedRelease
   answers =
       let number : load (sizeOf d) m₁ (nextLiveOf d f) (recordStamp f) ≡ b .last f .number =
-            record-kept (recordStamp f) (omega arith) (omega arith) ∙ rack .stamped in
+      record-kept (recordStamp f) (omega arith) (omega arith) ∙ rack .stamped in
       let desk =
-            load-run-is (sizeOf d) m₁ (nextLiveOf d f) (recordDesk f (b .last f .number)) deskSize (b .last f .desk)
-              (rack .core .last-eight f) (area-of-live (closed .shape) (nextLiveOf d f) up) (omega (arith, few))
-              (λ j within. record-kept _ (omega arith) (omega arith) ∙ rack .desked j within) in
+      load-run-is (sizeOf d) m₁ (nextLiveOf d f) (recordDesk f (b .last f .number)) deskSize (b .last f .desk)
+      (rack .core .last-eight f) (area-of-live (closed .shape) (nextLiveOf d f) up) (omega (arith, few))
+      (λ j within. record-kept _ (omega arith) (omega arith) ∙ rack .desked j within) in
       rw (number, desk)
 
   abbrev forward : Bool
@@ -136,23 +138,23 @@ module _ (d : Directory) (f : ℕ) (m : List ℕ) (b : Book) (rack : AwaitingRac
 
   -- the half that is copied from is the book's, at live homes
   source-right : (way : Bool) → forward ≡ way → (h p w : ℕ) → HomeWord d h p w
-    → halfWord (sizeOf d) m₁ h p (source way) w ≡ b₁ .price (32 * p + w)
+      → halfWord (sizeOf d) m₁ h p (source way) w ≡ b₁ .price (32 * p + w)
   source-right true is h p w word =
       let differ : stampOf d f m ≢ doneOf d f m = λ same.
-            under-way-yes (sizeOf d) m₁ (nextLiveOf d f) f is
-            (record-kept (recordStamp f) (omega arith) (omega arith) ∙ same
-            ∙ sym (record-kept (recordDone f) (omega arith) (omega arith))) in
+      under-way-yes (sizeOf d) m₁ (nextLiveOf d f) f is
+      (record-kept (recordStamp f) (omega arith) (omega arith) ∙ same
+      ∙ sym (record-kept (recordDone f) (omega arith) (omega arith))) in
       sym (over-none h _ _)
       ∙ (rw (pending-none d (backupBefore d f) 0, uncounted-none) at
-        (closed .tentative differ .agrees 0 h p w (omega arith) word (λ x other. names-none (32 * p + w))))
+      (closed .tentative differ .agrees 0 h p w (omega arith) word (λ x other. names-none (32 * p + w))))
       ∙ laid-none (32 * p + w) _
   source-right false is h p w word =
       let same : stampOf d f m ≡ doneOf d f m =
-            sym (record-kept (recordStamp f) (omega arith) (omega arith))
-            ∙ under-way-no (sizeOf d) m₁ (nextLiveOf d f) f is ∙ record-kept (recordDone f) (omega arith) (omega arith) in
+      sym (record-kept (recordStamp f) (omega arith) (omega arith))
+      ∙ under-way-no (sizeOf d) m₁ (nextLiveOf d f) f is ∙ record-kept (recordDone f) (omega arith) (omega arith) in
       sym (over-none h _ _)
       ∙ (rw (committed-none d (backupBefore d f) 0) at
-        (closed .committed same .agrees 0 h p w (omega arith) word (λ x other. names-none (32 * p + w))))
+      (closed .committed same .agrees 0 h p w (omega arith) word (λ x other. names-none (32 * p + w))))
       ∙ laid-none (32 * p + w) _
 
   -- so both halves are, once restored
@@ -161,17 +163,18 @@ module _ (d : Directory) (f : ℕ) (m : List ℕ) (b : Book) (rack : AwaitingRac
     where
       word : (w : ℕ) → w < 32 → HomeWord d h p w
       word w within = record { live = live; home = home; page = page; word = within }
+
       go : (way : Bool) → forward ≡ way → RestoredBelow d way (d .pages) m₁ m₂ → Right (sizeOf d) (b₁ .price) m₂ h p
       go true is below =
           record {
             tentatives = λ w within. below .kept h p w page within ∙ source-right true is h p w (word w within);
             committeds = λ w within.
-              below .copied h p w page page within live home ∙ source-right true is h p w (word w within);
+                below .copied h p w page page within live home ∙ source-right true is h p w (word w within);
           }
       go false is below =
           record {
             tentatives = λ w within.
-              below .copied h p w page page within live home ∙ source-right false is h p w (word w within);
+                below .copied h p w page page within live home ∙ source-right false is h p w (word w within);
             committeds = λ w within. below .kept h p w page within ∙ source-right false is h p w (word w within);
           }
 

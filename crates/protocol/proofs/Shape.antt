@@ -60,16 +60,18 @@ module _ (size : ℕ) (m m′ : List ℕ) (c : ℕ) where
 
   -- words 0 to 8
   pub own-words-kept : length m′ ≡ length m → ((o : ℕ) → o < 9 → load size m′ c o ≡ load size m c o)
-    → ownRelease size m′ c ≡ ownRelease size m c
+      → ownRelease size m′ c ≡ ownRelease size m c
   unfolding ownRelease
   own-words-kept long same =
-      rw (same ownStamp (omega arith),
-        load-run-kept size m m′ c ownDesk deskSize long (λ j within. same (ownDesk + j) (omega arith)))
+      rw (
+        same ownStamp (omega arith),
+        load-run-kept size m m′ c ownDesk deskSize long (λ j within. same (ownDesk + j) (omega arith)),
+      )
 
   module _ (same : SameRelease size m m′ c) where
     -- eight words, none of them the steps
     desk-kept : (offset : ℕ) → offset + 8 ≤ 20 → ((j : ℕ) → j < 8 → offset + j ≡ stepsMade → ⊥)
-      → loadRun size m′ c offset deskSize ≡ loadRun size m c offset deskSize
+        → loadRun size m′ c offset deskSize ≡ loadRun size m c offset deskSize
     desk-kept offset fits apart =
         load-run-kept size m m′ c offset deskSize (same .same-length)
         (λ j within. same .low (offset + j) (omega arith) (apart j within))
@@ -80,8 +82,10 @@ module _ (size : ℕ) (m m′ : List ℕ) (c : ℕ) where
     pub open-kept : openRelease size m′ c ≡ openRelease size m c
     unfolding openRelease
     open-kept =
-        rw (same .low releaseNumber (omega arith) (omega arith),
-          desk-kept releaseDesk (omega arith) (λ j within e. omega arith))
+        rw (
+          same .low releaseNumber (omega arith) (omega arith),
+          desk-kept releaseDesk (omega arith) (λ j within e. omega arith),
+        )
 
     pub list-kept : openList size m′ c ≡ openList size m c
     unfolding openList

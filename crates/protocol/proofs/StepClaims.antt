@@ -30,9 +30,9 @@ pub record PricesAfter (k s : ℕ) (price price′ : ℕ → ℕ) (laid : ℕ �
   pub plain : suc s ≢ countsAt k → (label : ℕ) → price′ label ≡ price label
 
 module _ (d : Directory) (backup : ℕ → ℕ) (release : ℕ → Opened) (price price′ : ℕ → ℕ) (m m′ : List ℕ) (c : ℕ) (few : c < 8)
-  (r : Release) (list : List ℕ) (s : ℕ) (is : release c ≡ opened r list s) (eight : length (r .desk) ≡ 8)
-  (before : s < 4 * length (listPrices list) + 10)
-  (after : PricesAfter (length (listPrices list)) s price price′ (λ label. laidAt (listPrices list) label (price label))) where
+    (r : Release) (list : List ℕ) (s : ℕ) (is : release c ≡ opened r list s) (eight : length (r .desk) ≡ 8)
+    (before : s < 4 * length (listPrices list) + 10)
+    (after : PricesAfter (length (listPrices list)) s price price′ (λ label. laidAt (listPrices list) label (price label))) where
   -- a label that the release does not name keeps its price
   price-kept : (label : ℕ) → names (listPrices list) label ≡ false → price′ label ≡ price label
   price-kept label unnamed =
@@ -43,7 +43,7 @@ module _ (d : Directory) (backup : ℕ → ℕ) (release : ℕ → Opened) (pric
 
   -- the target of the tentative words stays
   due-kept : (label : ℕ)
-    → laidAt (uncounted (opened r list (suc s))) label (price′ label) ≡ laidAt (uncounted (opened r list s)) label (price label)
+      → laidAt (uncounted (opened r list (suc s))) label (price′ label) ≡ laidAt (uncounted (opened r list s)) label (price label)
   due-kept label =
       elim (ℕ-discrete (suc s) (countsAt (length (listPrices list)))) [
         | yes counts ↦
@@ -53,27 +53,27 @@ module _ (d : Directory) (backup : ℕ → ℕ) (release : ℕ → Opened) (pric
       ]
     where
       go : Dec (s < countsAt (length (listPrices list))) → suc s ≢ countsAt (length (listPrices list))
-        → laidAt (uncounted (opened r list (suc s))) label (price label)
-        ≡ laidAt (uncounted (opened r list s)) label (price label)
+          → laidAt (uncounted (opened r list (suc s))) label (price label)
+          ≡ laidAt (uncounted (opened r list s)) label (price label)
       go (yes early) plain = rw (uncounted-early r list (suc s) (omega arith), uncounted-early r list s early)
       go (no late) plain = rw (uncounted-late r list (suc s) (omega arith), uncounted-late r list s (omega arith))
 
   module _ (H : Half d) (wrote : (h p w : ℕ) → HomeWord d h p w
-    → wordIn d H m′ h p w
-    ≡ written (stepWrite d (backup c) c r (listPrices list) s) h (pageStart p + (H .half + w)) (wordIn d H m h p w)) where
+      → wordIn d H m′ h p w
+      ≡ written (stepWrite d (backup c) c r (listPrices list) s) h (pageStart p + (H .half + w)) (wordIn d H m h p w)) where
     -- what a step's moves need beside its effect on c's own words
     moves : ((h p w : ℕ) → HomeWord d h p w → names (listPrices list) (32 * p + w) ≡ false
         → stepWrite d (backup c) c r (listPrices list) s .card ≡ h
         → stepWrite d (backup c) c r (listPrices list) s .offset ≢ pageStart p + (H .half + w))
-      → ((h p w : ℕ) → HomeWord d h p w → Agrees d H c (opened r list s) price h p w (wordIn d H m h p w)
+        → ((h p w : ℕ) → HomeWord d h p w → Agrees d H c (opened r list s) price h p w (wordIn d H m h p w)
         → Agrees d H c (opened r list (suc s)) price′ h p w (wordIn d H m′ h p w))
-      → Moves d H release price price′ m m′ c (opened r list (suc s))
+        → Moves d H release price price′ m m′ c (opened r list (suc s))
     moves misses own =
         record {
           grows = λ label unnamed. rw is unnamed;
           same-price = price-kept;
           same-word = λ h p w word unnamed.
-            wrote h p w word ∙ written-miss _ h _ (wordIn d H m h p w) (misses h p w word unnamed);
+              wrote h p w word ∙ written-miss _ h _ (wordIn d H m h p w) (misses h p w word unnamed);
           own = λ h p w word agrees. own h p w word (rw is at agrees);
         }
 
@@ -83,25 +83,25 @@ module _ (d : Directory) (backup : ℕ → ℕ) (release : ℕ → Opened) (pric
   pub step-tentatives : ((h p w : ℕ) → HomeWord d h p w
       → wordIn d (tentatives d backup) m′ h p w
       ≡ written (stepWrite d (backup c) c r (listPrices list) s) h (pageStart p + (tentativeHalf + w))
-        (wordIn d (tentatives d backup) m h p w))
-    → Claim d (tentatives d backup) release price m
-    → Claim d (tentatives d backup) (update release c (opened r list (suc s))) price′ m′
+      (wordIn d (tentatives d backup) m h p w))
+      → Claim d (tentatives d backup) release price m
+      → Claim d (tentatives d backup) (update release c (opened r list (suc s))) price′ m′
   step-tentatives wrote =
       claim-moves d (tentatives d backup) release price price′ m m′ c (opened r list (suc s))
       (moves (tentatives d backup) wrote
       (λ h p w word unnamed. misses-at s within-writes
-        (tentative-misses d (backup c) c r (listPrices list) few eight (on-pages list) h p w (word .word) unnamed))
+      (tentative-misses d (backup c) c r (listPrices list) few eight (on-pages list) h p w (word .word) unnamed))
       (λ h p w word agrees.
-        rw (wrote h p w word)
-        (sym (pending-first d backup c r list s eight h _ _ before) ∙ agrees ∙ sym (due-kept (32 * p + w)))))
+      rw (wrote h p w word)
+      (sym (pending-first d backup c r list s eight h _ _ before) ∙ agrees ∙ sym (due-kept (32 * p + w)))))
 
   -- before the count no committed word is written
   early-apart : suc s ≤ countsAt (length (listPrices list)) → (p w : ℕ) → w < 32
-    → stepWrite d (backup c) c r (listPrices list) s .offset ≢ pageStart p + (committedHalf + w)
+      → stepWrite d (backup c) c r (listPrices list) s .offset ≢ pageStart p + (committedHalf + w)
   early-apart early p w within = go (phase (length (listPrices list)) s (omega arith))
     where
       go : Phase (length (listPrices list)) s
-        → stepWrite d (backup c) c r (listPrices list) s .offset ≢ pageStart p + (committedHalf + w)
+          → stepWrite d (backup c) c r (listPrices list) s .offset ≢ pageStart p + (committedHalf + w)
       go (to-tentative low) =
           let on = price-on-page 64 (listPrices list) (s / 2) noPrice (on-pages list) (omega arith) in
           rw (write-tentative d (backup c) c r (listPrices list) eight s low) (λ e. omega arith)
@@ -115,38 +115,42 @@ module _ (d : Directory) (backup : ℕ → ℕ) (release : ℕ → Opened) (pric
   pub step-committeds : ((h p w : ℕ) → HomeWord d h p w
       → wordIn d (committeds d backup) m′ h p w
       ≡ written (stepWrite d (backup c) c r (listPrices list) s) h (pageStart p + (committedHalf + w))
-        (wordIn d (committeds d backup) m h p w))
-    → Claim d (committeds d backup) release price m
-    → Claim d (committeds d backup) (update release c (opened r list (suc s))) price′ m′
+      (wordIn d (committeds d backup) m h p w))
+      → Claim d (committeds d backup) release price m
+      → Claim d (committeds d backup) (update release c (opened r list (suc s))) price′ m′
   step-committeds wrote =
       claim-moves d (committeds d backup) release price price′ m m′ c (opened r list (suc s))
       (moves (committeds d backup) wrote
       (λ h p w word unnamed. misses-at s within-writes
-        (committed-misses d (backup c) c r (listPrices list) few eight (on-pages list) h p w (word .word) unnamed))
+      (committed-misses d (backup c) c r (listPrices list) few eight (on-pages list) h p w (word .word) unnamed))
       own)
     where
       still : suc s ≤ countsAt (length (listPrices list)) → (h p w : ℕ) → HomeWord d h p w
-        → wordIn d (committeds d backup) m′ h p w ≡ wordIn d (committeds d backup) m h p w
+          → wordIn d (committeds d backup) m′ h p w ≡ wordIn d (committeds d backup) m h p w
       still early h p w word =
           wrote h p w word ∙ written-other-offset _ h _ (wordIn d (committeds d backup) m h p w) (early-apart early p w (word .word))
+
       own : (h p w : ℕ) → HomeWord d h p w
-        → Agrees d (committeds d backup) c (opened r list s) price h p w (wordIn d (committeds d backup) m h p w)
-        → Agrees d (committeds d backup) c (opened r list (suc s)) price′ h p w (wordIn d (committeds d backup) m′ h p w)
+          → Agrees d (committeds d backup) c (opened r list s) price h p w (wordIn d (committeds d backup) m h p w)
+          → Agrees d (committeds d backup) c (opened r list (suc s)) price′ h p w (wordIn d (committeds d backup) m′ h p w)
       own h p w word agrees = at (ℕ-discrete (suc s) (countsAt (length (listPrices list))))
         where
           at : Dec (suc s ≡ countsAt (length (listPrices list)))
-            → Agrees d (committeds d backup) c (opened r list (suc s)) price′ h p w (wordIn d (committeds d backup) m′ h p w)
+              → Agrees d (committeds d backup) c (opened r list (suc s)) price′ h p w (wordIn d (committeds d backup) m′ h p w)
           at (yes counts) =
               let was = sym (over-none h _ _)
-                    ∙ (rw (committed-early d backup c r list s eight (omega arith)) at agrees) ∙ laid-none (32 * p + w) _ in
-              rw (still (omega arith) h p w word, committed-late d backup c r list (suc s) eight (omega arith),
-                after .counts counts (32 * p + w))
+              ∙ (rw (committed-early d backup c r list s eight (omega arith)) at agrees) ∙ laid-none (32 * p + w) _ in
+              rw (
+                still (omega arith) h p w word,
+                committed-late d backup c r list (suc s) eight (omega arith),
+                after .counts counts (32 * p + w),
+              )
               (committed-first d backup c r list (suc s) eight few counts h p w _ (word .word) (word .home)
               ∙ ap (laidAt (listPrices list) (32 * p + w)) was ∙ sym (laid-none (32 * p + w) _))
           at (no plain) = rw (after .plain plain (32 * p + w)) (going-on (decLt s (countsAt (length (listPrices list)))) plain)
             where
               going-on : Dec (s < countsAt (length (listPrices list))) → suc s ≢ countsAt (length (listPrices list))
-                → Agrees d (committeds d backup) c (opened r list (suc s)) price h p w (wordIn d (committeds d backup) m′ h p w)
+                  → Agrees d (committeds d backup) c (opened r list (suc s)) price h p w (wordIn d (committeds d backup) m′ h p w)
               going-on (yes early) plain =
                   rw (committed-early d backup c r list (suc s) eight (omega arith), still (omega arith) h p w word)
                   (rw (committed-early d backup c r list s eight early) at agrees)
@@ -158,19 +162,19 @@ module _ (d : Directory) (backup : ℕ → ℕ) (release : ℕ → Opened) (pric
 -- ---- the close
 
 module _ (d : Directory) (backup : ℕ → ℕ) (release : ℕ → Opened) (price : ℕ → ℕ) (m m′ : List ℕ) (c : ℕ) (few : c < 8)
-  (eights : (x : ℕ) → EightWords (release x)) (apart : Apart release) (r : Release) (list : List ℕ) (s : ℕ)
-  (is : release c ≡ opened r list s) (past : 4 * length (listPrices list) + 10 ≤ s) where
+    (eights : (x : ℕ) → EightWords (release x)) (apart : Apart release) (r : Release) (list : List ℕ) (s : ℕ)
+    (is : release c ≡ opened r list s) (past : 4 * length (listPrices list) + 10 ≤ s) where
   eight : length (r .desk) ≡ 8
   eight = rw is at (eights c)
 
   same-words : (H : Half d) → ((h p w : ℕ) → HomeWord d h p w → wordIn d H m′ h p w ≡ wordIn d H m h p w)
-    → (release′ : ℕ → Opened) → Claim d H release′ price m → Claim d H release′ price m′
+      → (release′ : ℕ → Opened) → Claim d H release′ price m → Claim d H release′ price m′
   same-words H same release′ claim =
       claim-kept d d H H release′ price m m′ (λ c h p w word. word) (λ c h p w v word agrees. agrees) same claim
 
   pub close-tentatives : ((h p w : ℕ) → HomeWord d h p w
       → wordIn d (tentatives d backup) m′ h p w ≡ wordIn d (tentatives d backup) m h p w)
-    → Claim d (tentatives d backup) release price m → Claim d (tentatives d backup) (update release c none) price m′
+      → Claim d (tentatives d backup) release price m → Claim d (tentatives d backup) (update release c none) price m′
   close-tentatives same claim =
       same-words (tentatives d backup) same (update release c none)
       (claim-struck d (tentatives d backup) release price m c few eights apart
@@ -178,11 +182,11 @@ module _ (d : Directory) (backup : ℕ → ℕ) (release : ℕ → Opened) (pric
 
   pub close-committeds : ((h p w : ℕ) → HomeWord d h p w
       → wordIn d (committeds d backup) m′ h p w ≡ wordIn d (committeds d backup) m h p w)
-    → Claim d (committeds d backup) release price m → Claim d (committeds d backup) (update release c none) price m′
+      → Claim d (committeds d backup) release price m → Claim d (committeds d backup) (update release c none) price m′
   close-committeds same claim =
       same-words (committeds d backup) same (update release c none)
       (claim-struck d (committeds d backup) release price m c few eights apart
       (λ h p w v within.
-        rw (is, committed-late d backup c r list s eight (omega arith), pending-over d backup c r list s eight past)
-        (over-none h _ v))
+      rw (is, committed-late d backup c r list s eight (omega arith), pending-over d backup c r list s eight past)
+      (over-none h _ v))
       refl claim)

@@ -37,8 +37,8 @@ apart-struck release c apart x y label other named =
     ]
 
 module _ (d : Directory) (backup : ℕ → ℕ) (old : ℕ → ℕ → ℕ) (T C : Type 0) (m : List ℕ) (b : Book)
-  (core : Core d backup old T C m b) (c : ℕ) (live : isLive d c ≡ true) (r : Release) (list : List ℕ) (s : ℕ)
-  (is : b .release c ≡ opened r list s) where
+    (core : Core d backup old T C m b) (c : ℕ) (live : isLive d c ≡ true) (r : Release) (list : List ℕ) (s : ℕ)
+    (is : b .release c ≡ opened r list s) where
   few : c < 8
   few = omega (arith, core .shape .below c live, core .shape .few-cards)
 
@@ -58,7 +58,7 @@ module _ (d : Directory) (backup : ℕ → ℕ) (old : ℕ → ℕ → ℕ) (T C
     m′ = close (sizeOf d) m c
 
     elsewhere : (h o : ℕ) → o < sizeOf d → (h ≢ c) ⊎ (((20 ≤ o) × (o < 164)) ⊎ (676 ≤ o))
-      → load (sizeOf d) m′ h o ≡ load (sizeOf d) m h o
+        → load (sizeOf d) m′ h o ≡ load (sizeOf d) m h o
     elsewhere = load-close (sizeOf d) m c (omega arith) (rw (standing .stands .release) eight)
 
     kept-other : (x : ℕ) → x ≢ c → SameOwn (sizeOf d) m m′ x
@@ -85,9 +85,9 @@ module _ (d : Directory) (backup : ℕ → ℕ) (old : ℕ → ℕ → ℕ) (T C
         record {
           shape = shape-kept (core .shape) m′ (length-close (sizeOf d) m c (omega arith));
           standing = update-each (b .release) c none (λ x R. isLive d x ≡ true → Standing (d .pages) m′ x R)
-            (λ _. close-word-9 (sizeOf d) m c (omega arith) (rw (standing .stands .release) eight)
+              (λ _. close-word-9 (sizeOf d) m c (omega arith) (rw (standing .stands .release) eight)
               (area-of-live (core .shape) c live))
-            (λ x other up. standing-kept (d .pages) m m′ x (b .release x) (kept-other x other) (core .standing x up));
+              (λ x other up. standing-kept (d .pages) m m′ x (b .release x) (kept-other x other) (core .standing x up));
           gone = update-each (b .release) c none (λ x R. isLive d x ≡ false → R ≡ none) (λ _. refl) (λ x other. core .gone x);
           under = update-each (b .release) c none (λ x R. Under R) tt (λ x other. core .under x);
           eights = update-each (b .release) c none (λ x R. EightWords R) tt (λ x other. core .eights x);
@@ -95,29 +95,29 @@ module _ (d : Directory) (backup : ℕ → ℕ) (old : ℕ → ℕ → ℕ) (T C
           apart = apart-struck (b .release) c (core .apart);
           numbers = update-each (b .release) c none (λ x R. Numbers R (b .last x)) tt (λ x other. core .numbers x);
           owns = update-each (b .release) c none (λ x R. isLive d x ≡ true → Own R (ownRelease (sizeOf d) m′ x) (b .last x))
-            (λ _. own-last)
-            (λ x other up. rw (own-kept (sizeOf d) m m′ x (same-own-release (sizeOf d) m m′ x (kept-other x other)))
+              (λ _. own-last)
+              (λ x other up. rw (own-kept (sizeOf d) m m′ x (same-own-release (sizeOf d) m m′ x (kept-other x other)))
               (core .owns x up));
           tentative = λ t.
-            close-tentatives d backup (b .release) (b .price) m m′ c few (core .eights) (core .apart) r list s is (omega arith)
+              close-tentatives d backup (b .release) (b .price) m m′ c few (core .eights) (core .apart) r list s is (omega arith)
               (λ h p w word. kept-page h _ (omega arith) (omega (arith, word .page, word .word))) (core .tentative t);
           committed = λ t.
-            close-committeds d backup (b .release) (b .price) m m′ c few (core .eights) (core .apart) r list s is (omega arith)
+              close-committeds d backup (b .release) (b .price) m m′ c few (core .eights) (core .apart) r list s is (omega arith)
               (λ h p w word. kept-page h _ (omega arith) (omega (arith, word .page, word .word))) (core .committed t);
           held = update-each (b .release) c none
-            (λ x R. isLive d x ≡ true → isLive d (backup x) ≡ true → Held x R (b .last x) (load (sizeOf d) m′ (backup x)))
-            (λ _ up. close-held c r list s (b .last c) _ _ (omega arith)
+              (λ x R. isLive d x ≡ true → isLive d (backup x) ≡ true → Held x R (b .last x) (load (sizeOf d) m′ (backup x)))
+              (λ _ up. close-held c r list s (b .last c) _ _ (omega arith)
               (λ o above below. kept-record c (backup c) o few above below) (rw is at (core .held c live up)))
-            (λ x other lives up. held-kept x (b .release x) (b .last x) _ _
+              (λ x other lives up. held-kept x (b .release x) (b .last x) _ _
               (λ o above below. kept-record x (backup x) o (small x lives) above below) (core .held x lives up));
           dead = λ g h o gone little up above below.
-            kept-record g h o (omega (arith, core .shape .few-cards)) above below ∙ core .dead g h o gone little up above below;
+              kept-record g h o (omega (arith, core .shape .few-cards)) above below ∙ core .dead g h o gone little up above below;
         }
 
   -- ---- any step
 
   write-step : (before : s < 4 * length (listPrices list) + 10)
-    → Core d backup old T C (stepMemory d (backup c) m c) (stepBook b c (opened r list s))
+      → Core d backup old T C (stepMemory d (backup c) m c) (stepBook b c (opened r list s))
   write-step before =
       elim (ℕ-discrete (suc s) (countsAt (length (listPrices list)))) [
         | yes counts ↦ subst (Core d backup old T C (stepMemory d (backup c) m c)) (sym (step-book-counts b c r list s counts))

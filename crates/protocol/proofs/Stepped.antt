@@ -43,12 +43,12 @@ module _ (marks : List Bool) (size : ℕ) (m : List ℕ) (w : Write) where
 
   -- a word of a live card
   pub load-make-write : (h o : ℕ) → liveAt marks h ≡ true → AreaIn (length m) size h → o < size → w .offset < size
-    → load size (makeWrite marks size m w) h o ≡ written w h o (load size m h o)
+      → load size (makeWrite marks size m w) h o ≡ written w h o (load size m h o)
   unfolding makeWrite
   load-make-write h o live area inside fits = go (liveAt marks (w .card)) refl (ℕ-discrete (w .card) h)
     where
       stored : Dec (w .card ≡ h) → Dec (w .offset ≡ o)
-        → load size (store size m (w .card) (w .offset) (w .value)) h o ≡ written w h o (load size m h o)
+          → load size (store size m (w .card) (w .offset) (w .value)) h o ≡ written w h o (load size m h o)
       stored (yes same) (yes at) =
           rw (← same, ← at) (load-store-same size m (w .card) (w .offset) (w .value) (rw same area) fits)
           ∙ sym (written-here w h o (load size m h o) same at)
@@ -58,8 +58,9 @@ module _ (marks : List Bool) (size : ℕ) (m : List ℕ) (w : Write) where
       stored (no away) at =
           load-store-other-card size m (w .card) (w .offset) (w .value) h o fits inside (λ e. away (sym e))
           ∙ sym (written-other-card w h o (load size m h o) away)
+
       go : (up : Bool) → liveAt marks (w .card) ≡ up → Dec (w .card ≡ h)
-        → load size (cond up (store size m (w .card) (w .offset) (w .value)) m) h o ≡ written w h o (load size m h o)
+          → load size (cond up (store size m (w .card) (w .offset) (w .value)) m) h o ≡ written w h o (load size m h o)
       go true up same = stored same (ℕ-discrete (w .offset) o)
       go false dead (yes same) = absurd (true≢false (sym live ∙ ap (liveAt marks) (sym same) ∙ dead))
       go false dead (no away) = sym (written-other-card w h o (load size m h o) away)
@@ -72,15 +73,15 @@ pub record StepOffset (pages c o : ℕ) : Type 0 where
   pub inside : o < areaSize pages
 
 module _ (d : Directory) (backup c : ℕ) (r : Release) (ps : List Price) (eight : length (r .desk) ≡ 8) (few : c < 8)
-  (on : OnPages (d .pages) ps) where
+    (on : OnPages (d .pages) ps) where
   price-offset : (i half : ℕ) → i < length ps → half ≤ 32
-    → StepOffset (d .pages) c (pageStart (getD ps i noPrice .page) + (half + getD ps i noPrice .word))
+      → StepOffset (d .pages) c (pageStart (getD ps i noPrice .page) + (half + getD ps i noPrice .word))
   price-offset i half within small =
       let p = price-on-page (d .pages) ps i noPrice on within in
       record { place = inr (omega arith); inside = omega arith }
 
   pub write-offset : (s : ℕ) → s < 4 * length ps + 10
-    → StepOffset (d .pages) c (getD (releaseWrites d backup c r ps) s noWrite .offset)
+      → StepOffset (d .pages) c (getD (releaseWrites d backup c r ps) s noWrite .offset)
   write-offset s before = go (phase (length ps) s (omega arith))
     where
       go : Phase (length ps) s → StepOffset (d .pages) c (getD (releaseWrites d backup c r ps) s noWrite .offset)
@@ -111,7 +112,7 @@ abbrev pub stepWrite : Directory → ℕ → ℕ → Release → List Price → 
 stepWrite d backup c r ps s = getD (releaseWrites d backup c r ps) s noWrite
 
 module _ {d : Directory} {m : List ℕ} (shape : Shape d m) (backup c : ℕ) (live : isLive d c ≡ true) {r : Release}
-  {ps : List Price} {s : ℕ} (stands : StandsIn (d .pages) m c r ps s) where
+    {ps : List Price} {s : ℕ} (stands : StandsIn (d .pages) m c r ps s) where
   pub eight : length (r .desk) ≡ 8
   unfolding openRelease
   eight =
@@ -128,7 +129,7 @@ module _ {d : Directory} {m : List ℕ} (shape : Shape d m) (backup c : ℕ) (li
 
   -- before the close: the write, and one more in word 10
   pub step-writes : s < 4 * length ps + 10
-    → stepMemory d backup m c ≡ store (sizeOf d) (makeWrite (d .live) (sizeOf d) m (stepWrite d backup c r ps s)) c stepsMade (s + 1)
+      → stepMemory d backup m c ≡ store (sizeOf d) (makeWrite (d .live) (sizeOf d) m (stepWrite d backup c r ps s)) c stepsMade (s + 1)
   unfolding stepMemory
   step-writes before =
       rw (stands .release, stands .prices, stands .steps, count)
@@ -149,12 +150,12 @@ module _ {d : Directory} {m : List ℕ} (shape : Shape d m) (backup c : ℕ) (li
 
     -- a word of a live card, but for the steps
     pub load-step : (h o : ℕ) → isLive d h ≡ true → o < (sizeOf d) → (h ≡ c → o ≢ stepsMade)
-      → load (sizeOf d) (stepMemory d backup m c) h o ≡ written (stepWrite d backup c r ps s) h o (load (sizeOf d) m h o)
+        → load (sizeOf d) (stepMemory d backup m c) h o ≡ written (stepWrite d backup c r ps s) h o (load (sizeOf d) m h o)
     load-step h o up inside other =
         rw (step-writes before)
         (load-store-elsewhere (sizeOf d) _ c stepsMade (s + 1) h o apart
         ∙ load-make-write (d .live) (sizeOf d) m (stepWrite d backup c r ps s) h o up (area-of-live shape h up) inside
-          (write-in .inside))
+        (write-in .inside))
       where
         apart : indexOf (sizeOf d) h o ≢ indexOf (sizeOf d) c stepsMade
         apart e =
@@ -166,12 +167,12 @@ module _ {d : Directory} {m : List ℕ} (shape : Shape d m) (backup c : ℕ) (li
     steps-step =
         rw (step-writes before)
         (load-store-same (sizeOf d) _ c stepsMade (s + 1)
-          (rw length-make-write (area-of-live shape c live)) (omega arith)
+        (rw length-make-write (area-of-live shape c live)) (omega arith)
         ∙ add-one s)
 
     -- what a card's own words say stays, but for the steps of c
     own-word : (x o : ℕ) → isLive d x ≡ true → (x ≡ c → o ≢ stepsMade) → (o < 20) ⊎ ((164 ≤ o) × (o < 676))
-      → load (sizeOf d) (stepMemory d backup m c) x o ≡ load (sizeOf d) m x o
+        → load (sizeOf d) (stepMemory d backup m c) x o ≡ load (sizeOf d) m x o
     own-word x o up other place =
         load-step x o up (fits place) other
         ∙ written-other-offset (stepWrite d backup c r ps s) x o (load (sizeOf d) m x o) (apart place (write-in .place))
@@ -179,10 +180,11 @@ module _ {d : Directory} {m : List ℕ} (shape : Shape d m) (backup c : ℕ) (li
         fits : (o < 20) ⊎ ((164 ≤ o) × (o < 676)) → o < sizeOf d
         fits (inl low) = omega arith
         fits (inr list) = omega arith
+
         apart : (o < 20) ⊎ ((164 ≤ o) × (o < 676))
-          → ((20 + 18 * c ≤ stepWrite d backup c r ps s .offset) × (stepWrite d backup c r ps s .offset < 38 + 18 * c))
-          ⊎ (676 ≤ stepWrite d backup c r ps s .offset)
-          → stepWrite d backup c r ps s .offset ≢ o
+            → ((20 + 18 * c ≤ stepWrite d backup c r ps s .offset) × (stepWrite d backup c r ps s .offset < 38 + 18 * c))
+            ⊎ (676 ≤ stepWrite d backup c r ps s .offset)
+            → stepWrite d backup c r ps s .offset ≢ o
         apart (inl low) (inl records) e = omega arith
         apart (inl low) (inr page) e = omega arith
         apart (inr list) (inl records) e = omega (arith, few)
@@ -190,14 +192,14 @@ module _ {d : Directory} {m : List ℕ} (shape : Shape d m) (backup c : ℕ) (li
 
     -- the record of another card
     pub step-keeps-record : (x h o : ℕ) → x < 8 → x ≢ c → isLive d h ≡ true → 20 + 18 * x ≤ o → o < 38 + 18 * x
-      → load (sizeOf d) (stepMemory d backup m c) h o ≡ load (sizeOf d) m h o
+        → load (sizeOf d) (stepMemory d backup m c) h o ≡ load (sizeOf d) m h o
     step-keeps-record x h o small other up above under =
         load-step h o up (omega arith) (λ _ e. omega arith)
         ∙ written-other-offset (stepWrite d backup c r ps s) h o (load (sizeOf d) m h o) (apart (write-in .place))
       where
         apart : ((20 + 18 * c ≤ stepWrite d backup c r ps s .offset) × (stepWrite d backup c r ps s .offset < 38 + 18 * c))
-          ⊎ (676 ≤ stepWrite d backup c r ps s .offset)
-          → stepWrite d backup c r ps s .offset ≢ o
+            ⊎ (676 ≤ stepWrite d backup c r ps s .offset)
+            → stepWrite d backup c r ps s .offset ≢ o
         apart (inl records) e = omega arith
         apart (inr page) e = omega arith
 
@@ -233,7 +235,7 @@ module _ (size : ℕ) (m : List ℕ) (c : ℕ) (long : 676 ≤ size) where
   module _ (eight : length (openRelease size m c .desk) ≡ 8) where
     -- another card's words, and the records and pages of every card
     pub load-close : (h o : ℕ) → o < size → (h ≢ c) ⊎ (((20 ≤ o) × (o < 164)) ⊎ (676 ≤ o))
-      → load size (close size m c) h o ≡ load size m h o
+        → load size (close size m c) h o ≡ load size m h o
     unfolding close
     load-close h o inside (inl other) =
         load-clear-run-outside size _ c listStart listSize h o (outside-other-card other (omega arith) inside)
@@ -265,9 +267,9 @@ module _ (size : ℕ) (m : List ℕ) (c : ℕ) (long : 676 ≤ size) where
       unfolding ownRelease own-words
       close-own =
           let desk =
-                load-run-is size (close size m c) c ownDesk deskSize (openRelease size m c .desk) eight
-                  (rw length-close area) (omega arith)
-                  (λ j within. let at : 1 + j ≡ suc j = omega arith in close-word (1 + j) (omega arith) ∙ rw at) in
+          load-run-is size (close size m c) c ownDesk deskSize (openRelease size m c .desk) eight
+          (rw length-close area) (omega arith)
+          (λ j within. let at : 1 + j ≡ suc j = omega arith in close-word (1 + j) (omega arith) ∙ rw at) in
           rw (close-word ownStamp (omega arith), desk)
 
       pub close-word-9 : load size (close size m c) c releaseOpen ≡ 0

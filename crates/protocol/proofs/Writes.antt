@@ -31,7 +31,7 @@ module _ (d : Directory) (half : ℕ) where
   length-price-writes (p ∷ ps) = omega (arith, length-price-writes ps)
 
   pub price-write-at : (ps : List Price) (s : ℕ) → s < 2 * length ps
-    → getD (priceWrites d half ps) s noWrite ≡ priceWrite (homeOf d s) half (getD ps (s / 2) noPrice)
+      → getD (priceWrites d half ps) s noWrite ≡ priceWrite (homeOf d s) half (getD ps (s / 2) noPrice)
   price-write-at [] s within = absurd (omega arith)
   price-write-at (p ∷ ps) zero within = refl
   price-write-at (p ∷ ps) (suc zero) within = refl
@@ -45,7 +45,7 @@ length-run-writes card offset [] = refl
 length-run-writes card offset (v ∷ vs) = ap suc (length-run-writes card (suc offset) vs)
 
 pub run-write-at : (card offset : ℕ) (vs : List ℕ) (j : ℕ) → j < length vs
-  → getD (runWrites card offset vs) j noWrite ≡ writeOf card (offset + j) (getD vs j 0)
+    → getD (runWrites card offset vs) j noWrite ≡ writeOf card (offset + j) (getD vs j 0)
 run-write-at card offset [] j within = absurd (omega arith)
 run-write-at card offset (v ∷ vs) zero within = rw (add-zero offset)
 run-write-at card offset (v ∷ vs) (suc j) within =
@@ -84,14 +84,14 @@ module _ (d : Directory) (backup c : ℕ) (r : Release) (ps : List Price) (eight
 
   -- 1. step s + 1, while s is below 2k
   pub write-tentative : (s : ℕ) → s < 2 * length ps
-    → getD (releaseWrites d backup c r ps) s noWrite ≡ priceWrite (homeOf d s) tentativeHalf (getD ps (s / 2) noPrice)
+      → getD (releaseWrites d backup c r ps) s noWrite ≡ priceWrite (homeOf d s) tentativeHalf (getD ps (s / 2) noPrice)
   unfolding releaseWrites
   write-tentative s within =
       getD-left (priceWrites d tentativeHalf ps) _ s (omega (arith, tentatives)) ∙ price-write-at d tentativeHalf ps s within
 
   -- 2. step 2k + j + 1
   pub write-desk : (s j : ℕ) → s ≡ 2 * length ps + j → j < 8
-    → getD (releaseWrites d backup c r ps) s noWrite ≡ writeOf backup (recordDesk c (r .number) + j) (getD (r .desk) j 0)
+      → getD (releaseWrites d backup c r ps) s noWrite ≡ writeOf backup (recordDesk c (r .number) + j) (getD (r .desk) j 0)
   unfolding releaseWrites
   write-desk s j at within =
       getD-right (priceWrites d tentativeHalf ps) _ (2 * length ps) s j tentatives at
@@ -100,7 +100,7 @@ module _ (d : Directory) (backup c : ℕ) (r : Release) (ps : List Price) (eight
 
   -- 3. step 2k + 9
   pub write-stamp : (s : ℕ) → s ≡ 2 * length ps + 8
-    → getD (releaseWrites d backup c r ps) s noWrite ≡ writeOf backup (recordStamp c) (r .number)
+      → getD (releaseWrites d backup c r ps) s noWrite ≡ writeOf backup (recordStamp c) (r .number)
   unfolding releaseWrites
   write-stamp s at =
       getD-right (priceWrites d tentativeHalf ps) _ (2 * length ps) s 8 tentatives at
@@ -108,7 +108,7 @@ module _ (d : Directory) (backup c : ℕ) (r : Release) (ps : List Price) (eight
 
   -- 4. step 2k + 10 + j
   pub write-committed : (s j : ℕ) → s ≡ 2 * length ps + 9 + j → j < 2 * length ps
-    → getD (releaseWrites d backup c r ps) s noWrite ≡ priceWrite (homeOf d j) committedHalf (getD ps (j / 2) noPrice)
+      → getD (releaseWrites d backup c r ps) s noWrite ≡ priceWrite (homeOf d j) committedHalf (getD ps (j / 2) noPrice)
   unfolding releaseWrites
   write-committed s j at within =
       getD-right (priceWrites d tentativeHalf ps) _ (2 * length ps) s (9 + j) tentatives (omega arith)
@@ -119,14 +119,14 @@ module _ (d : Directory) (backup c : ℕ) (r : Release) (ps : List Price) (eight
 
   -- 5. step 4k + 10
   pub write-done : (s : ℕ) → s ≡ 4 * length ps + 9
-    → getD (releaseWrites d backup c r ps) s noWrite ≡ writeOf backup (recordDone c) (r .number)
+      → getD (releaseWrites d backup c r ps) s noWrite ≡ writeOf backup (recordDone c) (r .number)
   unfolding releaseWrites
   write-done s at =
       getD-right (priceWrites d tentativeHalf ps) _ (2 * length ps) s (9 + 2 * length ps) tentatives (omega arith)
       ∙ getD-right (runWrites backup (recordDesk c (r .number)) (r .desk)) _ 8 (9 + 2 * length ps) (1 + 2 * length ps) desks
-        (omega arith)
+      (omega arith)
       ∙ getD-right (runWrites backup (recordStamp c) (r .number ∷ [])) second 1 (1 + 2 * length ps) (2 * length ps) refl
-        (omega arith)
+      (omega arith)
       ∙ getD-right (priceWrites d committedHalf ps) last (2 * length ps) (2 * length ps) 0 committeds (omega arith)
 
 -- ---- the steps of a release of k prices, by what they are
@@ -145,15 +145,19 @@ phase k s within = tentative-or (decLt s (2 * k))
     done-or : ¬ (s < 4 * k + 9) → Dec (s < 4 * k + 10) → Phase k s
     done-or before (yes now) = to-done (omega arith)
     done-or before (no past) = to-close (omega (arith, within))
+
     committed-or : ¬ (s < 2 * k + 9) → Dec (s < 4 * k + 9) → Phase k s
     committed-or before (yes now) = to-committed (s - (2 * k + 9)) (omega arith) (omega arith)
     committed-or before (no past) = done-or past (decLt s (4 * k + 10))
+
     stamp-or : ¬ (s < 2 * k + 8) → Dec (s < 2 * k + 9) → Phase k s
     stamp-or before (yes now) = to-stamp (omega arith)
     stamp-or before (no past) = committed-or past (decLt s (4 * k + 9))
+
     desk-or : ¬ (s < 2 * k) → Dec (s < 2 * k + 8) → Phase k s
     desk-or before (yes now) = to-desk (s - 2 * k) (omega arith) (omega arith)
     desk-or before (no past) = stamp-or past (decLt s (2 * k + 9))
+
     tentative-or : Dec (s < 2 * k) → Phase k s
     tentative-or (yes early) = to-tentative early
     tentative-or (no past) = desk-or past (decLt s (2 * k + 8))

@@ -1,0 +1,5 @@
+-- Laws on the steps of a release.
+pub mod Callers
+pub mod Ends
+pub mod Prices
+pub mod Stores

@@ -1,0 +1,102 @@
+-- The store of each step: the store that the code makes is the one that the definition has at this place.
+use Prim.Native.Nat.{ℕ, _+_, _*_, _/_, _%_, _<_, _≤_}
+use mathlib.Core.Path.{_≡_, sym, _∙_}
+use mathlib.Core.List.{List}
+use mathlib.Core.Bool.{Bool}
+use native.Mathlib.Nat.{add-zero}
+use native.Mathlib.Omega.{arith}
+use borrow.Author.Tests.{lt-ltb, le-ltb}
+use lib.ListN.{length, getD}
+use lib.Dec.{eqb}
+use Rattle.laws.proofs.Bools.{by-cond}
+use Rattle.memory.specs.Layout.{areaSize, deskSize, stepsMade, releaseDesk, recordStamp, recordDone, recordDesk}
+use Rattle.memory.specs.Layout.{pageStart, tentativeHalf, committedHalf}
+use Rattle.memory.specs.Area.{AreaIn, load, store}
+use Rattle.memory.proofs.Runs.{getD-load-run, length-load-run}
+use Rattle.directory.specs.declared.Directory.{Directory}
+use Rattle.diff.specs.declared.Price.{Price}
+use Rattle.protocol.specs.Release.{sizeOf, Release, openRelease, openPrices, stepsOf, Write, writeOf, noWrite}
+use Rattle.protocol.specs.Release.{priceWrites, makeWrite, close, stepMemory}
+use Rattle.protocol.proofs.Writes.{noPrice, price-write-at, length-writes, write-tentative, write-desk}
+use Rattle.protocol.proofs.Writes.{write-stamp, write-committed, write-done}
+use Rattle.release.specs.Stepping.{CardIn, HomesIn, homesOf, storeAfter, homeAt}
+
+-- ---- the desk of the open release: 8 words, from word 12 on
+
+module _ (size : ℕ) (m : List ℕ) (card : ℕ) where
+  pub length-desk : 676 ≤ size → AreaIn (length m) size card → length (openRelease size m card .desk) ≡ 8
+  unfolding openRelease
+  length-desk big area = length-load-run size m card releaseDesk deskSize area (omega arith)
+
+  pub desk-word : (j : ℕ) → j < 8 → getD (openRelease size m card .desk) j 0 ≡ load size m card (releaseDesk + j)
+  unfolding openRelease
+  desk-word j within = getD-load-run size m card releaseDesk deskSize j within
+
+-- ---- a price at a home of its page
+
+module _ (pages : ℕ) (live : List Bool) (primary secondary : List ℕ) where
+  pub home-in : {words : ℕ} → HomesIn live pages primary secondary words → (number page : ℕ) → page < pages
+      → CardIn live words (areaSize pages) (homeAt primary secondary number page)
+  home-in {words} homes number page below =
+      by-cond (λ (home : ℕ → ℕ). CardIn live words (areaSize pages) (home page)) (eqb (number % 2) 0) _ _
+      (λ _. homes .secondary-in page below) (λ _. homes .primary-in page below)
+
+  pub price-store : (half : ℕ) (ps : List Price) (number : ℕ) {p : Price} {home : ℕ} → number < 2 * length ps
+      → p ≡ getD ps (number / 2) noPrice → home ≡ homeAt primary secondary number (p .page)
+      → writeOf home (pageStart (p .page) + (half + p .word)) (p .price)
+      ≡ getD (priceWrites (homesOf pages live primary secondary) half ps) number noWrite
+  price-store half ps number within is at-home =
+      rw (at-home, is) (sym (price-write-at (homesOf pages live primary secondary) half ps number within))
+
+-- ---- the store of each step, and the step
+
+module _ (d : Directory) (backup : ℕ) (m : List ℕ) (card steps : ℕ) (area : AreaIn (length m) (sizeOf d) card) where
+  abbrev release : Release
+  release = openRelease (sizeOf d) m card
+
+  abbrev prices : List Price
+  prices = openPrices (d .pages) m card
+
+  abbrev stored : Write
+  stored = storeAfter d backup m card steps
+
+  eight : length (release .desk) ≡ 8
+  eight = length-desk (sizeOf d) m card (omega arith) area
+
+  pub tentative-store : steps < 2 * length prices → getD (priceWrites d tentativeHalf prices) steps noWrite ≡ stored
+  tentative-store below =
+      price-write-at d tentativeHalf prices steps below
+      ∙ sym (write-tentative d backup card release prices eight steps below)
+
+  pub desk-store : (j : ℕ) → steps ≡ 2 * length prices + j → j < 8
+      → writeOf backup (recordDesk card (release .number) + j) (getD (release .desk) j 0) ≡ stored
+  desk-store j at within = sym (write-desk d backup card release prices eight steps j at within)
+
+  pub stamp-store : steps ≡ 2 * length prices + 8 → writeOf backup (recordStamp card + 0) (release .number) ≡ stored
+  stamp-store at = rw add-zero (sym (write-stamp d backup card release prices eight steps at))
+
+  pub committed-store : (j : ℕ) → steps ≡ 2 * length prices + 9 + j → j < 2 * length prices
+      → getD (priceWrites d committedHalf prices) j noWrite ≡ stored
+  committed-store j at within =
+      price-write-at d committedHalf prices j within
+      ∙ sym (write-committed d backup card release prices eight steps j at within)
+
+  pub done-store : steps ≡ 4 * length prices + 9 → writeOf backup (recordStamp card + 1) (release .number) ≡ stored
+  done-store at =
+      let mark : recordStamp card + 1 ≡ recordDone card = omega arith in
+      rw mark (sym (write-done d backup card release prices eight steps at))
+
+  module _ (made : steps ≡ stepsOf (sizeOf d) m card) where
+    pub step-stores : steps < 4 * length prices + 10
+        → stepMemory d backup m card
+        ≡ store (sizeOf d) (makeWrite (d .live) (sizeOf d) m stored) card stepsMade (steps + 1)
+    unfolding stepMemory
+    step-stores below =
+        let long = length-writes d backup card release prices eight in
+        rw (← made, long, lt-ltb steps (4 * length prices + 10) below)
+
+    pub step-closes : steps ≡ 4 * length prices + 10 → stepMemory d backup m card ≡ close (sizeOf d) m card
+    unfolding stepMemory
+    step-closes last =
+        let long = length-writes d backup card release prices eight in
+        rw (← made, long, le-ltb steps (4 * length prices + 10) (omega arith))

@@ -1,0 +1,52 @@
+-- Rests on `open-stores`: the five stores in this order are the opening.
+use borrow.Author.Needs.{needs}
+use Rattle.release.proofs.Ends.{open-stores}
+use Rattle.release.proofs.open_release.Statement.{statement}
+use Rattle.release.proofs.open_release.Tie as tie
+
+store-word-requires : tie.Need-store-word-requires
+store-word-requires c κs = search needs
+
+store-word-requires-2 : tie.Need-store-word-requires-2
+store-word-requires-2 c κs = search needs
+
+store-word-requires-3 : tie.Need-store-word-requires-3
+store-word-requires-3 c κs = search needs
+
+store-run-requires : tie.Need-store-run-requires
+store-run-requires c κs = search needs
+
+store-run-requires-2 : tie.Need-store-run-requires-2
+store-run-requires-2 c κs = search needs
+
+same-length : tie.Need-same-length
+same-length c = search needs
+
+returns : tie.Need-returns
+returns c =
+    let list = c .before .before in
+    let desk = list .before .before .before .before in
+    let number = desk .before .before .before .before in
+    let steps = number .before .before .before .before in
+    let mark = steps .before .before .before .before in
+    let a = mark .before .before .before .before .before .args in
+    rw (
+      list .store-run2 .ensures,
+      desk .store-run .ensures,
+      number .store-word3 .ensures,
+      steps .store-word2 .ensures,
+      mark .store-word .ensures,
+    )
+    (open-stores (a .size) (a .memory .now) (a .card) (a .number) (a .desk .now) (a .list .now))
+
+pub open-release-spec : {M : Type 1} → statement M
+open-release-spec =
+    tie.close
+    (tie.spec
+    store-word-requires
+    store-word-requires-2
+    store-word-requires-3
+    store-run-requires
+    store-run-requires-2
+    same-length
+    returns)

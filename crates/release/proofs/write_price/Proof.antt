@@ -1,0 +1,26 @@
+-- Rests on the mark of the card: a store to a live card is made, one to a dead card is not.
+use borrow.Author.Needs.{needs}
+use Rattle.protocol.specs.Release.{makeWrite}
+use Rattle.release.proofs.write_price.Statement.{statement}
+use Rattle.release.proofs.write_price.Tie as tie
+
+shared-slice-read-if1 : tie.Need-shared-slice-read-if1
+shared-slice-read-if1 c = search needs
+
+store-price-requires : tie.Need-store-price-requires
+store-price-requires c κs = search needs
+
+same-length : tie.Need-same-length
+same-length c = search needs
+
+returns : tie.Need-returns
+unfolding makeWrite
+returns c = rw (c .before .before .before .before .if1 .taken) (c .before .before .store-price .ensures)
+
+returns-2 : tie.Need-returns-2
+unfolding makeWrite
+returns-2 c = rw (c .if1 .left)
+
+pub write-price-spec : {M : Type 1} → statement M
+write-price-spec =
+    tie.close (tie.spec shared-slice-read-if1 store-price-requires same-length returns returns-2)

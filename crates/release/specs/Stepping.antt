@@ -1,0 +1,58 @@
+-- What a step relies on: a memory of its stated length, homes that are cards, and a release whose list reads well.
+-- A rack that passed its checks has it.
+use Prim.Native.Nat.{ℕ, _*_, _+_, _%_, _<_, _≤_}
+use mathlib.Core.Path.{_≡_}
+use mathlib.Core.List.{List}
+use mathlib.Core.Bool.{Bool, cond}
+use lib.ListN.{length, getD}
+use lib.Dec.{eqb}
+use Rattle.memory.specs.Layout.{areaSize}
+use Rattle.memory.specs.Area.{AreaIn}
+use Rattle.directory.specs.declared.Directory.{Directory}
+use Rattle.directory.specs.declared.Status.the-variants.{Running}
+use Rattle.directory.specs.Directory.{directoryOf}
+use Rattle.diff.specs.declared.Verdict.the-variants.{Good}
+use Rattle.diff.specs.Reading.{readDiff}
+use Rattle.protocol.specs.Release.{sizeOf, openRelease, openList, openPrices, stepsOf}
+use Rattle.protocol.specs.Release.{Write, noWrite, releaseWrites}
+
+-- a card with a mark, and with an area in a memory of so many words
+pub record CardIn (live : List Bool) (words size card : ℕ) : Type 0 where
+  pub eight : card < 8
+  pub marked : card < length live
+  pub area : AreaIn words size card
+
+-- all homes are such cards
+pub record HomesIn (live : List Bool) (pages : ℕ) (primary secondary : List ℕ) (words : ℕ) : Type 0 where
+  pub few : pages ≤ 64
+  pub primaries : pages ≤ length primary
+  pub secondaries : pages ≤ length secondary
+  pub primary-in : (p : ℕ) → p < pages → CardIn live words (areaSize pages) (getD primary p 0)
+  pub secondary-in : (p : ℕ) → p < pages → CardIn live words (areaSize pages) (getD secondary p 0)
+
+-- a release whose list reads well, and which has made no more than 4k + 10 steps
+pub record GoodRelease (pages : ℕ) (m : List ℕ) (card : ℕ) : Type 0 where
+  pub k : ℕ
+  pub words : ℕ
+  pub reads : readDiff pages (openList (areaSize pages) m card) ≡ Good k words
+  pub under : stepsOf (areaSize pages) m card ≤ 4 * k + 10
+
+-- a release of k prices, by its list
+pub record Counted (pages : ℕ) (m : List ℕ) (card k : ℕ) : Type 0 where
+  pub prices : k ≡ length (openPrices pages m card)
+  pub few : k < 512
+  pub under : stepsOf (areaSize pages) m card ≤ 4 * k + 10
+
+-- a directory as far as a step looks at it: pages, marks and homes
+abbrev pub homesOf : ℕ → List Bool → List ℕ → List ℕ → Directory
+homesOf pages live primary secondary = directoryOf 0 pages live primary secondary Running
+
+-- the store of the step after so many
+abbrev pub storeAfter : Directory → ℕ → List ℕ → ℕ → ℕ → Write
+storeAfter d backup m card steps =
+    getD (releaseWrites d backup card (openRelease (sizeOf d) m card) (openPrices (d .pages) m card)) steps noWrite
+
+-- the home of a page that the store of this number goes to, among those of one half: secondary if even, else primary
+abbrev pub homeAt : List ℕ → List ℕ → ℕ → ℕ → ℕ
+homeAt primary secondary number =
+    cond (eqb (number % 2) 0) (λ page. getD secondary page 0) (λ page. getD primary page 0)

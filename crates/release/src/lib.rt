@@ -1,0 +1,284 @@
+// A release on its card: opening it, one step of it, its close. These write the memory of a rack
+// that passed its checks; which calls are refused is decided above.
+ghost use mathlib.Core.Path.{_≡_};
+ghost use Prim.Native.Nat.{_+_, _*_, _<_, _≤_};
+ghost use lib.ListN.{length, getD};
+ghost use Rattle.memory.specs.Layout.{areaSize, recordStamp, recordDesk};
+ghost use Rattle.memory.specs.Area.{AreaIn};
+ghost use Rattle.protocol.specs.Release.{releaseOf, openRelease, openPrices, writeOf, noWrite};
+ghost use Rattle.protocol.specs.Release.{priceWrites, makeWrite, close, stepMemory};
+ghost use Rattle.protocol.specs.Opening.{openMemory};
+ghost use Rattle.release.specs.Stepping.{CardIn, HomesIn, GoodRelease, Counted};
+ghost use Rattle.release.specs.Stepping.{homesOf, storeAfter, homeAt};
+use diff::Verdict;
+use reader::Found;
+
+// Copies list, desk and number to the card's own area and sets steps to 0.
+pub fn open_release(
+    memory: &mut [u32],
+    size: usize,
+    card: usize,
+    number: u32,
+    desk: &[u32],
+    list: &[u32],
+)
+    requires { ⌜ AreaIn (length (now memory)) size card ⌝ }
+    requires { ⌜ (676 ≤ size) × (length (now desk) ≡ 8) × (length (now list) ≤ 512) ⌝ }
+    ensures { λ _. ⌜ now (memory .exit)
+        ≡ openMemory size (now (memory .entry)) card (releaseOf number (now (desk .entry)))
+        (now (list .entry)) ⌝ }
+{
+    memory::store_word(memory, size, card, memory::RELEASE_OPEN, 1);
+    memory::store_word(memory, size, card, memory::STEPS_MADE, 0);
+    memory::store_word(memory, size, card, memory::RELEASE_NUMBER, number);
+    memory::store_run(memory, size, card, memory::RELEASE_DESK, desk);
+    memory::store_run(memory, size, card, memory::LIST_START, list);
+}
+
+// Sets the card's own stamp and desk, and clears the release.
+pub fn close_release(memory: &mut [u32], size: usize, card: usize)
+    requires { ⌜ (676 ≤ size) × AreaIn (length (now memory)) size card ⌝ }
+    ensures { λ _. ⌜ now (memory .exit) ≡ close size (now (memory .entry)) card ⌝ }
+{
+    let number = memory::load_word(memory, size, card, memory::RELEASE_NUMBER);
+    let mut desk = [0u32; 8];
+    memory::load_run(memory, size, card, memory::RELEASE_DESK, &mut desk);
+    memory::store_word(memory, size, card, memory::OWN_STAMP, number);
+    memory::store_run(memory, size, card, memory::OWN_DESK, &desk);
+    memory::clear_run(memory, size, card, memory::RELEASE_OPEN, 11);
+    memory::clear_run(memory, size, card, memory::LIST_START, 512);
+}
+
+// ---- one store, dropped if its card is dead
+
+fn write_price(
+    memory: &mut [u32],
+    size: usize,
+    live: &[bool],
+    home: usize,
+    page: usize,
+    word: usize,
+    price: u32,
+)
+    requires { ⌜ CardIn (now live) (length (now memory)) size home ⌝ }
+    requires { ⌜ (page + 64 ≤ size) × (word < 64) ⌝ }
+    ensures { λ _. ⌜ now (memory .exit)
+        ≡ makeWrite (now (live .entry)) size (now (memory .entry))
+        (writeOf home (page + word) price) ⌝ }
+{
+    if live[home] {
+        memory::store_price(memory, size, home, page, word, price);
+    }
+}
+
+fn write_word(memory: &mut [u32], size: usize, live: &[bool], backup: usize, offset: usize, v: u32)
+    requires { ⌜ CardIn (now live) (length (now memory)) size backup ⌝ }
+    requires { ⌜ offset < size ⌝ }
+    ensures { λ _. ⌜ now (memory .exit)
+        ≡ makeWrite (now (live .entry)) size (now (memory .entry)) (writeOf backup offset v) ⌝ }
+{
+    if live[backup] {
+        memory::store_word(memory, size, backup, offset, v);
+    }
+}
+
+// ---- the stores of a step
+
+// The home of a page that the store numbered `at` of one half goes to.
+fn home_at(primary: &[u32], secondary: &[u32], page: usize, at: u32) -> u32
+    requires { ⌜ (page < length (now primary)) × (page < length (now secondary)) ⌝ }
+    ensures { λ r. ⌜ r ≡ homeAt (now (primary .entry)) (now (secondary .entry)) at page ⌝ }
+{
+    if at % 2 == 0 {
+        return secondary[page];
+    }
+    primary[page]
+}
+
+// The store numbered `at` of the 2k that write one half of the pages: of each price in order at
+// the secondary, then at the primary.
+fn step_price(
+    memory: &mut [u32],
+    pages: u32,
+    live: &[bool],
+    primary: &[u32],
+    secondary: &[u32],
+    card: usize,
+    at: u32,
+    half: usize,
+)
+    requires { ⌜ HomesIn (now live) pages (now primary) (now secondary) (length (now memory)) ⌝ }
+    requires { ⌜ CardIn (now live) (length (now memory)) (areaSize pages) card ⌝ }
+    requires { ⌜ (at < 2 * length (openPrices pages (now memory) card)) × (half ≤ 32) ⌝ }
+    ensures { λ _. ⌜ now (memory .exit)
+        ≡ makeWrite (now (live .entry)) (areaSize pages) (now (memory .entry))
+        (getD
+        (priceWrites
+        (homesOf pages (now (live .entry)) (now (primary .entry)) (now (secondary .entry)))
+        half (openPrices pages (now (memory .entry)) card))
+        at noWrite) ⌝ }
+{
+    let size = memory::area_size(pages);
+    match reader::nth_stored(memory, size, card, pages, at / 2) {
+        Found::Priced(p) => {
+            let page = p.page as usize;
+            let home = home_at(primary, secondary, page, at) as usize;
+            let start = memory::PAGES_START + 64 * page;
+            let word = half + p.word as usize;
+            write_price(memory, size, live, home, start, word, p.price);
+        }
+        Found::Nothing => {}
+    }
+}
+
+// Word j of the release's desk, in the even desk of its record at the backup if its number is
+// even, else in the odd one.
+fn step_desk(memory: &mut [u32], size: usize, live: &[bool], backup: usize, card: usize, j: usize)
+    requires { ⌜ CardIn (now live) (length (now memory)) size card ⌝ }
+    requires { ⌜ CardIn (now live) (length (now memory)) size backup ⌝ }
+    requires { ⌜ (676 ≤ size) × (j < 8) ⌝ }
+    ensures { λ _. ⌜ now (memory .exit)
+        ≡ makeWrite (now (live .entry)) size (now (memory .entry))
+        (writeOf backup
+        (recordDesk card (openRelease size (now (memory .entry)) card .number) + j)
+        (getD (openRelease size (now (memory .entry)) card .desk) j 0)) ⌝ }
+{
+    let number = memory::load_word(memory, size, card, memory::RELEASE_NUMBER);
+    let word = memory::load_word(memory, size, card, memory::RELEASE_DESK + j);
+    let record = memory::RECORDS_START + memory::RECORD_SIZE * card;
+    let desk = record + 2 + 8 * (number % 2) as usize;
+    write_word(memory, size, live, backup, desk + j, word);
+}
+
+// The release's number in its record at the backup: as the stamp at 0, as the done mark at 1.
+fn step_mark(
+    memory: &mut [u32],
+    size: usize,
+    live: &[bool],
+    backup: usize,
+    card: usize,
+    mark: usize,
+)
+    requires { ⌜ CardIn (now live) (length (now memory)) size card ⌝ }
+    requires { ⌜ CardIn (now live) (length (now memory)) size backup ⌝ }
+    requires { ⌜ (676 ≤ size) × (mark < 2) ⌝ }
+    ensures { λ _. ⌜ now (memory .exit)
+        ≡ makeWrite (now (live .entry)) size (now (memory .entry))
+        (writeOf backup (recordStamp card + mark)
+        (openRelease size (now (memory .entry)) card .number)) ⌝ }
+{
+    let number = memory::load_word(memory, size, card, memory::RELEASE_NUMBER);
+    let record = memory::RECORDS_START + memory::RECORD_SIZE * card;
+    write_word(memory, size, live, backup, record + mark, number);
+}
+
+// The store of a step before the close: `steps` are made, of a release of k prices.
+fn step_store(
+    memory: &mut [u32],
+    pages: u32,
+    live: &[bool],
+    primary: &[u32],
+    secondary: &[u32],
+    backup: usize,
+    card: usize,
+    steps: u32,
+    k: u32,
+)
+    requires { ⌜ HomesIn (now live) pages (now primary) (now secondary) (length (now memory)) ⌝ }
+    requires { ⌜ CardIn (now live) (length (now memory)) (areaSize pages) card ⌝ }
+    requires { ⌜ CardIn (now live) (length (now memory)) (areaSize pages) backup ⌝ }
+    requires { ⌜ (steps < 4 * k + 10) × Counted pages (now memory) card k ⌝ }
+    ensures { λ _. ⌜ now (memory .exit)
+        ≡ makeWrite (now (live .entry)) (areaSize pages) (now (memory .entry))
+        (storeAfter
+        (homesOf pages (now (live .entry)) (now (primary .entry)) (now (secondary .entry))) backup
+        (now (memory .entry)) card steps) ⌝ }
+{
+    let size = memory::area_size(pages);
+    if steps < 2 * k {
+        step_price(memory, pages, live, primary, secondary, card, steps, 0);
+        return;
+    }
+    if steps < 2 * k + 8 {
+        step_desk(memory, size, live, backup, card, (steps - 2 * k) as usize);
+        return;
+    }
+    if steps == 2 * k + 8 {
+        step_mark(memory, size, live, backup, card, 0);
+        return;
+    }
+    if steps < 4 * k + 9 {
+        let at = steps - (2 * k + 9);
+        step_price(memory, pages, live, primary, secondary, card, at, 32);
+        return;
+    }
+    step_mark(memory, size, live, backup, card, 1);
+}
+
+// One step of a release of k prices: one store, and one more in word 10; or the close.
+fn make_step(
+    memory: &mut [u32],
+    pages: u32,
+    live: &[bool],
+    primary: &[u32],
+    secondary: &[u32],
+    backup: usize,
+    card: usize,
+    k: u32,
+)
+    requires { ⌜ HomesIn (now live) pages (now primary) (now secondary) (length (now memory)) ⌝ }
+    requires { ⌜ CardIn (now live) (length (now memory)) (areaSize pages) card ⌝ }
+    requires { ⌜ CardIn (now live) (length (now memory)) (areaSize pages) backup ⌝ }
+    requires { ⌜ Counted pages (now memory) card k ⌝ }
+    ensures { λ _. ⌜ now (memory .exit)
+        ≡ stepMemory
+        (homesOf pages (now (live .entry)) (now (primary .entry)) (now (secondary .entry))) backup
+        (now (memory .entry)) card ⌝ }
+{
+    let size = memory::area_size(pages);
+    let steps = memory::load_word(memory, size, card, memory::STEPS_MADE);
+    if steps == 4 * k + 10 {
+        close_release(memory, size, card);
+        return;
+    }
+    step_store(
+        memory,
+        pages,
+        live,
+        primary,
+        secondary,
+        backup,
+        card,
+        steps,
+        k,
+    );
+    memory::store_word(memory, size, card, memory::STEPS_MADE, steps + 1);
+}
+
+// Makes one step of the release that is open on a card.
+pub fn step_release(
+    memory: &mut [u32],
+    pages: u32,
+    live: &[bool],
+    primary: &[u32],
+    secondary: &[u32],
+    backup: usize,
+    card: usize,
+)
+    requires { ⌜ HomesIn (now live) pages (now primary) (now secondary) (length (now memory)) ⌝ }
+    requires { ⌜ CardIn (now live) (length (now memory)) (areaSize pages) card ⌝ }
+    requires { ⌜ CardIn (now live) (length (now memory)) (areaSize pages) backup ⌝ }
+    requires { ⌜ GoodRelease pages (now memory) card ⌝ }
+    ensures { λ _. ⌜ now (memory .exit)
+        ≡ stepMemory
+        (homesOf pages (now (live .entry)) (now (primary .entry)) (now (secondary .entry))) backup
+        (now (memory .entry)) card ⌝ }
+{
+    let size = memory::area_size(pages);
+    match reader::read_stored(memory, size, card, pages) {
+        Verdict::Good(k, _) => {
+            make_step(memory, pages, live, primary, secondary, backup, card, k);
+        }
+        Verdict::Faulty(_) => {}
+    }
+}
