@@ -1,3 +1,2 @@
 -- What the checks say, as their proofs and their callers cite it.
-pub mod Limits
 pub mod Order

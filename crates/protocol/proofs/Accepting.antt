@@ -9,7 +9,7 @@ use borrow.Author.Tests.{eq-eqb, ne-eqb, eqb-true, ltb-true, ltb-false, leb-true
 use lib.ListN.{length}
 use lib.Dec.{eqb, ltb, leb}
 use Rattle.laws.specs.Search.{someBelow, countBelow}
-use Rattle.laws.proofs.Bools.{neither}
+use Rattle.laws.proofs.Bools.{neither, and-first, and-second}
 use Rattle.laws.proofs.Search.{none-below}
 use Rattle.answer.specs.declared.Outcome.{Outcome}
 use Rattle.memory.specs.Layout.{pageSize}
@@ -33,23 +33,25 @@ use Rattle.protocol.specs.DeskQuestion.{deskChecks}
 -- ---- checks that all passed
 
 -- every check refuses by a number other than 0
-abbrev pub Numbered : List Check → Type 0
-Numbered [] = Unit {0}
-Numbered (c ∷ cs) = (0 < c .number) × Numbered cs
+abbrev pub numbered : List Check → Bool
+numbered [] = true
+numbered (c ∷ cs) = not (eqb (c .number) 0) && numbered cs
 
 abbrev pub Passed : List Check → Type 0
 Passed [] = Unit {0}
 Passed (c ∷ cs) = (c .refuses ≡ false) × Passed cs
 
-pub all-passed : (cs : List Check) (value : ℕ) → Numbered cs → accepted (firstRefusal cs value) ≡ true → Passed cs
+pub all-passed : (cs : List Check) (value : ℕ) → numbered cs ≡ true → accepted (firstRefusal cs value) ≡ true → Passed cs
 unfolding firstRefusal
-all-passed [] value numbered ok = tt
-all-passed (c ∷ cs) value numbered ok = go (c .refuses) refl ok (all-passed cs value (numbered .1))
+all-passed [] value real ok = tt
+all-passed (c ∷ cs) value real ok =
+    go (c .refuses) refl ok (all-passed cs value (and-second (not (eqb (c .number) 0)) (numbered cs) real))
   where
     go : (refuses : Bool) → c .refuses ≡ refuses
         → accepted (cond refuses (record { number = c .number; value = c .place }) (firstRefusal cs value)) ≡ true
         → (accepted (firstRefusal cs value) ≡ true → Passed cs) → (c .refuses ≡ false) × Passed cs
-    go true is ok rest = absurd (true≢false (sym ok ∙ ne-eqb (c .number) 0 (omega (arith, numbered .0))))
+    go true is ok rest =
+        absurd (true≢false (sym ok ∙ not-true (eqb (c .number) 0) (and-first (not (eqb (c .number) 0)) (numbered cs) real)))
     go false is ok rest = (is, rest ok)
 
 -- what an accepted outcome gives
@@ -133,13 +135,18 @@ pub record JoinPassed (d : Directory) (m : List ℕ) (x : ℕ) : Type 0 where
   pub none-open : (c : ℕ) → c < d .cards → isOpen (d .live) (sizeOf d) m c ≡ false
 
 module _ (d : Directory) (m : List ℕ) where
+  runs-by : outsideLimits (length m) (d .cards) (d .pages) ≡ false → unfitRack d m ≡ false → awaitsRecovery (d .status) ≡ false
+      → Runs d m
+  runs-by limits fit idle =
+      record { fits = record { limits = limits; fit = fit }; running = running-status (d .status) idle }
+
   pub opening-passed : (c number : ℕ) (list : List ℕ) → Passed (openingChecks d m c number list) → OpeningPassed d m c number list
   opening-passed c number list p =
       let card = live-card d c (p .1 .1 .1 .0) in
       let rest = p .1 .1 .1 .1 in
       let stamp = ownRelease (sizeOf d) m c .number in
       record {
-        runs = record { fits = record { limits = p .0; fit = p .1 .0 }; running = running-status (d .status) (p .1 .1 .0) };
+        runs = runs-by (p .0) (p .1 .0) (p .1 .1 .0);
         below = card .0;
         live = card .1;
         idle = rest .0;
@@ -152,7 +159,7 @@ module _ (d : Directory) (m : List ℕ) where
   step-passed c p =
       let card = live-card d c (p .1 .1 .1 .0) in
       record {
-        runs = record { fits = record { limits = p .0; fit = p .1 .0 }; running = running-status (d .status) (p .1 .1 .0) };
+        runs = runs-by (p .0) (p .1 .0) (p .1 .1 .0);
         below = card .0;
         live = card .1;
         is-open = not-false (isOpen (d .live) (sizeOf d) m c) (p .1 .1 .1 .1 .0);
@@ -162,7 +169,7 @@ module _ (d : Directory) (m : List ℕ) where
   fetch-passed page room p =
       let rest = p .1 .1 .1 in
       record {
-        runs = record { fits = record { limits = p .0; fit = p .1 .0 }; running = running-status (d .status) (p .1 .1 .0) };
+        runs = runs-by (p .0) (p .1 .0) (p .1 .1 .0);
         page-below = leb-false (d .pages) page (rest .0);
         still = none-below (inMotion (d .live) (d .pages) m page) (d .cards) (rest .1 .0);
         room-is = eqb-true room pageSize (not-false (eqb room pageSize) (rest .1 .1 .0));
@@ -172,7 +179,7 @@ module _ (d : Directory) (m : List ℕ) where
   failure-passed c p =
       let card = live-card d c (p .1 .1 .1 .0) in
       record {
-        runs = record { fits = record { limits = p .0; fit = p .1 .0 }; running = running-status (d .status) (p .1 .1 .0) };
+        runs = runs-by (p .0) (p .1 .0) (p .1 .1 .0);
         below = card .0;
         live = card .1;
         many = leb-false (countBelow (isLive d) (d .cards)) 2 (p .1 .1 .1 .1 .0);
@@ -182,8 +189,12 @@ module _ (d : Directory) (m : List ℕ) where
   join-passed x p =
       let rest = p .1 .1 .1 in
       record {
-        runs = record { fits = record { limits = p .0; fit = p .1 .0 }; running = running-status (d .status) (p .1 .1 .0) };
+        runs = runs-by (p .0) (p .1 .0) (p .1 .1 .0);
         below = leb-false (d .cards) x (rest .0);
         dead = rest .1 .0;
         none-open = none-below (isOpen (d .live) (sizeOf d) m) (d .cards) (rest .1 .1 .0);
       }
+
+  pub desk-passed : (c : ℕ) → Passed (deskChecks d m c) → Runs d m × (c < d .cards)
+  desk-passed c p =
+      (runs-by (p .0) (p .1 .0) (p .1 .1 .0), leb-false (d .cards) c (p .1 .1 .1 .0))

@@ -1,35 +1,34 @@
 -- A join leaves a rack that runs, beside the same book.
-use Prim.Native.Nat.{ℕ, zero, suc, _+_, _*_, _≤_, _<_}
-use mathlib.Core.Path.{_≡_, refl, sym, ap, _∙_, subst}
-use mathlib.Core.Logic.{_≢_, _⊎_, inl, inr}
-use mathlib.Core.List.{List, []}
-use mathlib.Core.Bool.{Bool, true, false, cond, true≢false, false≢true}
+use Prim.Native.Nat.{ℕ, _+_, _≤_, _<_}
+use mathlib.Core.Path.{_≡_, refl, sym, _∙_}
+use mathlib.Core.Logic.{_≢_, inl, inr}
+use mathlib.Core.List.{List}
+use mathlib.Core.Bool.{true, false, true≢false}
 use native.Mathlib.Omega.{arith}
 use native.Mathlib.Decide.{ℕ-discrete}
-use borrow.Author.Tests.{eq-eqb, eqb-true}
-use lib.ListN.{length, getD, length-set}
+use borrow.Author.Tests.{eq-eqb}
+use lib.ListN.{length, length-set}
 use Rattle.laws.specs.Search.{inTurn}
-use Rattle.laws.proofs.Bools.{and-first, and-second}
-use Rattle.memory.specs.Layout.{deskSize, recordStamp, recordDesk, pageStart, releaseOpen}
-use Rattle.memory.specs.Area.{AreaIn, load}
-use Rattle.memory.proofs.Runs.{load-run-is}
+use Rattle.laws.proofs.Bools.{and-first}
+use Rattle.memory.specs.Layout.{pageStart, releaseOpen}
+use Rattle.memory.specs.Area.{load}
 use Rattle.directory.specs.declared.Directory.{Directory}
 use Rattle.directory.specs.Directory.{isLive, primaryOf, secondaryOf, nextLiveOf, backupOf, markedLive}
 use Rattle.directory.proofs.Live.{next-live-kept}
 use Rattle.directory.proofs.Changes.{live-of-marked-live, live-of-other}
-use Rattle.protocol.specs.Release.{Release, sizeOf, ownRelease}
+use Rattle.protocol.specs.Release.{sizeOf, ownRelease}
 use Rattle.protocol.specs.Record.{recordedRelease, writeOwnRecord}
 use Rattle.protocol.specs.Join.{resetArea, copyDeadRecord, backupIs, joinedMemory}
 use Rattle.protocol.specs.Book.{Opened, none, Book}
 use Rattle.protocol.proofs.Shape.{Shape, SameOwn, area-of, area-of-live, shape-kept, own-words-kept}
-use Rattle.protocol.proofs.Over.{over-none, HomeOf}
-use Rattle.protocol.proofs.BookLaws.{uncounted-none}
-use Rattle.protocol.proofs.Claims.{Claim, HomeWord, claim-kept}
+use Rattle.protocol.proofs.Over.{HomeOf}
+use Rattle.protocol.proofs.Claims.{HomeWord, claim-kept}
 use Rattle.protocol.proofs.Halves.{tentatives, committeds, pending-none, committed-none}
 use Rattle.protocol.proofs.Held.{Held, Own, held-kept}
 use Rattle.protocol.proofs.Core.{Core, Standing, standing-kept}
 use Rattle.protocol.proofs.OwnRecords.{OwnBelow, own-below}
 use Rattle.protocol.proofs.JoinedArea.{length-reset, reset-other, reset-zero, reset-own, CopiedBelow, copied-below}
+use Rattle.protocol.proofs.Recorded.{recorded-is}
 use Rattle.protocol.proofs.Invariant.{RunningRack, TwoLive, next-is-live, next-is-other, unmarked}
 
 module _ (d : Directory) (x : ℕ) (m : List ℕ) (b : Book) (rack : RunningRack d m b) (dead : isLive d x ≡ false)
@@ -60,13 +59,9 @@ module _ (d : Directory) (x : ℕ) (m : List ℕ) (b : Book) (rack : RunningRack
   held-x = rack .records x (nextLiveOf d x) dead real (nexts x)
 
   recorded : recordedRelease (sizeOf d) m (nextLiveOf d x) x ≡ b .last x
-  unfolding recordedRelease
   recorded =
-      let desk =
-      load-run-is (sizeOf d) m (nextLiveOf d x) (recordDesk x (b .last x .number)) deskSize (b .last x .desk)
-      (rack .core .last-eight x) (area-of-live shape (nextLiveOf d x) (nexts x)) (omega (arith, few))
-      (λ j within. held-x .desked j within) in
-      rw (held-x .stamped, desk)
+      recorded-is (sizeOf d) m (nextLiveOf d x) x (b .last x) (area-of-live shape (nextLiveOf d x) (nexts x)) (omega arith) few
+      (rack .core .last-eight x) (held-x .stamped) (held-x .desked)
 
   eight : length (recordedRelease (sizeOf d) m (nextLiveOf d x) x .desk) ≡ 8
   eight = rw recorded (rack .core .last-eight x)

@@ -1,4 +1,5 @@
 -- Laws on the calls' definitions, and demand 3.
+pub mod Limits
 pub mod Writes
 pub mod Over
 pub mod Shape
@@ -13,6 +14,7 @@ pub mod StepCore
 pub mod Closing
 pub mod CoreKept
 pub mod OpenCore
+pub mod Recorded
 pub mod Invariant
 pub mod Failing
 pub mod Restoring
@@ -26,3 +28,11 @@ pub mod Recovered
 pub mod JoinedArea
 pub mod Joining
 pub mod Accepting
+pub mod Formatted
+pub mod Found
+pub mod Calling
+pub mod Answering
+pub mod Counting
+pub mod Accepted
+pub mod Refused
+pub mod Demand3

@@ -1,38 +1,37 @@
 -- Recovery takes a rack that awaits it to one that runs, and answers the failed card's last number and desk.
 use Prim.Native.Nat.{ℕ, zero, suc, _+_, _*_, _≤_, _<_}
-use mathlib.Core.Path.{_≡_, refl, sym, ap, _∙_, subst}
+use mathlib.Core.Path.{_≡_, refl, sym, ap, _∙_}
 use mathlib.Core.Logic.{_≢_, _⊎_, inl, inr}
-use mathlib.Core.List.{List, []}
+use mathlib.Core.List.{List}
 use mathlib.Core.Bool.{Bool, true, false, cond, true≢false, false≢true}
 use native.Mathlib.Omega.{arith}
-use native.Mathlib.Decide.{ℕ-discrete, decLt}
-use borrow.Author.Tests.{eq-eqb, ne-eqb, eqb-true, eqb-false}
-use lib.ListN.{length, getD}
+use native.Mathlib.Decide.{ℕ-discrete}
+use borrow.Author.Tests.{eq-eqb, eqb-true}
+use lib.ListN.{length}
 use lib.Dec.{ltb, eqb}
 use Rattle.laws.specs.Search.{inTurn}
-use Rattle.memory.specs.Layout.{deskSize, recordStamp, recordDone, recordDesk, pageStart}
+use Rattle.memory.specs.Layout.{recordStamp, recordDone}
 use Rattle.memory.specs.Area.{load}
-use Rattle.memory.proofs.Runs.{load-run-is}
 use Rattle.directory.specs.declared.Directory.{Directory}
-use Rattle.directory.specs.Directory.{isLive, primaryOf, secondaryOf, nextLiveOf, backupOf}
-use Rattle.directory.proofs.Live.{next-live-kept}
-use Rattle.protocol.specs.Release.{Release, sizeOf, countsAt}
-use Rattle.protocol.specs.Record.{recordedRelease, underWay}
-use Rattle.protocol.specs.Recovery.{backupBefore, closeReleases, restorePages, lostHome, keptHome, newHome}
+use Rattle.directory.specs.Directory.{isLive, primaryOf, nextLiveOf}
+use Rattle.protocol.specs.Release.{sizeOf, countsAt}
+use Rattle.protocol.specs.Record.{underWay}
+use Rattle.protocol.specs.Recovery.{backupBefore, closeReleases, restorePages, keptHome, newHome}
 use Rattle.protocol.specs.Recovery.{copyToNewHomes, failedRelease}
-use Rattle.protocol.specs.Book.{Opened, none, opened, listPrices, Book, update, count, countUncounted, countOpen, strikeOpen}
+use Rattle.protocol.specs.Book.{Opened, none, opened, listPrices, Book, count, countUncounted, countOpen, strikeOpen}
 use Rattle.protocol.proofs.Shape.{area-of-live, shape-kept}
 use Rattle.protocol.proofs.Over.{over-none, HomeOf}
 use Rattle.protocol.proofs.BookLaws.{update-other, uncounted-none}
 use Rattle.diff.proofs.Prices.{names-none, laid-none}
-use Rattle.protocol.proofs.Claims.{Claim, HomeWord}
+use Rattle.protocol.proofs.Claims.{HomeWord}
 use Rattle.protocol.proofs.Halves.{tentatives, committeds, pending-none, committed-none}
 use Rattle.protocol.proofs.Core.{Core}
 use Rattle.protocol.proofs.Closing.{close-core-all}
-use Rattle.protocol.proofs.Restoring.{source, target, halfWord, RestoredBelow, restored}
+use Rattle.protocol.proofs.Restoring.{source, halfWord, RestoredBelow, restored}
 use Rattle.protocol.proofs.Rehoming.{Right, RehomedBelow, rehomed}
-use Rattle.protocol.proofs.Moving.{whole-primary, whole-secondary, kept-primary, kept-secondary}
-use Rattle.protocol.proofs.Invariant.{AwaitingRack, stampOf, doneOf, next-is-live, next-is-other, unmarked}
+use Rattle.protocol.proofs.Moving.{kept-primary, kept-secondary}
+use Rattle.protocol.proofs.Recorded.{recorded-is}
+use Rattle.protocol.proofs.Invariant.{AwaitingRack, stampOf, doneOf, next-is-live, next-is-other}
 
 -- ---- the book counts nothing for a card with none open
 
@@ -117,15 +116,11 @@ module _ (d : Directory) (f : ℕ) (m : List ℕ) (b : Book) (rack : AwaitingRac
 
   -- the answer
   pub answers : failedRelease d f m ≡ b .last f
-  unfolding failedRelease recordedRelease
+  unfolding failedRelease
   answers =
-      let number : load (sizeOf d) m₁ (nextLiveOf d f) (recordStamp f) ≡ b .last f .number =
-      record-kept (recordStamp f) (omega arith) (omega arith) ∙ rack .stamped in
-      let desk =
-      load-run-is (sizeOf d) m₁ (nextLiveOf d f) (recordDesk f (b .last f .number)) deskSize (b .last f .desk)
-      (rack .core .last-eight f) (area-of-live (closed .shape) (nextLiveOf d f) up) (omega (arith, few))
-      (λ j within. record-kept _ (omega arith) (omega arith) ∙ rack .desked j within) in
-      rw (number, desk)
+      recorded-is (sizeOf d) m₁ (nextLiveOf d f) f (b .last f) (area-of-live (closed .shape) (nextLiveOf d f) up) (omega arith)
+      few (rack .core .last-eight f) (record-kept (recordStamp f) (omega arith) (omega arith) ∙ rack .stamped)
+      (λ j within. record-kept _ (omega arith) (omega arith) ∙ rack .desked j within)
 
   abbrev forward : Bool
   forward = underWay (sizeOf d) m₁ (nextLiveOf d f) f

@@ -13,3 +13,4 @@ pub mod Recovery
 pub mod Join
 pub mod Book
 pub mod Demand3
+pub mod Demand1

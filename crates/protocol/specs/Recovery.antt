@@ -114,13 +114,14 @@ unfoldable pub awaitedCard : Status → ℕ
 awaitedCard Running = 0
 awaitedCard (Awaiting f) = f
 
+abbrev pub recoveryChecks : Directory → List ℕ → List Check
+recoveryChecks d m = fittingChecks d m ++ check (not (awaitsRecovery (d .status))) noneAwaited ∷ []
+
 -- "The answer is f's stamp and desk."
 unfoldable pub recovery : Directory → List ℕ → Result
 recovery d m =
     let f : ℕ = awaitedCard (d .status) in
-    let o : Outcome =
-    firstRefusal (fittingChecks d m ++ check (not (awaitsRecovery (d .status))) noneAwaited ∷ [])
-    (failedRelease d f m .number) in
+    let o : Outcome = firstRefusal (recoveryChecks d m) (failedRelease d f m .number) in
     resultOf o
     (record {
       outcome = o;

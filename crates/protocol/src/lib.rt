@@ -1,1 +1,15 @@
-// The protocol.
+// The demands on the rack, over the definitions that the calls' contracts cite. The functions here do nothing when they
+// are called: they are where the gate shows the theorems.
+ghost use Rattle.protocol.specs.Demand1.{Demand1};
+ghost use Rattle.protocol.specs.Demand3.{Demand3};
+
+// Demand 1: a refused call leaves everything that was lent as it was.
+pub fn refused_changes_nothing()
+    ensures { λ _. ⌜ Demand1 ⌝ }
+{}
+
+// Demand 3: after every list of calls, and whatever the areas of cards that are away hold, accepted calls answer what the
+// book holds.
+pub fn calls_tell_the_book()
+    ensures { λ _. ⌜ Demand3 ⌝ }
+{}

@@ -1,0 +1,85 @@
+-- The proof of demand 1: a refused call leaves memory, directory and buffers as they were.
+use Prim.Native.Nat.{ℕ}
+use mathlib.Core.Path.{_≡_, refl, sym, ap, _∙_}
+use mathlib.Core.List.{List, [], _∷_}
+use mathlib.Core.Bool.{Bool, true, false, cond, true≢false}
+use borrow.Author.Tests.{eq-eqb}
+use lib.ListN.{length}
+use lib.Dec.{eqb}
+use Rattle.memory.specs.Layout.{deskSize}
+use Rattle.memory.specs.Area.{zeros}
+use Rattle.answer.specs.declared.Outcome.{Outcome}
+use Rattle.answer.specs.Outcome.{limits, refusedAt}
+use Rattle.directory.specs.declared.Directory.{Directory}
+use Rattle.directory.specs.Directory.{emptyDirectory}
+use Rattle.protocol.specs.Release.{Release}
+use Rattle.protocol.specs.Checks.{Check, check, firstRefusal, outsideLimits}
+use Rattle.protocol.specs.Result.{Result, accepted, resultOf}
+use Rattle.protocol.specs.Formatting.{formatting}
+use Rattle.protocol.specs.Opening.{opening, openingChecks}
+use Rattle.protocol.specs.Step.{step, stepChecks}
+use Rattle.protocol.specs.Fetch.{fetch, fetchChecks}
+use Rattle.protocol.specs.Failure.{failure, failureChecks}
+use Rattle.protocol.specs.Recovery.{recovery, recoveryChecks}
+use Rattle.protocol.specs.Join.{join, joinChecks}
+use Rattle.protocol.specs.DeskQuestion.{deskQuestion, deskChecks}
+use Rattle.protocol.specs.Book.{Call, open-release, make-step, fetch-page, fail-card, recover, join-card, ask-desk}
+use Rattle.protocol.specs.Demand3.{perform}
+use Rattle.protocol.specs.Demand1.{refusalsOf, handedBack, isAmong, Unchanged, Demand1}
+use Rattle.protocol.proofs.Accepting.{when-refused}
+
+abbrev numbersOf : List Check → List ℕ
+numbersOf [] = []
+numbersOf (c ∷ cs) = c .number ∷ numbersOf cs
+
+-- the first check that refuses is one of them
+among : (cs : List Check) (value : ℕ) → accepted (firstRefusal cs value) ≡ false
+    → isAmong (numbersOf cs) (firstRefusal cs value .number) ≡ true
+unfolding firstRefusal isAmong
+among [] value refused = absurd (true≢false refused)
+among (c ∷ cs) value refused = go (c .refuses) refused (among cs value)
+  where
+    one-more : (same : Bool) (rest : Bool) → rest ≡ true → cond same true rest ≡ true
+    one-more true rest is = refl
+    one-more false rest is = is
+
+    go : (refuses : Bool)
+        → accepted (cond refuses (refusedAt (c .number) (c .place)) (firstRefusal cs value)) ≡ false
+        → (accepted (firstRefusal cs value) ≡ false → isAmong (numbersOf cs) (firstRefusal cs value .number) ≡ true)
+        → isAmong (c .number ∷ numbersOf cs) (cond refuses (refusedAt (c .number) (c .place)) (firstRefusal cs value) .number)
+        ≡ true
+    go true refused rest = rw (eq-eqb (c .number) (c .number) refl)
+    go false refused rest = one-more (eqb (c .number) (firstRefusal cs value .number)) (isAmong (numbersOf cs) (firstRefusal cs value .number)) (rest refused)
+
+by-checks : (cs : List Check) (value : ℕ) (done : Result) (d : Directory) (m words : List ℕ)
+    → done .outcome ≡ firstRefusal cs value → accepted (resultOf (firstRefusal cs value) done d m words .outcome) ≡ false
+    → Unchanged (numbersOf cs) d m words (resultOf (firstRefusal cs value) done d m words)
+by-checks cs value done d m words same refused =
+    let e = when-refused (firstRefusal cs value) done d m words same refused in
+    rw e
+    (record {
+      numbered = among cs value (rw e at refused);
+      directory = refl;
+      memory = refl;
+      words = refl;
+    })
+
+pub refused-unchanged : (call : Call) (d : Directory) (m : List ℕ) → accepted (perform call d m .outcome) ≡ false
+    → Unchanged (refusalsOf call) d m (handedBack call) (perform call d m)
+unfolding perform opening step fetch failure recovery join deskQuestion
+refused-unchanged (open-release card r list) d m = by-checks (openingChecks d m card (r .number) list) 0 _ d m [] refl
+refused-unchanged (make-step card) d m = by-checks (stepChecks d m card) 0 _ d m [] refl
+refused-unchanged (fetch-page page buffer) d m = by-checks (fetchChecks d m page (length buffer)) 0 _ d m buffer refl
+refused-unchanged (fail-card card) d m = by-checks (failureChecks d m card) 0 _ d m [] refl
+refused-unchanged recover d m = by-checks (recoveryChecks d m) _ _ d m (zeros deskSize) refl
+refused-unchanged (join-card card) d m = by-checks (joinChecks d m card) 0 _ d m [] refl
+refused-unchanged (ask-desk card) d m = by-checks (deskChecks d m card) 0 _ d m (zeros deskSize) refl
+
+pub demand-1 : Demand1
+unfolding formatting
+demand-1 =
+    record {
+      calls = refused-unchanged;
+      formats = λ m cards pages.
+          by-checks (check (outsideLimits (length m) cards pages) limits ∷ []) 0 _ emptyDirectory m [] refl;
+    }

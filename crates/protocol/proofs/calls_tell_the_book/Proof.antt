@@ -1,0 +1,10 @@
+-- `protocol::calls_tell_the_book` meets its contract: the theorem is `demand-3` of proofs/Demand3.antt.
+use Rattle.protocol.proofs.Demand3.{demand-3}
+use Rattle.protocol.proofs.calls_tell_the_book.Statement.{statement}
+use Rattle.protocol.proofs.calls_tell_the_book.Tie as tie
+
+returns : tie.Need-returns
+returns c = demand-3
+
+pub calls-tell-the-book-spec : {M : Type 1} → statement M
+calls-tell-the-book-spec = tie.close (tie.spec returns)

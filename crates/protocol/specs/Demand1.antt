@@ -1,0 +1,54 @@
+-- Demand 1 over the definitions: "a refusal changes no word of what was lent", and has a number of document 01's table.
+-- Assumes nothing: these are definitions.
+use Prim.Native.Nat.{ℕ}
+use mathlib.Core.Path.{_≡_}
+use mathlib.Core.List.{List, [], _∷_}
+use mathlib.Core.Bool.{Bool, true, false, cond}
+use lib.Dec.{eqb}
+use Rattle.memory.specs.Layout.{deskSize}
+use Rattle.memory.specs.Area.{zeros}
+use Rattle.directory.specs.declared.Directory.{Directory}
+use Rattle.directory.specs.Directory.{emptyDirectory}
+use Rattle.protocol.specs.Result.{Result, accepted}
+use Rattle.protocol.specs.Formatting.{formatting}
+use Rattle.protocol.specs.Book.{Call, open-release, make-step, fetch-page, fail-card, recover, join-card, ask-desk}
+use Rattle.protocol.specs.Demand3.{perform}
+
+-- document 01, "What the rack refuses": the numbers by which each call refuses, in the order of its checks
+abbrev pub refusalsOf : Call → List ℕ
+refusalsOf (open-release card r list) = 1 ∷ 2 ∷ 11 ∷ 3 ∷ 4 ∷ 5 ∷ 6 ∷ 7 ∷ 8 ∷ []
+refusalsOf (make-step card) = 1 ∷ 2 ∷ 11 ∷ 3 ∷ 16 ∷ []
+refusalsOf (fetch-page page buffer) = 1 ∷ 2 ∷ 11 ∷ 9 ∷ 10 ∷ 17 ∷ []
+refusalsOf (fail-card card) = 1 ∷ 2 ∷ 11 ∷ 3 ∷ 13 ∷ []
+refusalsOf recover = 1 ∷ 2 ∷ 12 ∷ []
+refusalsOf (join-card card) = 1 ∷ 2 ∷ 11 ∷ 3 ∷ 14 ∷ 15 ∷ []
+refusalsOf (ask-desk card) = 1 ∷ 2 ∷ 11 ∷ 3 ∷ []
+
+-- what a refused call hands back: the fetch its buffer as it came, calls that answer desk words only zeros
+abbrev pub handedBack : Call → List ℕ
+handedBack (open-release card r list) = []
+handedBack (make-step card) = []
+handedBack (fetch-page page buffer) = buffer
+handedBack (fail-card card) = []
+handedBack recover = zeros deskSize
+handedBack (join-card card) = []
+handedBack (ask-desk card) = zeros deskSize
+
+unfoldable pub isAmong : List ℕ → ℕ → Bool
+isAmong [] n = false
+isAmong (k ∷ ks) n = cond (eqb k n) true (isAmong ks n)
+
+pub record Unchanged (refusals : List ℕ) (d : Directory) (m buffer : List ℕ) (result : Result) : Type 0 where
+  pub numbered : isAmong refusals (result .outcome .number) ≡ true
+  pub directory : result .directory ≡ d
+  pub memory : result .memory ≡ m
+  pub words : result .words ≡ buffer
+
+pub record Demand1 : Type 0 where
+  pub calls :
+      (call : Call) (d : Directory) (m : List ℕ) → accepted (perform call d m .outcome) ≡ false
+      → Unchanged (refusalsOf call) d m (handedBack call) (perform call d m)
+  -- "Refused formatting gives one that is running, with 0 cards, 0 pages, all dead, homes 0."
+  pub formats :
+      (m : List ℕ) (cards pages : ℕ) → accepted (formatting m cards pages .outcome) ≡ false
+      → Unchanged (1 ∷ []) emptyDirectory m [] (formatting m cards pages)
