@@ -43,7 +43,8 @@ pub const UNREADABLE: u32 = 18;
 pub struct Outcome {
     // 0 if the call was accepted, else the refusal.
     pub number: u32,
-    // What an accepted call gives (a length, a count, a stamp; 0: nothing), else the refusal's place.
+    // What an accepted call gives (a length, a count, a stamp; 0: nothing), else the refusal's
+    // place.
     pub value: u64,
 }
 

@@ -55,7 +55,8 @@ module _ (pages last : ℕ) where
     end-coded : s .due ≡ 0 → 0 < s .gap → last ≡ index → Coded s (endWord index ∷ []) []
     end-coded idle gap own =
         record {
-          between = λ _ _ _ next _ _. record { code = rw (encode-none next, own); up = none; apart = λ p _ _. run-last p };
+          between = λ _ _ _ next _ _. record
+              { code = rw (encode-none next, own); up = none; apart = λ p _ _. run-last p };
           opened = λ _ closed _ p _ _ next _. absurd (omega arith);
           running = λ due _ _ _. absurd (omega arith);
         }
@@ -80,7 +81,8 @@ module _ (pages last : ℕ) where
         record {
           code = rw (r .is, encode-price next (r .first) (r .rest) _ head, r .code, r .long, r .word);
           up = rw (r .is) (more {next = next} {p = r .first} (omega arith) (omega arith) (omega arith) (r .up));
-          apart = λ p own same. rw (r .is) (run-stops p (r .first) (r .rest) (follows-no-word p (r .first) (omega arith)));
+          apart = λ p own same. rw (r .is)
+              (run-stops p (r .first) (r .rest) (follows-no-word p (r .first) (omega arith)));
         }
 
     run-opened : (o n : ℕ) (ws : List ℕ) (ps : List Price) → 0 < n → o + n ≤ 32 → InRun (pastRun s o n) ws ps
@@ -91,7 +93,8 @@ module _ (pages last : ℕ) where
         record {
           code = rw (r .is, encode-price next (r .first) (r .rest) _ head, r .code, r .long, r .word, own);
           up = rw (r .is) (more {next = next} {p = r .first} (omega arith) (omega arith) (omega arith) (r .up));
-          apart = λ q below. rw (r .is) (run-stops q (r .first) (r .rest) (follows-no-page q (r .first) (omega arith)));
+          apart = λ q below. rw (r .is)
+              (run-stops q (r .first) (r .rest) (follows-no-page q (r .first) (omega arith)));
         }
 
     run-coded : (o n : ℕ) (ws : List ℕ) (ps : List Price) → s .due ≡ 0 → 0 < s .next → 0 < n → o + n ≤ 32
@@ -107,7 +110,8 @@ module _ (pages last : ℕ) where
         }
 
     -- a price: the last of its run, or one that the next price follows
-    price-last : (w : ℕ) (ws : List ℕ) (ps : List Price) → s .due ≡ 1 → 0 < s .next → s .next ≤ pages → s .word + s .due ≤ 32
+    price-last : (w : ℕ) (ws : List ℕ) (ps : List Price) → s .due ≡ 1 → 0 < s .next → s .next ≤ pages
+        → s .word + s .due ≤ 32
         → Coded (pastPrice s) ws ps → InRun s (w ∷ ws) (pricedWord s w ∷ ps)
     price-last w ws ps one named fits short later =
         let b = later .between (omega arith) (omega arith) fits (labelOf (pricedWord s w) + 1) (omega arith)
@@ -123,21 +127,25 @@ module _ (pages last : ℕ) where
           up = b .up;
         }
 
-    price-more : (w : ℕ) (ws : List ℕ) (ps : List Price) → 1 < s .due → 0 < s .next → s .next ≤ pages → s .word + s .due ≤ 32
+    price-more : (w : ℕ) (ws : List ℕ) (ps : List Price) → 1 < s .due → 0 < s .next → s .next ≤ pages
+        → s .word + s .due ≤ 32
         → Coded (pastPrice s) ws ps → InRun s (w ∷ ws) (pricedWord s w ∷ ps)
     price-more w ws ps many named fits short later =
         let r = later .running (omega arith) named fits (omega arith) in
         let p : Price = pricedWord s w in
-        let head = header-none (labelOf p + 1) (r .first) (runLength (r .first) (r .rest)) (omega arith) (omega arith) in
+        let head = header-none (labelOf p + 1) (r .first) (runLength (r .first) (r .rest)) (omega arith) (omega arith)
+        in
         record {
           first = p;
           rest = ps;
           is = refl;
           page = omega arith;
           word = refl;
-          long = rw (r .is) (run-goes-on p (r .first) (r .rest) (follows-yes p (r .first) (omega arith) (omega arith)) ∙ rw (r .long) (omega arith));
+          long = rw (r .is) (run-goes-on p (r .first) (r .rest) (follows-yes p (r .first) (omega arith) (omega arith))
+              ∙ rw (r .long) (omega arith));
           code = rw (r .is, encode-price (labelOf p + 1) (r .first) (r .rest) _ head, r .code);
-          up = rw (r .is) (more {next = labelOf p + 1} {p = r .first} (omega arith) (omega arith) (omega arith) (r .up));
+          up = rw (r .is) (more {next = labelOf p + 1} {p = r .first} (omega arith) (omega arith) (omega arith)
+              (r .up));
         }
 
     price-coded : (w : ℕ) (ws : List ℕ) (ps : List Price) → 0 < s .due → Coded (pastPrice s) ws ps

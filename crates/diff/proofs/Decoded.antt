@@ -43,7 +43,8 @@ module _ (pages last : ℕ) (few : pages ≤ 0x10000000) where
       → Reads pages s index (p .price ∷ coded (labelOf p + 1) last ps) (p ∷ ps)
 
   module _ (p : Price) (ps : List Price) (word : p .word < 32) (fits : p .page < pages)
-      (up : Ascending pages (labelOf p + 1) ps) (later : RunReads p ps) (s : Cursor) (index next : ℕ) (b : Between next s)
+      (up : Ascending pages (labelOf p + 1) ps) (later : RunReads p ps) (s : Cursor) (index next : ℕ)
+      (b : Between next s)
       (above : next ≤ labelOf p) (whole : index + length (encodeFrom next (p ∷ ps)) ≡ last) where
     -- the first price of a page
     page-reads : next ≤ 32 * p .page → Reads pages s index (coded next last (p ∷ ps)) (p ∷ ps)
@@ -72,7 +73,8 @@ module _ (pages last : ℕ) (few : pages ≤ 0x10000000) where
         (reads-run {s = s} (b .idle) named (within .0) (within .1) (omega (arith, b .at named, b .past named))
         (later _ (index + 1) (omega (arith, b .at named, b .past named)) refl refl (omega (arith, ap length code))))
 
-    price-reads : (32 * p .page < next → next ≡ labelOf p → ⊥) → Reads pages s index (coded next last (p ∷ ps)) (p ∷ ps)
+    price-reads : (32 * p .page < next → next ≡ labelOf p → ⊥)
+        → Reads pages s index (coded next last (p ∷ ps)) (p ∷ ps)
     price-reads apart = go (decLt (32 * p .page) next)
       where
         go : Dec (32 * p .page < next) → Reads pages s index (coded next last (p ∷ ps)) (p ∷ ps)
@@ -95,7 +97,8 @@ module _ (pages last : ℕ) (few : pages ≤ 0x10000000) where
       let one : s .due ≡ 1 = due ∙ run-last p in
       let own : last ≡ index + 1 = sym (omega (arith, ap length (encode-none (labelOf p + 1)))) in
       rw (encode-none (labelOf p + 1), own)
-      (subst (λ (q : Price). Reads pages s index (p .price ∷ endWord (index + 1) ∷ []) (q ∷ [])) (same-price p s page at)
+      (subst (λ (q : Price). Reads pages s index (p .price ∷ endWord (index + 1) ∷ []) (q ∷ []))
+      (same-price p s page at)
       (reads-price {s = s} (omega arith) (reads-end {s = pastPrice s} (omega arith) (omega arith))))
   run-decoded p word (more {p = q} {ps = qs} up below fits rest) s index page at due whole =
       subst (λ (x : Price). Reads pages s index (p .price ∷ coded (labelOf p + 1) last (q ∷ qs)) (x ∷ q ∷ qs))
@@ -124,7 +127,15 @@ module _ (pages last : ℕ) (few : pages ≤ 0x10000000) where
       → Reads pages start 0 (coded 0 last ps) ps
   decoded none whole = rw (encode-none 0) (rw (← whole, encode-none 0) (reads-end {s = start} refl (omega arith)))
   decoded (more {p = p} {ps = ps} up word fits rest) whole =
-      price-reads p ps word fits rest (λ t i a b c d. run-decoded p word rest t i a b c d) start 0 0 first up (omega arith) (λ old same. absurd (omega arith))
+      price-reads p ps word fits rest (λ t i a b c d. run-decoded p word rest t i a b c d) start 0 0 first up
+      (omega arith) (λ old same. absurd (omega arith))
     where
       first : Between 0 start
-      first = record { idle = refl; gap = refl; low = omega arith; at = λ named. absurd (omega arith); past = λ named. absurd (omega arith) }
+      first = record {
+        idle = refl;
+        gap = refl;
+        low = omega arith;
+        at = λ named. absurd (omega arith);
+        past = λ named.
+            absurd (omega arith);
+      }

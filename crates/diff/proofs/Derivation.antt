@@ -10,7 +10,8 @@ use borrow.Author.Tests.{lt-ltb, le-ltb, lt-leb, eq-eqb, ne-eqb}
 use lib.ListN.{length}
 use lib.Dec.{ltb, eqb}
 use Rattle.diff.specs.Format.{kind, low, offset, count, pageWord, runWord, endWord, mostWords}
-use Rattle.diff.specs.Reading.{Cursor, Step, Verdict, pastPrice, pastPage, pastRun, wordStep, afterStep, readFrom}
+use Rattle.diff.specs.Reading.{Cursor, Step, Verdict, pastPrice, pastPage, pastRun, wordStep, afterStep}
+use Rattle.diff.specs.Reading.{readFrom}
 use Rattle.diff.specs.Prices.{Price, pricedWord, pricesAfter, pricesFrom}
 use Rattle.diff.specs.declared.Step.the-variants.{Next, End, Fault}
 use Rattle.diff.specs.declared.Verdict.the-variants.{Good, Faulty}
@@ -20,7 +21,8 @@ use Rattle.diff.proofs.Reading.{WordCase, a-price, a-page, a-run, an-en
 pub data Reads (pages : ℕ) : Cursor → ℕ → List ℕ → List Price → Type 0 where
   reads-end : {s : Cursor} {index : ℕ} → s .due ≡ 0 → 0 < s .gap → Reads pages s index (endWord index ∷ []) []
   reads-page : {s : Cursor} {index p : ℕ} {ws : List ℕ} {ps : List Price}
-      → s .due ≡ 0 → 0 < s .gap → s .next ≤ p → p < pages → p < 0x10000000 → Reads pages (pastPage s p) (index + 1) ws ps
+      → s .due ≡ 0 → 0 < s .gap → s .next ≤ p → p < pages → p < 0x10000000
+      → Reads pages (pastPage s p) (index + 1) ws ps
       → Reads pages s index (pageWord p ∷ ws) ps
   reads-run : {s : Cursor} {index o n : ℕ} {ws : List ℕ} {ps : List Price}
       → s .due ≡ 0 → 0 < s .next → 0 < n → o + n ≤ 32 → s .word + s .gap ≤ o
@@ -72,17 +74,18 @@ module _ (pages : ℕ) (s : Cursor) (index : ℕ) where
 -- ---- a derivation is what reading finds
 
 -- one word read, by what it does
-module _ (pages : ℕ) (s : Cursor) (index w : ℕ) (ws : List ℕ) (step : Step) (does : wordStep pages s index w ≡ step) where
-  pub read-word : index < mostWords
-      → readFrom pages (w ∷ ws) index s ≡ afterStep (readFrom pages ws (index + 1)) s index step
-  unfolding readFrom
-  read-word few = simp (ne-eqb index mostWords (omega arith), does)
+module _ (pages : ℕ) (s : Cursor) (index w : ℕ) (ws : List ℕ) (step : Step) (does : wordStep pages s index w ≡ step)
+  where
+    pub read-word : index < mostWords
+        → readFrom pages (w ∷ ws) index s ≡ afterStep (readFrom pages ws (index + 1)) s index step
+    unfolding readFrom
+    read-word few = simp (ne-eqb index mostWords (omega arith), does)
 
-  pub prices-word :
-      pricesFrom pages (w ∷ ws) index s
-      ≡ cond (ltb 0 (s .due)) (pricedWord s w ∷ []) [] ++ pricesAfter (pricesFrom pages ws (index + 1)) step
-  unfolding pricesFrom
-  prices-word = simp does
+    pub prices-word :
+        pricesFrom pages (w ∷ ws) index s
+        ≡ cond (ltb 0 (s .due)) (pricedWord s w ∷ []) [] ++ pricesAfter (pricesFrom pages ws (index + 1)) step
+    unfolding pricesFrom
+    prices-word = simp does
 
 good-as : {k k′ n n′ : ℕ} → k ≡ k′ → n ≡ n′ → Good k n ≡ Good k′ n′
 good-as e f = cc
@@ -96,10 +99,12 @@ module _ (pages : ℕ) (rest : List ℕ) where
       read-word pages s index (endWord index) rest End (step-end pages s index none gap (omega arith)) (omega arith)
       ∙ rw add-zero
   reads-good-then {s} {index} (reads-page {p = p} {ws = ws} none gap up fits small later) few =
-      read-word pages s index (pageWord p) (ws ++ rest) _ (step-page pages s index p none gap up fits small) (omega arith)
+      read-word pages s index (pageWord p) (ws ++ rest) _ (step-page pages s index p none gap up fits small)
+      (omega arith)
       ∙ reads-good-then later (omega arith) ∙ good-as refl (omega arith)
   reads-good-then {s} {index} (reads-run {o = o} {n = n} {ws = ws} none named some fits past later) few =
-      read-word pages s index (runWord o n) (ws ++ rest) _ (step-run pages s index o n none named some fits past) (omega arith)
+      read-word pages s index (runWord o n) (ws ++ rest) _ (step-run pages s index o n none named some fits past)
+      (omega arith)
       ∙ reads-good-then later (omega arith) ∙ good-as refl (omega arith)
   reads-good-then {s} {index} (reads-price {w = w} {ws = ws} due later) few =
       read-word pages s index w (ws ++ rest) _ (step-price pages s index w due) (omega arith)
@@ -139,7 +144,8 @@ reads-more-pages more (reads-run none named some fits past later) =
     reads-run none named some fits past (reads-more-pages more later)
 reads-more-pages more (reads-price due later) = reads-price due (reads-more-pages more later)
 
-pub reads-some : {pages index : ℕ} {s : Cursor} {ws : List ℕ} {ps : List Price} → Reads pages s index ws ps → 0 < length ws
+pub reads-some : {pages index : ℕ} {s : Cursor} {ws : List ℕ} {ps : List Price} → Reads pages s index ws ps
+    → 0 < length ws
 reads-some (reads-end none gap) = omega arith
 reads-some (reads-page none gap up fits small rest) = omega arith
 reads-some (reads-run none named some fits past rest) = omega arith
@@ -181,7 +187,8 @@ pub good-within : (pages k n : ℕ) (ws : List ℕ) (s : Cursor) (index : ℕ) �
 unfolding readFrom
 good-within pages k n [] s index read = absurd (not-good read)
 good-within pages k n (w ∷ ws) s index read =
-    go (wordStep pages s index w) (after-word pages k n w ws s index read) (λ t. good-within pages k n ws t (index + 1))
+    go (wordStep pages s index w) (after-word pages k n w ws s index read)
+    (λ t. good-within pages k n ws t (index + 1))
   where
     go : (step : Step) → afterStep (readFrom pages ws (index + 1)) s index step ≡ Good k n
         → ((t : Cursor) → readFrom pages ws (index + 1) t ≡ Good k n → n ≤ index + 1 + length ws)
@@ -201,7 +208,8 @@ module _ (pages : ℕ) where
 
     by-word : (step : Step) → wordStep pages s index w ≡ step → WordCase pages s index w step
         → afterStep (readFrom pages ws (index + 1)) s index step ≡ Good k (index + 1 + length ws)
-        → ((t : Cursor) → ReadsWhole k ws (index + 1) t → Reads pages t (index + 1) ws (pricesFrom pages ws (index + 1) t))
+        → ((t : Cursor) → ReadsWhole k ws (index + 1) t
+        → Reads pages t (index + 1) ws (pricesFrom pages ws (index + 1) t))
         → Reads pages s index (w ∷ ws) (pricesFrom pages (w ∷ ws) index s)
     by-word _ does (a-price due) read rest =
         rw (prices-word pages s index w ws _ does, lt-ltb 0 (s .due) due) (reads-price due (rest _ read))

@@ -19,7 +19,8 @@ pub data Ascending (pages : ℕ) : ℕ → List Price → Type 0 where
       → Ascending pages (labelOf p + 1) ps → Ascending pages next (p ∷ ps)
 
 -- they also ascend from a lower label on
-pub ascending-from : {pages low next : ℕ} {ps : List Price} → low ≤ next → Ascending pages next ps → Ascending pages low ps
+pub ascending-from : {pages low next : ℕ} {ps : List Price} → low ≤ next → Ascending pages next ps
+    → Ascending pages low ps
 ascending-from h none = none
 ascending-from {low = low} h (more {p = p} up word page rest) = more {next = low} {p = p} (omega arith) word page rest
 

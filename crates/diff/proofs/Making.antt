@@ -1,4 +1,5 @@
--- The changes between two states of the pages: they ascend, name what differs, and turn the one into the other; and they
+-- The changes between two states of the pages: they ascend, name what differs, and turn the one into the other; and
+-- they
 -- are the only such prices.
 use Prim.Native.Nat.{ℕ, zero, suc, _+_, _-_, _*_, _/_, _%_, _≤_, _<_}
 use mathlib.Core.Path.{_≡_, refl, sym, ap, _∙_}
@@ -106,7 +107,8 @@ changes-laid (w ∷ ws) [] pages label j same fits within = absurd (omega arith)
 changes-laid (w ∷ ws) (t ∷ ts) pages label zero same fits within = go (ℕ-discrete w t)
   where
     below : (price : ℕ) → laidAt (changesFrom (label + 1) ws ts) label price ≡ price
-    below price = laid-below (changes-ascend pages ws ts (label + 1) (omega arith) (omega arith)) label price (omega arith)
+    below price = laid-below (changes-ascend pages ws ts (label + 1) (omega arith) (omega arith)) label price
+        (omega arith)
 
     go : Dec (w ≡ t) → laidAt (changesFrom label (w ∷ ws) (t ∷ ts)) (label + 0) t ≡ w
     go (yes e) = rw (changes-same label w t ws ts e, add-zero) (below t ∙ sym e)
@@ -124,7 +126,8 @@ changes-laid (w ∷ ws) (t ∷ ts) pages label (suc j) same fits within =
     go (yes e) rest = rw (changes-same label w t ws ts e, at) rest
     go (no n) rest =
         rw (changes-differ label w t ws ts n, at)
-        (laid-later (priceAt label w) (changesFrom (label + 1) ws ts) (label + 1 + j) (getD ts j 0) (omega arith) ∙ rest)
+        (laid-later (priceAt label w) (changesFrom (label + 1) ws ts) (label + 1 + j) (getD ts j 0) (omega arith)
+        ∙ rest)
 
 -- ---- no other prices do
 
@@ -180,7 +183,8 @@ module _ (label w t : ℕ) (ws ts : List ℕ) where
           go : Dec (labelOf p ≡ label) → labelOf p ≡ label
           go (yes e) = e
           go (no n) =
-              absurd (differ (sym laid ∙ laid-below (more {next = label + 1} {p = p} (omega arith) word fits rest) label t (omega arith)))
+              absurd (differ (sym laid
+              ∙ laid-below (more {next = label + 1} {p = p} (omega arith) word fits rest) label t (omega arith)))
 
       price : p .price ≡ w
       price =
@@ -207,7 +211,8 @@ only-changes pages (w ∷ ws) [] label ps up h = absurd (omega (arith, h .even))
 only-changes pages (w ∷ ws) (t ∷ ts) label ps up h = go (ℕ-discrete w t) ps up h (only-changes pages ws ts (label + 1))
   where
     go : Dec (w ≡ t) → (ps : List Price) → Ascending pages label ps → Turning label ps (w ∷ ws) (t ∷ ts)
-        → ((qs : List Price) → Ascending pages (label + 1) qs → Turning (label + 1) qs ws ts → qs ≡ changesFrom (label + 1) ws ts)
+        → ((qs : List Price) → Ascending pages (label + 1) qs → Turning (label + 1) qs ws ts
+        → qs ≡ changesFrom (label + 1) ws ts)
         → ps ≡ changesFrom label (w ∷ ws) (t ∷ ts)
     go (yes same) ps up h rest =
         let on = skip label w t ws ts same up h in

@@ -22,7 +22,8 @@ use Rattle.diff.specs.declared.Verdict.the-variants.{Good, Faulty}
 use Rattle.diff.specs.Prices.{Price, pricesOf, pricesFrom, names, lay}
 use Rattle.diff.specs.Making.{changes, encodeFrom, madeDiff, makeDiff, lentPages}
 use Rattle.diff.specs.OnlyDiff.{Allowed, Turns, Names, Differs, MadeIsOnly, MadeIsOnlyDiff}
-use Rattle.diff.proofs.Derivation.{Reads, reads-good, reads-prices, reads-derived, reads-some, ReadsWhole, good-within}
+use Rattle.diff.proofs.Derivation.{Reads, reads-good, reads-prices, reads-derived, reads-some, ReadsWhole}
+use Rattle.diff.proofs.Derivation.{good-within}
 use Rattle.diff.proofs.Encoding.{Ascending}
 use Rattle.diff.proofs.Coded.{coded, reads-coded}
 use Rattle.diff.proofs.Decoded.{decoded}
@@ -53,7 +54,8 @@ pub record MakeAccepted (working twins : List ℕ) : Type 0 where
   pub lent : LentPages (length working) (length twins)
   pub short : length (madeDiff working twins) ≤ mostWords
 
-pub make-accepted : (working twins : List ℕ) (room : ℕ) → makeDiff working twins room .number ≡ 0 → MakeAccepted working twins
+pub make-accepted : (working twins : List ℕ) (room : ℕ) → makeDiff working twins room .number ≡ 0
+    → MakeAccepted working twins
 unfolding makeDiff
 make-accepted working twins room = go (lentPages n (length twins)) refl (ltb mostWords words) refl
   where
@@ -64,7 +66,8 @@ make-accepted working twins room = go (lentPages n (length twins)) refl (ltb mos
     words = length (madeDiff working twins)
 
     go : (lent : Bool) → lentPages n (length twins) ≡ lent → (over : Bool) → ltb mostWords words ≡ over
-        → cond lent (cond over (refused wrongBuffer) (cond (ltb room words) (refused wrongBuffer) (given words))) (refused limits) .number ≡ 0
+        → cond lent (cond over (refused wrongBuffer) (cond (ltb room words) (refused wrongBuffer) (given words)))
+        (refused limits) .number ≡ 0
         → MakeAccepted working twins
     go true lent true over e = absurd (omega arith)
     go true lent false within e =
@@ -81,7 +84,8 @@ allowed-whole pages diff ok = go (readDiff pages diff) refl ok
     go : (v : Verdict) → readDiff pages diff ≡ v → wholeDiff (length diff) v .number ≡ 0
         → (k : ℕ) × ReadsWhole pages k diff 0 start
     go (Good k n) read e =
-        let all : n ≡ 0 + length diff = omega (arith, good-within pages k n diff start 0 read, past n (ltb n (length diff)) refl e) in
+        let all : n ≡ 0 + length diff = omega
+        (arith, good-within pages k n diff start 0 read, past n (ltb n (length diff)) refl e) in
         (k, rw (← all) read)
       where
         past : (n : ℕ) (cut : Bool) → ltb n (length diff) ≡ cut
@@ -124,7 +128,8 @@ module _ (pages : ℕ) (working twins : List ℕ) (fits : length working ≤ 32 
       ext-getD 0 (lay (changes working twins) twins) working (length-lay (changes working twins) twins ∙ sym even)
       (λ label within. laid label (rw (length-lay, ← even) at within))
     where
-      laid : (label : ℕ) → label < length working → getD (lay (changes working twins) twins) label 0 ≡ getD working label 0
+      laid : (label : ℕ) → label < length working
+          → getD (lay (changes working twins) twins) label 0 ≡ getD working label 0
       laid label within =
           lay-at (changes working twins) twins label (rw (← even) within)
           ∙ (rw (zero-add label) at (changes-laid working twins pages 0 label even (omega (arith, fits)) within))
@@ -154,7 +159,8 @@ module _ (pages : ℕ) (working twins : List ℕ) (fits : length working ≤ 32 
       (λ named. absurd (omega arith)) in
       let same = only-changes pages working twins 0 prices (between .up) turning in
       let code : diff ≡ coded 0 last (changes working twins) = rw (← same) (between .code) in
-      let at : last ≡ length (encodeFrom 0 (changes working twins)) = omega (arith, simp length-append at (ap length code)) in
+      let at : last ≡ length (encodeFrom 0 (changes working twins)) = omega
+      (arith, simp length-append at (ap length code)) in
       code ∙ rw at
     where
       prices : List Price
@@ -180,7 +186,8 @@ module _ (pages : ℕ) (working twins : List ℕ) (fits : length working ≤ 32 
             rw made-prices
             (rw (zero-add label) at (changes-name working twins 0 label even (differs-within label differ) differ));
         names-no-other = λ label named.
-            changes-named working twins pages 0 label even (omega (arith, fits)) (rw (zero-add label, ← made-prices) named);
+            changes-named working twins pages 0 label even (omega (arith, fits))
+            (rw (zero-add label, ← made-prices) named);
         only = only-made;
       }
 

@@ -90,9 +90,11 @@ lay-at (p ∷ ps) words label within =
     lay-at ps (set words (labelOf p) (p .price)) label (rw length-set within) ∙ go (ℕ-discrete (labelOf p) label)
   where
     go : Dec (labelOf p ≡ label)
-        → laidAt ps label (getD (set words (labelOf p) (p .price)) label 0) ≡ laidAt (p ∷ ps) label (getD words label 0)
+        → laidAt ps label (getD (set words (labelOf p) (p .price)) label 0) ≡ laidAt (p ∷ ps) label
+        (getD words label 0)
     go (yes same) =
-        rw (same, getD-set-same words label (p .price) 0 within) (sym (laid-first p ps label (getD words label 0) same))
+        rw (same, getD-set-same words label (p .price) 0 within)
+        (sym (laid-first p ps label (getD words label 0) same))
     go (no other) =
         rw (getD-set-other words (labelOf p) label (p .price) 0 (λ e. other (sym e)))
         (sym (laid-later p ps label (getD words label 0) other))

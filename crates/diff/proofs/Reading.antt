@@ -10,7 +10,8 @@ use lib.ListN.{length}
 use lib.Dec.{ltb, eqb}
 use Rattle.laws.proofs.Bools.{by-cond}
 use Rattle.diff.specs.Format.{kind, low, offset, count, pageWord, runWord, endWord, mostWords}
-use Rattle.diff.specs.Reading.{Cursor, Step, Verdict, pastPrice, pastPage, pastRun, wordStep, afterStep, readFrom}
+use Rattle.diff.specs.Reading.{Cursor, Step, Verdict, pastPrice, pastPage, pastRun, wordStep, afterStep}
+use Rattle.diff.specs.Reading.{readFrom}
 use Rattle.diff.specs.Reading.{pageStep, runStep, endStep, lacksRun, pageBehind, noSuchPage}
 use Rattle.diff.specs.Reading.{beforeFirstPage, emptyRun, pastPageEnd, touchesRun, ownIndex}
 use Rattle.diff.specs.Prices.{Price, pricedWord, pricesAfter, pricesFrom}
@@ -35,7 +36,8 @@ module _ (pages : ℕ) (s : Cursor) (index w : ℕ) where
       by-cond P (ltb 0 (s .due)) _ _ (λ t. a-price (omega (arith, ltb-true)))
       (λ none. by-cond P (eqb (kind w) 1) _ _ (page-case (omega (arith, ltb-false)))
       (λ _. by-cond P (eqb (kind w) 2) _ _ (run-case (omega (arith, ltb-false)))
-      (λ _. by-cond P (eqb (kind w) 15) _ _ (end-case (omega (arith, ltb-false))) (λ _. a-fault (omega (arith, ltb-false))))))
+      (λ _. by-cond P (eqb (kind w) 15) _ _ (end-case (omega (arith, ltb-false)))
+      (λ _. a-fault (omega (arith, ltb-false))))))
     where
       P : Step → Type 0
       P = WordCase pages s index w
@@ -61,4 +63,5 @@ module _ (pages : ℕ) (s : Cursor) (index w : ℕ) where
       end-case none k =
           by-cond P (lacksRun s) _ _ (λ _. a-fault none)
           (λ run. by-cond P (ownIndex index w) _ _
-          (λ own. an-end none (eqb-true _ _ k) (omega (arith, eqb-false)) (omega (arith, eqb-true))) (λ _. a-fault none))
+          (λ own. an-end none (eqb-true _ _ k) (omega (arith, eqb-false)) (omega (arith, eqb-true)))
+          (λ _. a-fault none))

@@ -22,7 +22,8 @@ module _ (pages k n : ℕ) where
   unfolding readFrom
   good-counts [] s index read = absurd (not-good read)
   good-counts (w ∷ ws) s index read =
-      go _ refl (word-case pages s index w) (after-word pages k n w ws s index read) (λ t. good-counts ws t (index + 1))
+      go _ refl (word-case pages s index w) (after-word pages k n w ws s index read)
+      (λ t. good-counts ws t (index + 1))
     where
       Rest : Type 0
       Rest = (t : Cursor) → readFrom pages ws (index + 1) t ≡ Good k n
@@ -58,7 +59,8 @@ module _ (pages k n : ℕ) where
       Rest = (t : Cursor) → readFrom pages ws (index + 1) t ≡ Good k n → t .prices ≤ index + 1 → index + 1 ≤ mostWords
           → (k < n) × (n ≤ mostWords)
 
-      go : (step : Step) → WordCase pages s index w step → afterStep (readFrom pages ws (index + 1)) s index step ≡ Good k n
+      go : (step : Step) → WordCase pages s index w step
+          → afterStep (readFrom pages ws (index + 1)) s index step ≡ Good k n
           → Rest → (k < n) × (n ≤ mostWords)
       go _ (a-price due) read rest = rest _ read (omega arith) (omega (arith, within))
       go _ (a-page _ _ _ _ _) read rest = rest _ read (omega arith) (omega (arith, within))

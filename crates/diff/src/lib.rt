@@ -1,14 +1,18 @@
-// The diff (document 01's list of changes): its definitions, and the theorem on the one that two states of the pages make.
+// The diff (document 01's list of changes): its definitions, and the theorem on the one that two
+// states of the pages make.
 // The types are declared here; the code that reads and makes diffs stands in the crates above.
 ghost use Rattle.diff.specs.OnlyDiff.{MadeIsOnlyDiff};
 
 // Where the reading of a diff stands.
 pub struct Cursor {
-    // The lowest page that a page word may name: one more than the last one named, 0 before the first.
+    // The lowest page that a page word may name: one more than the last one named, 0 before the
+    // first.
     pub next: u32,
-    // The word of the last page that the next price is for; between runs, the end of the run before.
+    // The word of the last page that the next price is for; between runs, the end of the run
+    // before.
     pub word: u32,
-    // How far past `word` the next run must start: 0 right after a page word, which has no run yet; else 1.
+    // How far past `word` the next run must start: 0 right after a page word, which has no run yet;
+    // else 1.
     pub gap: u32,
     // Prices of the run that are still to come.
     pub due: u32,
@@ -38,7 +42,8 @@ pub struct Price {
     pub price: u32,
 }
 
-// Demand 2 on diffs, where the gate shows it: the made diff turns the twins into the working pages, and is the only one
+// Demand 2 on diffs, where the gate shows it: the made diff turns the twins into the working pages,
+// and is the only one
 // that document 01 allows for those changes. It does nothing when it is called.
 pub fn made_is_only_diff()
     ensures { λ _. ⌜ MadeIsOnlyDiff ⌝ }

@@ -42,7 +42,8 @@ dead-stays-dead marks f c dead =
 pub first-live-past-marks : (marks : List Bool) (card cards : ℕ) → length marks ≤ card → card ≤ cards
     → firstLive marks card cards ≡ cards
 first-live-past-marks marks card cards past within =
-    lowest-all-fail (liveAt marks) card (cards - card) (λ d above. List·getD-eq-default marks false {n = d} (omega arith))
+    lowest-all-fail (liveAt marks) card (cards - card)
+    (λ d above. List·getD-eq-default marks false {n = d} (omega arith))
     ∙ omega arith
 
 pub first-live-stops : (marks : List Bool) (from cards : ℕ)

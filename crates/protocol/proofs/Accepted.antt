@@ -1,32 +1,32 @@
 -- An accepted call tells what the book holds and leaves a rack that agrees with the book.
-use Prim.Native.Nat.{ℕ, zero, suc, _+_, _*_, _≤_, _<_}
+use Prim.Native.Nat.{ℕ, _<_}
 use mathlib.Core.Path.{_≡_, refl, sym, ap, _∙_, subst}
-use mathlib.Core.Logic.{_≢_, _⊎_, inl, inr}
-use mathlib.Core.List.{List, [], _∷_, _++_}
-use mathlib.Core.Bool.{Bool, true, false, not, true≢false, false≢true}
-use native.Mathlib.Omega.{arith}
+use mathlib.Core.Logic.{_≢_, inl, inr}
+use mathlib.Core.List.{List, []}
+use mathlib.Core.Bool.{Bool, true, false, true≢false, false≢true}
 use native.Mathlib.Decide.{ℕ-discrete, decLt}
-use borrow.Author.Tests.{leb-false, not-false}
+use borrow.Author.Tests.{not-false}
 use lib.ListN.{length}
-use lib.Dec.{leb}
 use Rattle.answer.specs.declared.Outcome.{Outcome}
 use Rattle.answer.specs.Outcome.{given}
 use Rattle.directory.specs.declared.Directory.{Directory}
-use Rattle.directory.specs.declared.Status.the-variants.{Running, Awaiting}
+use Rattle.directory.specs.declared.Status.the-variants.{Running}
 use Rattle.directory.specs.Live.{liveAt}
 use Rattle.directory.specs.Directory.{isLive, markedLive}
 use Rattle.directory.proofs.Changes.{live-of-marked-dead, live-of-other}
 use Rattle.protocol.specs.Release.{Release, sizeOf, isOpen}
-use Rattle.protocol.specs.Checks.{Check, check, firstRefusal, fittingChecks, awaitsRecovery}
+use Rattle.protocol.specs.Checks.{Check, firstRefusal, awaitsRecovery}
 use Rattle.protocol.specs.Result.{Result, accepted, resultOf}
 use Rattle.protocol.specs.Opening.{opening, openingChecks}
 use Rattle.protocol.specs.Step.{step, stepChecks}
 use Rattle.protocol.specs.Fetch.{fetch, fetchChecks}
 use Rattle.protocol.specs.Failure.{failure, failureChecks, failedDirectory}
-use Rattle.protocol.specs.Recovery.{recovery, recoveryChecks, failedRelease, awaitedCard, recoveredDirectory, recoveredMemory}
+use Rattle.protocol.specs.Recovery.{recovery, recoveryChecks, failedRelease, awaitedCard, recoveredDirectory}
+use Rattle.protocol.specs.Recovery.{recoveredMemory}
 use Rattle.protocol.specs.Join.{join, joinChecks}
 use Rattle.protocol.specs.DeskQuestion.{deskQuestion, deskChecks}
-use Rattle.protocol.specs.Book.{Call, open-release, make-step, fetch-page, fail-card, recover, join-card, ask-desk}
+use Rattle.protocol.specs.Book.{Call, open-release, make-step, fetch-page, fail-card, recover, join-card}
+use Rattle.protocol.specs.Book.{ask-desk}
 use Rattle.protocol.specs.Book.{Book, none, feed, update}
 use Rattle.protocol.specs.Demand3.{perform, away, Typed, Tells}
 use Rattle.protocol.proofs.BookLaws.{update-same, update-other}
@@ -38,7 +38,8 @@ use Rattle.protocol.proofs.Moving.{recovered-parts}
 use Rattle.protocol.proofs.Joining.{joins}
 use Rattle.protocol.proofs.Counting.{two-stay}
 use Rattle.protocol.proofs.Accepting.{numbered, Passed, all-passed, given-value, when-accepted, Runs}
-use Rattle.protocol.proofs.Accepting.{opening-passed, step-passed, fetch-passed, failure-passed, join-passed, desk-passed}
+use Rattle.protocol.proofs.Accepting.{opening-passed, step-passed, fetch-passed, failure-passed, join-passed}
+use Rattle.protocol.proofs.Accepting.{desk-passed}
 use Rattle.protocol.proofs.Found.{Rack, NoneAway}
 use Rattle.protocol.proofs.Calling.{none-if-idle, opening-runs, step-runs}
 use Rattle.protocol.proofs.Answering.{fetched, desk-told}
@@ -49,7 +50,7 @@ pub record Good (call : Call) (out : ℕ → Bool) (b : Book) (result : Result) 
   pub here : NoneAway (result .directory) (away call out)
 
 -- a rack by its status
-running-rack : {d : Directory} {m : List ℕ} {b : Book} → Rack d m b → d .status ≡ Running → RunningRack d m b
+pub running-rack : {d : Directory} {m : List ℕ} {b : Book} → Rack d m b → d .status ≡ Running → RunningRack d m b
 unfolding awaitsRecovery
 running-rack (inl rack) running = rack
 running-rack (inr rack) running = absurd (true≢false (ap awaitsRecovery (sym (rack .1 .awaiting) ∙ running)))
@@ -79,16 +80,21 @@ module _ (d : Directory) (m : List ℕ) (b : Book) (out : ℕ → Bool) (rack : 
   opening-good c r list eight =
       by-checks (open-release c r list) (openingChecks d m c (r .number) list) 0 _ [] refl refl
       (λ p.
-        let passed = opening-passed d m c (r .number) list p in
-        record { tells = tt; rack = inl (opening-runs d m b (running (passed .runs)) c r list eight passed); here = here })
+      let passed = opening-passed d m c (r .number) list p in
+      record {
+        tells = tt;
+        rack = inl (opening-runs d m b (running (passed .runs)) c r list eight passed);
+        here =
+            here;
+      })
 
   step-good : (c : ℕ) → accepted (step d m c .outcome) ≡ true → Good (make-step c) out b (step d m c)
   unfolding step Tells feed away
   step-good c =
       by-checks (make-step c) (stepChecks d m c) 0 _ [] refl refl
       (λ p.
-        let passed = step-passed d m c p in
-        record { tells = tt; rack = inl (step-runs d m b (running (passed .runs)) c passed); here = here })
+      let passed = step-passed d m c p in
+      record { tells = tt; rack = inl (step-runs d m b (running (passed .runs)) c passed); here = here })
 
   fetch-good : (page : ℕ) (buffer : List ℕ) → accepted (fetch d m page buffer .outcome) ≡ true
       → Good (fetch-page page buffer) out b (fetch d m page buffer)
@@ -96,20 +102,25 @@ module _ (d : Directory) (m : List ℕ) (b : Book) (out : ℕ → Bool) (rack : 
   fetch-good page buffer =
       by-checks (fetch-page page buffer) (fetchChecks d m page (length buffer)) 0 _ buffer refl refl
       (λ p.
-        let passed = fetch-passed d m page (length buffer) p in
-        record { tells = fetched d m b (running (passed .runs)) page (length buffer) passed; rack = rack; here = here })
+      let passed = fetch-passed d m page (length buffer) p in
+      record {
+        tells = fetched d m b (running (passed .runs)) page (length buffer) passed;
+        rack = rack;
+        here =
+            here;
+      })
 
   failure-good : (c : ℕ) → accepted (failure d m c .outcome) ≡ true → Good (fail-card c) out b (failure d m c)
   unfolding failure Tells feed away
   failure-good c =
       by-checks (fail-card c) (failureChecks d m c) 0 _ [] refl refl
       (λ p.
-        let passed = failure-passed d m c p in
-        record {
-          tells = tt;
-          rack = inr (c, fails d c m b (running (passed .runs)) (passed .live) (two-stay d c (passed .many)));
-          here = still-here;
-        })
+      let passed = failure-passed d m c p in
+      record {
+        tells = tt;
+        rack = inr (c, fails d c m b (running (passed .runs)) (passed .live) (two-stay d c (passed .many)));
+        here = still-here;
+      })
     where
       still-here : (x : ℕ) → isLive (failedDirectory d c) x ≡ true → update out c true x ≡ false
       still-here x live =
@@ -123,13 +134,13 @@ module _ (d : Directory) (m : List ℕ) (b : Book) (out : ℕ → Bool) (rack : 
   join-good x =
       by-checks (join-card x) (joinChecks d m x) 0 _ [] refl refl
       (λ p.
-        let passed = join-passed d m x p in
-        let runs = running (passed .runs) in
-        record {
-          tells = tt;
-          rack = inl (joins d x m b runs (passed .dead) (passed .below) (idle runs (passed .none-open)));
-          here = still-here;
-        })
+      let passed = join-passed d m x p in
+      let runs = running (passed .runs) in
+      record {
+        tells = tt;
+        rack = inl (joins d x m b runs (passed .dead) (passed .below) (idle runs (passed .none-open)));
+        here = still-here;
+      })
     where
       idle : RunningRack d m b → ((c : ℕ) → c < d .cards → isOpen (d .live) (sizeOf d) m c ≡ false) → (c : ℕ)
           → b .release c ≡ none
@@ -155,16 +166,16 @@ module _ (d : Directory) (m : List ℕ) (b : Book) (out : ℕ → Bool) (rack : 
   desk-good c =
       by-checks (ask-desk c) (deskChecks d m c) 0 _ _ refl refl
       (λ p.
-        let runs = desk-passed d m c p in
-        record { tells = desk-told d m b (running (runs .0)) c (runs .1); rack = rack; here = here })
+      let runs = desk-passed d m c p in
+      record { tells = desk-told d m b (running (runs .0)) c (runs .1); rack = rack; here = here })
 
   recovery-good : accepted (recovery d m .outcome) ≡ true → Good recover out b (recovery d m)
   unfolding recovery awaitedCard Tells feed away
   recovery-good =
       by-checks recover (recoveryChecks d m) _ _ _ refl refl
       (λ p.
-        let awaited = awaiting-rack rack (not-false (awaitsRecovery (d .status)) (p .1 .1 .0)) in
-        recovered (awaited .0) (awaited .1) (given-value (recoveryChecks d m) _ p))
+      let awaited = awaiting-rack rack (not-false (awaitsRecovery (d .status)) (p .1 .1 .0)) in
+      recovered (awaited .0) (awaited .1) (given-value (recoveryChecks d m) _ p))
     where
       recovered : (f : ℕ) → AwaitingRack d f m b
           → firstRefusal (recoveryChecks d m) (failedRelease d (awaitedCard (d .status)) m .number)
@@ -181,11 +192,10 @@ module _ (d : Directory) (m : List ℕ) (b : Book) (out : ℕ → Bool) (rack : 
           let told : failedRelease d (awaitedCard (d .status)) m ≡ b .last (b .failed) =
           rw (card, awaiting .failed) (answers d f m b awaiting) in
           record {
-            tells =
-                (
-                  ap (λ (o : Outcome). o .value) gives ∙ ap (λ (r : Release). r .number) told,
-                  ap (λ (r : Release). r .desk) told,
-                );
+            tells = (
+              ap (λ (o : Outcome). o .value) gives ∙ ap (λ (r : Release). r .number) told,
+              ap (λ (r : Release). r .desk) told,
+            );
             rack = inl (rw card (recovers d f m b awaiting));
             here = λ c live. here c (subst (λ (marks : List Bool). liveAt marks c ≡ true) (marks card) live);
           }

@@ -1,14 +1,14 @@
 -- What an accepted call has passed: each of its checks, by name.
-use Prim.Native.Nat.{ℕ, zero, suc, _+_, _*_, _≤_, _<_}
-use mathlib.Core.Path.{_≡_, refl, sym, ap, _∙_}
+use Prim.Native.Nat.{ℕ, _+_, _<_}
+use mathlib.Core.Path.{_≡_, refl, sym, _∙_}
 use mathlib.Core.Logic.{_≢_}
-use mathlib.Core.List.{List, [], _∷_, _++_}
-use mathlib.Core.Bool.{Bool, true, false, cond, not, _&&_, _||_, true≢false}
+use mathlib.Core.List.{List, [], _∷_}
+use mathlib.Core.Bool.{Bool, true, false, cond, not, _&&_, true≢false}
 use native.Mathlib.Omega.{arith}
-use borrow.Author.Tests.{eq-eqb, ne-eqb, eqb-true, ltb-true, ltb-false, leb-true, leb-false, not-true, not-false}
+use borrow.Author.Tests.{eqb-true, ltb-false, leb-false, not-true, not-false}
 use lib.ListN.{length}
-use lib.Dec.{eqb, ltb, leb}
-use Rattle.laws.specs.Search.{someBelow, countBelow}
+use lib.Dec.{eqb, leb}
+use Rattle.laws.specs.Search.{countBelow}
 use Rattle.laws.proofs.Bools.{neither, and-first, and-second}
 use Rattle.laws.proofs.Search.{none-below}
 use Rattle.answer.specs.declared.Outcome.{Outcome}
@@ -19,9 +19,8 @@ use Rattle.directory.specs.declared.Status.the-variants.{Running, Awaiting}
 use Rattle.directory.specs.Directory.{isLive}
 use Rattle.diff.specs.Reading.{checkDiff}
 use Rattle.diff.specs.OnlyDiff.{Allowed}
-use Rattle.protocol.specs.Release.{Release, sizeOf, ownRelease, isOpen}
-use Rattle.protocol.specs.Checks.{Check, firstRefusal, outsideLimits, unfitRack, awaitsRecovery, noSuchCard, noLiveCard}
-use Rattle.protocol.specs.Checks.{fittingChecks, runningChecks}
+use Rattle.protocol.specs.Release.{sizeOf, ownRelease, isOpen}
+use Rattle.protocol.specs.Checks.{Check, firstRefusal, outsideLimits, unfitRack, awaitsRecovery, noLiveCard}
 use Rattle.protocol.specs.Result.{Result, accepted, resultOf}
 use Rattle.protocol.specs.Opening.{openingChecks, sharesWith}
 use Rattle.protocol.specs.Step.{stepChecks}
@@ -41,7 +40,8 @@ abbrev pub Passed : List Check → Type 0
 Passed [] = Unit {0}
 Passed (c ∷ cs) = (c .refuses ≡ false) × Passed cs
 
-pub all-passed : (cs : List Check) (value : ℕ) → numbered cs ≡ true → accepted (firstRefusal cs value) ≡ true → Passed cs
+pub all-passed : (cs : List Check) (value : ℕ) → numbered cs ≡ true → accepted (firstRefusal cs value) ≡ true
+    → Passed cs
 unfolding firstRefusal
 all-passed [] value real ok = tt
 all-passed (c ∷ cs) value real ok =
@@ -51,11 +51,13 @@ all-passed (c ∷ cs) value real ok =
         → accepted (cond refuses (record { number = c .number; value = c .place }) (firstRefusal cs value)) ≡ true
         → (accepted (firstRefusal cs value) ≡ true → Passed cs) → (c .refuses ≡ false) × Passed cs
     go true is ok rest =
-        absurd (true≢false (sym ok ∙ not-true (eqb (c .number) 0) (and-first (not (eqb (c .number) 0)) (numbered cs) real)))
+        absurd (true≢false (sym ok
+        ∙ not-true (eqb (c .number) 0) (and-first (not (eqb (c .number) 0)) (numbered cs) real)))
     go false is ok rest = (is, rest ok)
 
 -- what an accepted outcome gives
-pub given-value : (cs : List Check) (value : ℕ) → Passed cs → firstRefusal cs value ≡ record { number = 0; value = value }
+pub given-value : (cs : List Check) (value : ℕ) → Passed cs
+    → firstRefusal cs value ≡ record { number = 0; value = value }
 unfolding firstRefusal
 given-value [] value passed = refl
 given-value (c ∷ cs) value passed = rw (passed .0) (given-value cs value (passed .1))
@@ -135,12 +137,14 @@ pub record JoinPassed (d : Directory) (m : List ℕ) (x : ℕ) : Type 0 where
   pub none-open : (c : ℕ) → c < d .cards → isOpen (d .live) (sizeOf d) m c ≡ false
 
 module _ (d : Directory) (m : List ℕ) where
-  runs-by : outsideLimits (length m) (d .cards) (d .pages) ≡ false → unfitRack d m ≡ false → awaitsRecovery (d .status) ≡ false
+  runs-by : outsideLimits (length m) (d .cards) (d .pages) ≡ false → unfitRack d m ≡ false
+      → awaitsRecovery (d .status) ≡ false
       → Runs d m
   runs-by limits fit idle =
       record { fits = record { limits = limits; fit = fit }; running = running-status (d .status) idle }
 
-  pub opening-passed : (c number : ℕ) (list : List ℕ) → Passed (openingChecks d m c number list) → OpeningPassed d m c number list
+  pub opening-passed : (c number : ℕ) (list : List ℕ) → Passed (openingChecks d m c number list)
+      → OpeningPassed d m c number list
   opening-passed c number list p =
       let card = live-card d c (p .1 .1 .1 .0) in
       let rest = p .1 .1 .1 .1 in

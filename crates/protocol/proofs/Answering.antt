@@ -42,7 +42,8 @@ page-named pages [] page word on small named = absurd (false≢true named)
 page-named pages (p ∷ ps) page word on small named =
     go (eqb (labelOf p) (32 * page + word)) refl named (page-named pages ps page word (on .2) small)
   where
-    go : (here : Bool) → eqb (labelOf p) (32 * page + word) ≡ here → cond here true (names ps (32 * page + word)) ≡ true
+    go : (here : Bool) → eqb (labelOf p) (32 * page + word) ≡ here
+        → cond here true (names ps (32 * page + word)) ≡ true
         → (names ps (32 * page + word) ≡ true → namesPage ps page ≡ true)
         → cond (eqb (p .page) page) true (namesPage ps page) ≡ true
     go true here named rest =
@@ -69,7 +70,8 @@ module _ (d : Directory) (m : List ℕ) (b : Book) (rack : RunningRack d m b) wh
     quiet c r list s w is small named =
         elim (decLt s (countsAt (length (listPrices list)))) [
           | yes early ↦ early
-          | no late ↦ absurd (true≢false (sym (moving (omega arith)) ∙ passed .still c (rack .core .shape .below c (stands .0))))
+          | no late ↦ absurd (true≢false
+              (sym (moving (omega arith)) ∙ passed .still c (rack .core .shape .below c (stands .0))))
         ]
       where
         stands : (isLive d c ≡ true) × OpenStands (d .pages) m c r list s
@@ -119,13 +121,15 @@ module _ (d : Directory) (m : List ℕ) (b : Book) (rack : RunningRack d m b) wh
       let up : isLive d (nextLiveOf d c) ≡ true = next-is-live d (rack .two) (rack .core .shape .below) c in
       let held = rack .records c (nextLiveOf d c) dead real up in
       recorded-is (sizeOf d) m (nextLiveOf d c) c (b .last c) (area-of-live (rack .core .shape) (nextLiveOf d c) up)
-      (omega arith) (omega (arith, rack .core .shape .few-cards)) (rack .core .last-eight c) (held .stamped) (held .desked)
+      (omega arith) (omega (arith, rack .core .shape .few-cards)) (rack .core .last-eight c) (held .stamped)
+      (held .desked)
 
   pub desk-told : (c : ℕ) → c < d .cards → b .release c ≡ none → deskOf d m c ≡ b .last c .desk
   unfolding deskOf
   desk-told c real idle = go (isLive d c) refl
     where
       go : (up : Bool) → isLive d c ≡ up
-          → cond up (ownRelease (sizeOf d) m c .desk) (recordedRelease (sizeOf d) m (nextLiveOf d c) c .desk) ≡ b .last c .desk
+          → cond up (ownRelease (sizeOf d) m c .desk) (recordedRelease (sizeOf d) m (nextLiveOf d c) c .desk) ≡ b .last
+          c .desk
       go true live = ap (λ (r : Release). r .desk) (own-is-last c live idle)
       go false dead = ap (λ (r : Release). r .desk) (recorded c real dead)

@@ -1,5 +1,7 @@
--- The claim on page words while releases are under way: the writes that a card has still to make, laid over what memory has
--- in a word that no other card's open list names, give the book's price of it, with the prices that the book has not yet.
+-- The claim on page words while releases are under way: the writes that a card has still to make, laid over what
+-- memory has
+-- in a word that no other card's open list names, give the book's price of it, with the prices that the book has not
+-- yet.
 use Prim.Native.Nat.{ℕ, _+_, _*_, _≤_, _<_}
 use mathlib.Core.Path.{_≡_, refl, sym, ap, _∙_, subst}
 use mathlib.Core.Logic.{_≢_}
@@ -25,7 +27,8 @@ Alone release c label = (x : ℕ) → x ≢ c → names (pricesIn (release x)) l
 
 -- no two open releases name one label
 abbrev pub Apart : (ℕ → Opened) → Type 0
-Apart release = (c x label : ℕ) → x ≢ c → names (pricesIn (release c)) label ≡ true → names (pricesIn (release x)) label ≡ false
+Apart release = (c x label : ℕ) → x ≢ c → names (pricesIn (release c)) label ≡ true
+    → names (pricesIn (release x)) label ≡ false
 
 -- a word of a page at a live home
 pub record HomeWord (d : Directory) (h p w : ℕ) : Type 0 where
@@ -34,7 +37,8 @@ pub record HomeWord (d : Directory) (h p w : ℕ) : Type 0 where
   pub page : p < d .pages
   pub word : w < 32
 
--- One half of the pages, tentative or committed: where it stands, what a card's release has still to write (the half's words
+-- One half of the pages, tentative or committed: where it stands, what a card's release has still to write (the half's
+-- words
 -- among it), and the prices that the book has not yet. Neither speaks of a label that the release does not name.
 pub record Half (d : Directory) : Type 0 where
   pub half : ℕ
@@ -42,7 +46,8 @@ pub record Half (d : Directory) : Type 0 where
   pub due : Opened → List Price
   pub todo-none : (c : ℕ) → todo c none ≡ []
   pub due-none : due none ≡ []
-  pub todo-unnamed : (c h p w v : ℕ) (R : Opened) → c < 8 → EightWords R → w < 32 → names (pricesIn R) (32 * p + w) ≡ false
+  pub todo-unnamed : (c h p w v : ℕ) (R : Opened) → c < 8 → EightWords R → w < 32
+      → names (pricesIn R) (32 * p + w) ≡ false
       → over (todo c R) h (pageStart p + (half + w)) v ≡ v
   pub due-unnamed : (label v : ℕ) (R : Opened) → names (pricesIn R) label ≡ false → laidAt (due R) label v ≡ v
 
@@ -61,7 +66,8 @@ pub record Claim (d : Directory) (H : Half d) (release : ℕ → Opened) (price 
 
 -- ---- only card c moves: its own words go from the old claim to the new, and what others claim is not touched
 
-module _ (d : Directory) (H : Half d) (release : ℕ → Opened) (price price′ : ℕ → ℕ) (m m′ : List ℕ) (c : ℕ) (R : Opened)
+module _ (d : Directory) (H : Half d) (release : ℕ → Opened) (price price′ : ℕ → ℕ) (m m′ : List ℕ) (c : ℕ)
+    (R : Opened)
   where
     pub record Moves : Type 0 where
       -- the new release names no fewer labels
@@ -75,7 +81,8 @@ module _ (d : Directory) (H : Half d) (release : ℕ → Opened) (price price′
     pub claim-moves : Moves → Claim d H release price m → Claim d H (update release c R) price′ m′
     claim-moves moves claim = record { agrees = λ x h p w few word alone. at x h p w few word alone (ℕ-discrete x c) }
       where
-        before : (x h p w : ℕ) → HomeWord d h p w → Alone (update release c R) x (32 * p + w) → Alone release x (32 * p + w)
+        before : (x h p w : ℕ) → HomeWord d h p w → Alone (update release c R) x (32 * p + w)
+            → Alone release x (32 * p + w)
         before x h p w word alone y other =
             elim (ℕ-discrete y c) [
               | yes same ↦ rw same (moves .grows (32 * p + w) (rw (same, update-same) at (alone y other)))
@@ -89,7 +96,12 @@ module _ (d : Directory) (H : Half d) (release : ℕ → Opened) (price price′
             (moves .own h p w word (rw same at (claim .agrees x h p w few word (before x h p w word alone))))
         at x h p w few word alone (no other) =
             let unnamed = rw (update-same release c R) at (alone c (λ e. other (sym e))) in
-            rw (update-other release c R x other, moves .same-word h p w word unnamed, moves .same-price (32 * p + w) unnamed)
+            rw (
+              update-other release c R x other,
+              moves .same-word h p w word unnamed,
+              moves .same-price (32 * p + w)
+                  unnamed,
+            )
             (claim .agrees x h p w few word (before x h p w word alone))
 
 -- ---- card c's release is struck out, with nothing of it to write or to count
@@ -143,7 +155,8 @@ module _ (d : Directory) (H : Half d) (release : ℕ → Opened) (price : ℕ �
 
 pub claim-kept : (d d′ : Directory) (H : Half d) (H′ : Half d′) (release : ℕ → Opened) (price : ℕ → ℕ) (m m′ : List ℕ)
     → ((c h p w : ℕ) → HomeWord d′ h p w → HomeWord d h p w)
-    → ((c h p w v : ℕ) → HomeWord d′ h p w → Agrees d H c (release c) price h p w v → Agrees d′ H′ c (release c) price h p w v)
+    → ((c h p w v : ℕ) → HomeWord d′ h p w → Agrees d H c (release c) price h p w v
+    → Agrees d′ H′ c (release c) price h p w v)
     → ((h p w : ℕ) → HomeWord d′ h p w → wordIn d′ H′ m′ h p w ≡ wordIn d H m h p w)
     → Claim d H release price m → Claim d′ H′ release price m′
 claim-kept d d′ H H′ release price m m′ fewer same words claim =

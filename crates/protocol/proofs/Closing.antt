@@ -1,4 +1,5 @@
--- Open releases run to their close, one after the other: the invariant survives, and the book counts those that did not
+-- Open releases run to their close, one after the other: the invariant survives, and the book counts those that did
+-- not
 -- count yet and strikes all out.
 use Prim.Native.Nat.{ℕ, zero, suc, _+_, _-_, _*_, _≤_, _<_}
 use mathlib.Core.Path.{_≡_, refl, sym, ap, _∙_, subst, fun-ext}
@@ -20,7 +21,8 @@ use Rattle.protocol.specs.Release.{Release, sizeOf, openPrices, stepsOf,
 use Rattle.protocol.specs.Recovery.{backupBefore, stepTimes, runToClose, closeReleases}
 use Rattle.protocol.specs.Book.{Opened, none, opened, listPrices, Book, update, count, setOpen, stepBook}
 use Rattle.protocol.specs.Book.{countUncounted, countOpen, strikeOpen}
-use Rattle.protocol.proofs.BookLaws.{update-same, update-other, step-book-plain, step-book-counts, step-book-closes}
+use Rattle.protocol.proofs.BookLaws.{update-same, update-other, step-book-plain, step-book-counts}
+use Rattle.protocol.proofs.BookLaws.{step-book-closes}
 use Rattle.protocol.proofs.Core.{Core, OpenStands, Standing}
 use Rattle.protocol.proofs.StepCore.{step-core}
 
@@ -37,7 +39,12 @@ update-update f c a a′ = fun-ext (λ x. go x (ℕ-discrete x c))
   where
     go : (x : ℕ) → Dec (x ≡ c) → update (update f c a) c a′ x ≡ update f c a′ x
     go x (yes same) = rw (same, update-same (update f c a) c a′, update-same f c a′)
-    go x (no other) = rw (update-other (update f c a) c a′ x other, update-other f c a x other, update-other f c a′ x other)
+    go x (no other) = rw (
+      update-other (update f c a) c a′ x other,
+      update-other f c a x other,
+      update-other f c a′ x
+          other,
+    )
 
 -- ---- one release
 
@@ -72,7 +79,8 @@ module _ (b : Book) (c : ℕ) (r : Release) (list : List ℕ) (s : ℕ) where
             count-early b c r list s (omega arith),
           )
           (book-as refl refl (update-update (b .release) c R′ none) refl)
-      go (no plain) = rw (step-book-plain b c r list s plain on) (counted (decLt s (countsAt (length (listPrices list)))))
+      go (no plain) = rw (step-book-plain b c r list s plain on)
+          (counted (decLt s (countsAt (length (listPrices list)))))
         where
           counted : Dec (s < countsAt (length (listPrices list)))
               → closedBook (setOpen b c R′) c R′ ≡ closedBook b c (opened r list s)
@@ -93,18 +101,22 @@ module _ (d : Directory) (backup : ℕ → ℕ) (old : ℕ → ℕ → ℕ) (T C
   abbrev Kept : List ℕ → Book → Type 0
   Kept m b = Core d backup old T C m b
 
-  run-core : (n s : ℕ) (m : List ℕ) (b : Book) → b .release c ≡ opened r list s → s + suc n ≡ stepsIn (length (listPrices list))
+  run-core : (n s : ℕ) (m : List ℕ) (b : Book) → b .release c ≡ opened r list s
+      → s + suc n ≡ stepsIn (length (listPrices list))
       → Kept m b → Kept (stepTimes d (backup c) c (suc n) m) (closedBook b c (opened r list s))
   unfolding stepTimes
   run-core zero s m b is left core =
       subst (Kept (stepMemory d (backup c) m c)) (closed-last b c r list s (omega arith))
       (step-core d backup old T C m b core c live r list s is)
   run-core (suc n) s m b is left core =
-      subst (Kept (stepTimes d (backup c) c (suc n) (stepMemory d (backup c) m c))) (closed-step b c r list s (omega arith))
-      (run-core n (suc s) (stepMemory d (backup c) m c) (stepBook b c (opened r list s)) (still-open (omega arith)) (omega arith)
+      subst (Kept (stepTimes d (backup c) c (suc n) (stepMemory d (backup c) m c)))
+      (closed-step b c r list s (omega arith))
+      (run-core n (suc s) (stepMemory d (backup c) m c) (stepBook b c (opened r list s)) (still-open (omega arith))
+      (omega arith)
       (step-core d backup old T C m b core c live r list s is))
     where
-      still-open : suc s ≢ stepsIn (length (listPrices list)) → stepBook b c (opened r list s) .release c ≡ opened r list (suc s)
+      still-open : suc s ≢ stepsIn (length (listPrices list))
+          → stepBook b c (opened r list s) .release c ≡ opened r list (suc s)
       still-open on = go (ℕ-discrete (suc s) (countsAt (length (listPrices list))))
         where
           go : Dec (suc s ≡ countsAt (length (listPrices list)))
@@ -133,7 +145,8 @@ module _ (d : Directory) (f : ℕ) (old : ℕ → ℕ → ℕ) (T C : Type 0) wh
   KeptBefore m b = Core d (backupBefore d f) old T C m b
 
   -- a card with nothing open
-  idle-core : (c : ℕ) (m : List ℕ) (b : Book) → b .release c ≡ none → isOpen (d .live) (sizeOf d) m c ≡ false → KeptBefore m b
+  idle-core : (c : ℕ) (m : List ℕ) (b : Book) → b .release c ≡ none → isOpen (d .live) (sizeOf d) m c ≡ false
+      → KeptBefore m b
       → KeptBefore (runToClose d f c m) (closedBook b c (b .release c))
   unfolding runToClose
   idle-core c m b is shut core = rw (shut, is) (subst (KeptBefore m) (sym (closed-none b c is)) core)
@@ -158,10 +171,12 @@ module _ (d : Directory) (f : ℕ) (old : ℕ → ℕ → ℕ) (T C : Type 0) wh
         → runToClose d f c m ≡ stepTimes d (backupBefore d f c) c (suc (stepsIn (length (listPrices list)) - suc s)) m
     unfolding runToClose
     runs under =
-        let left : stepsIn (length (listPrices list)) - s ≡ suc (stepsIn (length (listPrices list)) - suc s) = omega arith in
+        let left : stepsIn (length (listPrices list)) - s ≡ suc (stepsIn (length (listPrices list)) - suc s) = omega
+        arith in
         rw (is-open, standing .stands .prices, standing .stands .steps, left)
 
-  close-one : (c : ℕ) (m : List ℕ) (b : Book) → KeptBefore m b → KeptBefore (runToClose d f c m) (closedBook b c (b .release c))
+  close-one : (c : ℕ) (m : List ℕ) (b : Book) → KeptBefore m b
+      → KeptBefore (runToClose d f c m) (closedBook b c (b .release c))
   close-one c m b core = by-card (isLive d c) refl
     where
       by-release : isLive d c ≡ true → (R : Opened) → b .release c ≡ R → Standing (d .pages) m c R
@@ -170,12 +185,14 @@ module _ (d : Directory) (f : ℕ) (old : ℕ → ℕ → ℕ) (T C : Type 0) wh
       by-release live (opened r list s) is standing =
           let under : s < stepsIn (length (listPrices list)) = rw is at (core .under c) in
           rw (runs live standing under, is)
-          (run-core d (backupBefore d f) old T C c live r list (stepsIn (length (listPrices list)) - suc s) s m b is (omega arith)
+          (run-core d (backupBefore d f) old T C c live r list (stepsIn (length (listPrices list)) - suc s) s m b is
+          (omega arith)
           core)
 
       by-card : (up : Bool) → isLive d c ≡ up → KeptBefore (runToClose d f c m) (closedBook b c (b .release c))
       by-card true live = by-release live (b .release c) refl (core .standing c live)
-      by-card false dead = idle-core c m b (core .gone c dead) (not-open c m (λ live. absurd (true≢false (sym live ∙ dead)))) core
+      by-card false dead = idle-core c m b (core .gone c dead)
+          (not-open c m (λ live. absurd (true≢false (sym live ∙ dead)))) core
 
 -- ---- all of them
 
@@ -184,7 +201,8 @@ unfoldable pub closedBooks : ℕ → Book → Book
 closedBooks n b = inTurn (λ c b. closedBook b c (b .release c)) n b
 
 pub close-below : (d : Directory) (f : ℕ) (old : ℕ → ℕ → ℕ) (T C : Type 0) (n : ℕ) (m : List ℕ) (b : Book)
-    → Core d (backupBefore d f) old T C m b → Core d (backupBefore d f) old T C (inTurn (runToClose d f) n m) (closedBooks n b)
+    → Core d (backupBefore d f) old T C m b
+    → Core d (backupBefore d f) old T C (inTurn (runToClose d f) n m) (closedBooks n b)
 unfolding inTurn closedBooks
 close-below d f old T C zero m b core = core
 close-below d f old T C (suc n) m b core =
@@ -243,17 +261,20 @@ module _ (b : Book) where
           let counts = count-same n (now .release n) now (counted n) (below .same) in
           let kept = count-keeps-open n (now .release n) now in
           record {
-            same = rw (← (below .left n (omega arith))) (record { price = counts .price; last = counts .last; failed = counts .failed });
+            same = rw (← (below .left n (omega arith)))
+                (record { price = counts .price; last = counts .last; failed = counts .failed });
             struck = λ x small.
                 elim (ℕ-discrete x n) [
                   | yes here ↦ rw (kept, here) (update-same (now .release) n none)
                   | no other ↦ rw kept (update-other (now .release) n none x other ∙ below .struck x (omega arith))
                 ];
-            left = λ x above. rw kept (update-other (now .release) n none x (omega arith) ∙ below .left x (omega arith));
+            left = λ x above. rw kept
+                (update-other (now .release) n none x (omega arith) ∙ below .left x (omega arith));
           }
 
   -- past the cards nothing is open
-  counted-past : (cards more : ℕ) → ((x : ℕ) → cards ≤ x → b .release x ≡ none) → counted (cards + more) ≡ counted cards
+  counted-past : (cards more : ℕ) → ((x : ℕ) → cards ≤ x → b .release x ≡ none)
+      → counted (cards + more) ≡ counted cards
   unfolding counted inTurn
   counted-past cards zero idle = rw (add-zero cards)
   counted-past cards (suc more) idle =

@@ -1,5 +1,7 @@
--- The invariant between memory, directory and book that a step keeps, with the rack running or awaiting recovery. `backup`
--- is each card's backup, from before the failure where one is awaited. T and C say when the claims on the tentative and the
+-- The invariant between memory, directory and book that a step keeps, with the rack running or awaiting recovery.
+-- `backup`
+-- is each card's backup, from before the failure where one is awaited. T and C say when the claims on the tentative
+-- and the
 -- committed words are made. `old` is what the records of dead cards say.
 use Prim.Native.Nat.{ℕ, zero, suc, _+_, _*_, _≤_, _<_}
 use mathlib.Core.Path.{_≡_, refl, sym, ap, _∙_, subst}
@@ -19,7 +21,8 @@ use Rattle.diff.specs.Prices.{names, laidAt}
 use Rattle.protocol.specs.Release.{Release, sizeOf, ownRelease, openList, openPrices, stepsOf, stepMemory, close}
 use Rattle.protocol.specs.Release.{countsAt, stepsIn}
 use Rattle.protocol.specs.Book.{Opened, none, opened, listPrices, Book, update, count, setOpen, stepBook}
-use Rattle.protocol.proofs.Shape.{Shape, SameOwn, SameRelease, shape-kept, own-kept, open-kept, list-kept, steps-kept}
+use Rattle.protocol.proofs.Shape.{Shape, SameOwn, SameRelease, shape-kept, own-kept, open-kept, list-kept}
+use Rattle.protocol.proofs.Shape.{steps-kept}
 use Rattle.protocol.proofs.Shape.{same-own-release}
 use Rattle.protocol.proofs.Over.{written, written-other-offset}
 use Rattle.protocol.proofs.Stepped.{StandsIn, stepWrite, length-step, load-step, steps-step, step-keeps}
@@ -48,28 +51,30 @@ abbrev pub Under : Opened → Type 0
 Under none = Unit {0}
 Under (opened r list s) = s < stepsIn (length (listPrices list))
 
-pub record Core (d : Directory) (backup : ℕ → ℕ) (old : ℕ → ℕ → ℕ) (T C : Type 0) (m : List ℕ) (b : Book) : Type 0 where
-  pub shape : Shape d m
-  pub standing : (c : ℕ) → isLive d c ≡ true → Standing (d .pages) m c (b .release c)
-  pub gone : (c : ℕ) → isLive d c ≡ false → b .release c ≡ none
-  pub under : (c : ℕ) → Under (b .release c)
-  pub eights : (c : ℕ) → EightWords (b .release c)
-  pub last-eight : (c : ℕ) → length (b .last c .desk) ≡ 8
-  pub apart : Apart (b .release)
-  pub numbers : (c : ℕ) → Numbers (b .release c) (b .last c)
-  pub owns : (c : ℕ) → isLive d c ≡ true → Own (b .release c) (ownRelease (sizeOf d) m c) (b .last c)
-  pub tentative : T → Claim d (tentatives d backup) (b .release) (b .price) m
-  pub committed : C → Claim d (committeds d backup) (b .release) (b .price) m
-  -- the record of each live card on its backup, and those of dead cards on every live card
-  pub held : (c : ℕ) → isLive d c ≡ true → isLive d (backup c) ≡ true
-      → Held c (b .release c) (b .last c) (load (sizeOf d) m (backup c))
-  pub dead : (g h o : ℕ) → isLive d g ≡ false → g < d .cards → isLive d h ≡ true → 20 + 18 * g ≤ o → o < 38 + 18 * g
-      → load (sizeOf d) m h o ≡ old h o
+pub record Core (d : Directory) (backup : ℕ → ℕ) (old : ℕ → ℕ → ℕ) (T C : Type 0) (m : List ℕ) (b : Book) : Type 0
+  where
+    pub shape : Shape d m
+    pub standing : (c : ℕ) → isLive d c ≡ true → Standing (d .pages) m c (b .release c)
+    pub gone : (c : ℕ) → isLive d c ≡ false → b .release c ≡ none
+    pub under : (c : ℕ) → Under (b .release c)
+    pub eights : (c : ℕ) → EightWords (b .release c)
+    pub last-eight : (c : ℕ) → length (b .last c .desk) ≡ 8
+    pub apart : Apart (b .release)
+    pub numbers : (c : ℕ) → Numbers (b .release c) (b .last c)
+    pub owns : (c : ℕ) → isLive d c ≡ true → Own (b .release c) (ownRelease (sizeOf d) m c) (b .last c)
+    pub tentative : T → Claim d (tentatives d backup) (b .release) (b .price) m
+    pub committed : C → Claim d (committeds d backup) (b .release) (b .price) m
+    -- the record of each live card on its backup, and those of dead cards on every live card
+    pub held : (c : ℕ) → isLive d c ≡ true → isLive d (backup c) ≡ true
+        → Held c (b .release c) (b .last c) (load (sizeOf d) m (backup c))
+    pub dead : (g h o : ℕ) → isLive d g ≡ false → g < d .cards → isLive d h ≡ true → 20 + 18 * g ≤ o → o < 38 + 18 * g
+        → load (sizeOf d) m h o ≡ old h o
 
 -- ---- a step before the close
 
 -- memory keeps what it has of a release whose words are kept
-pub standing-kept : (pages : ℕ) (m m′ : List ℕ) (c : ℕ) (R : Opened) → SameOwn (areaSize pages) m m′ c → Standing pages m c R
+pub standing-kept : (pages : ℕ) (m m′ : List ℕ) (c : ℕ) (R : Opened) → SameOwn (areaSize pages) m m′ c
+    → Standing pages m c R
     → Standing pages m′ c R
 standing-kept pages m m′ c none same standing = same .low releaseOpen (omega arith) ∙ standing
 standing-kept pages m m′ c (opened r list s) same standing =
@@ -159,8 +164,10 @@ module _ (d : Directory) (backup : ℕ → ℕ) (old : ℕ → ℕ → ℕ) (T C
     write-core =
         record {
           shape = shape-kept (core .shape) m′ (kept .same-length);
-          standing = update-each (b .release) c R′ (λ x R. isLive d x ≡ true → Standing (d .pages) m′ x R) (λ _. own-stands)
-              (λ x other up. standing-kept (d .pages) m m′ x (b .release x) (kept-other x up other) (core .standing x up));
+          standing = update-each (b .release) c R′ (λ x R. isLive d x ≡ true → Standing (d .pages) m′ x R)
+              (λ _. own-stands)
+              (λ x other up. standing-kept (d .pages) m m′ x (b .release x) (kept-other x up other)
+              (core .standing x up));
           gone = update-each (b .release) c R′ (λ x R. isLive d x ≡ false → R ≡ none)
               (λ dead. absurd (true≢false (sym live ∙ dead))) (λ x other. core .gone x);
           under = update-each (b .release) c R′ (λ x R. Under R) (omega arith) (λ x other. core .under x);
@@ -186,15 +193,20 @@ module _ (d : Directory) (backup : ℕ → ℕ) (old : ℕ → ℕ → ℕ) (T C
               (λ h p w word. wrote h _ (word .live) (omega (arith, word .page, word .word)) (omega arith))
               (core .committed t);
           held = update-each (b .release) c R′
-              (λ x R. isLive d x ≡ true → isLive d (backup x) ≡ true → Held x R (last x) (load (sizeOf d) m′ (backup x)))
-              (λ _ up. step-held r list s (b .last c) (last c) lasts (rw is at (core .numbers c)) d (backup c) c few eight before
+              (λ x R. isLive d x ≡ true → isLive d (backup x) ≡ true
+              → Held x R (last x) (load (sizeOf d) m′ (backup x)))
+              (λ _ up. step-held r list s (b .last c) (last c) lasts (rw is at (core .numbers c)) d (backup c) c few
+              eight before
               (load (sizeOf d) m (backup c)) (load (sizeOf d) m′ (backup c))
-              (λ o above below. wrote (backup c) o up (omega (arith, few)) (omega arith)) (rw is at (core .held c live up)))
+              (λ o above below. wrote (backup c) o up (omega (arith, few)) (omega arith))
+              (rw is at (core .held c live up)))
               (λ x other lives up. rw (others x other)
               (held-kept x (b .release x) (b .last x) (load (sizeOf d) m (backup x)) (load (sizeOf d) m′ (backup x))
-              (λ o above below. kept-record x (backup x) o (small x lives) other up above below) (core .held x lives up)));
+              (λ o above below. kept-record x (backup x) o (small x lives) other up above below)
+              (core .held x lives up)));
           dead = λ g h o gone few′ up above below.
-              kept-record g h o (omega (arith, core .shape .few-cards)) (λ e. true≢false (sym live ∙ ap (isLive d) (sym e) ∙ gone))
+              kept-record g h o (omega (arith, core .shape .few-cards))
+              (λ e. true≢false (sym live ∙ ap (isLive d) (sym e) ∙ gone))
               up above below
               ∙ core .dead g h o gone few′ up above below;
         }

@@ -29,7 +29,8 @@ pub record SameLive (d : Directory) (m m′ : List ℕ) : Type 0 where
   pub same-length : length m′ ≡ length m
   pub same : (h o : ℕ) → isLive d h ≡ true → o < sizeOf d → load (sizeOf d) m′ h o ≡ load (sizeOf d) m h o
 
-pub same-live-own : {d : Directory} {m m′ : List ℕ} → SameLive d m m′ → (c : ℕ) → isLive d c ≡ true → SameOwn (sizeOf d) m m′ c
+pub same-live-own : {d : Directory} {m m′ : List ℕ} → SameLive d m m′ → (c : ℕ) → isLive d c ≡ true
+    → SameOwn (sizeOf d) m m′ c
 same-live-own agree c live =
     record {
       same-length = agree .same-length;
@@ -43,7 +44,8 @@ module _ (d : Directory) (backup : ℕ → ℕ) (old : ℕ → ℕ → ℕ) (T C
   core-found first second core =
       record {
         shape = shape-kept (core .shape) m′ (agree .same-length);
-        standing = λ c live. standing-kept (d .pages) m m′ c (b .release c) (same-live-own agree c live) (core .standing c live);
+        standing = λ c live. standing-kept (d .pages) m m′ c (b .release c) (same-live-own agree c live)
+            (core .standing c live);
         gone = core .gone;
         under = core .under;
         eights = core .eights;
@@ -51,14 +53,20 @@ module _ (d : Directory) (backup : ℕ → ℕ) (old : ℕ → ℕ → ℕ) (T C
         apart = core .apart;
         numbers = core .numbers;
         owns = λ c live.
-            rw (own-kept (sizeOf d) m m′ c (same-own-release (sizeOf d) m m′ c (same-live-own agree c live))) (core .owns c live);
+            rw (own-kept (sizeOf d) m m′ c (same-own-release (sizeOf d) m m′ c (same-live-own agree c live)))
+            (core .owns c live);
         tentative = λ t.
-            claim-kept d d (tentatives d backup) (tentatives d backup) (b .release) (b .price) m m′ (λ c h p w word. word)
-            (λ c h p w v word agrees. agrees) (λ h p w word. page-word h p w word _ (omega arith)) (core .tentative (first t));
+            claim-kept d d (tentatives d backup) (tentatives d backup) (b .release) (b .price) m m′
+            (λ c h p w word. word)
+            (λ c h p w v word agrees. agrees) (λ h p w word. page-word h p w word _ (omega arith))
+            (core .tentative (first t));
         committed = λ t.
-            claim-kept d d (committeds d backup) (committeds d backup) (b .release) (b .price) m m′ (λ c h p w word. word)
-            (λ c h p w v word agrees. agrees) (λ h p w word. page-word h p w word _ (omega arith)) (core .committed (second t));
-        held = λ c live up. held-kept c (b .release c) (b .last c) _ _ (λ o above below. record-word c o live up above below) (core .held c live up);
+            claim-kept d d (committeds d backup) (committeds d backup) (b .release) (b .price) m m′
+            (λ c h p w word. word)
+            (λ c h p w v word agrees. agrees) (λ h p w word. page-word h p w word _ (omega arith))
+            (core .committed (second t));
+        held = λ c live up. held-kept c (b .release c) (b .last c) _ _
+            (λ o above below. record-word c o live up above below) (core .held c live up);
         dead = λ g h o gone little up above below.
             agree .same h o up (omega (arith, core .shape .few-cards)) ∙ core .dead g h o gone little up above below;
       }
@@ -111,9 +119,11 @@ module _ (d : Directory) (backup : ℕ → ℕ) (old : ℕ → ℕ → ℕ) (T C
           (load (sizeOf d) m h (pageStart p + (committedHalf + w)))
           ≡ load (sizeOf d) m h (pageStart p + (committedHalf + w))
           → load (sizeOf d) m h (pageStart p + (committedHalf + w)) ≡ b .price (32 * p + w)
-      settle c few alone idle = sym idle ∙ core .committed claims .agrees c h p w few word alone ∙ laid-none (32 * p + w) _
+      settle c few alone idle = sym idle ∙ core .committed claims .agrees c h p w few word alone
+          ∙ laid-none (32 * p + w) _
 
-      by-namer : (c : ℕ) → c < 8 → names (pricesIn (b .release c)) (32 * p + w) ≡ true → (R : Opened) → b .release c ≡ R
+      by-namer : (c : ℕ) → c < 8 → names (pricesIn (b .release c)) (32 * p + w) ≡ true → (R : Opened)
+          → b .release c ≡ R
           → load (sizeOf d) m h (pageStart p + (committedHalf + w)) ≡ b .price (32 * p + w)
       by-namer c few named none is = absurd (false≢true (sym (names-none (32 * p + w)) ∙ (rw is at named)))
       by-namer c few named (opened r list s) is =

@@ -1,6 +1,6 @@
 -- Of three live cards, two stay when one fails.
 use Prim.Native.Nat.{ℕ, zero, suc, _+_, _≤_, _<_}
-use mathlib.Core.Path.{_≡_, refl, sym, ap, _∙_}
+use mathlib.Core.Path.{_≡_, refl, _∙_}
 use mathlib.Core.Logic.{_≢_}
 use mathlib.Core.Bool.{Bool, true, false, cond}
 use native.Mathlib.Omega.{arith}
@@ -49,11 +49,13 @@ module _ (d : Directory) (c : ℕ) where
       let z = highest (isLive d) 0 (y .index) (y .others) in
       elim (ℕ-discrete (x .index) c) [
         | yes here ↦
-            pair (y .index) (z .index) (omega (arith, z .below)) (omega (arith, y .below)) (omega (arith, y .below, z .below))
+            pair (y .index) (z .index) (omega (arith, z .below)) (omega (arith, y .below))
+            (omega (arith, y .below, z .below))
             (y .passes) (z .passes)
         | no first ↦ elim (ℕ-discrete (y .index) c) [
           | yes here ↦
-              pair (x .index) (z .index) (omega (arith, y .below, z .below)) first (omega (arith, z .below)) (x .passes)
+              pair (x .index) (z .index) (omega (arith, y .below, z .below)) first (omega (arith, z .below))
+              (x .passes)
               (z .passes)
           | no second ↦ pair (x .index) (y .index) (omega (arith, y .below)) first second (x .passes) (y .passes)
         ]

@@ -24,10 +24,12 @@ use Rattle.protocol.proofs.Recording.{length-record, load-record, recor
 -- on the live cards below n; no other word changes
 pub record FailedBelow (d : Directory) (f : ℕ) (r : Release) (n : ℕ) (m m′ : List ℕ) : Type 0 where
   pub same-length : length m′ ≡ length m
-  pub same : (h o : ℕ) → o < sizeOf d → (o < 20 + 18 * f) ⊎ (38 + 18 * f ≤ o) → load (sizeOf d) m′ h o ≡ load (sizeOf d) m h o
+  pub same : (h o : ℕ) → o < sizeOf d → (o < 20 + 18 * f) ⊎ (38 + 18 * f ≤ o)
+      → load (sizeOf d) m′ h o ≡ load (sizeOf d) m h o
   pub held : (h : ℕ) → h < n → isLive d h ≡ true → Held f none r (load (sizeOf d) m′ h)
 
-module _ (d : Directory) (f : ℕ) (r : Release) (few : f < 8) (eight : length (r .desk) ≡ 8) (m : List ℕ) (shape : Shape d m) where
+module _ (d : Directory) (f : ℕ) (r : Release) (few : f < 8) (eight : length (r .desk) ≡ 8) (m : List ℕ)
+    (shape : Shape d m) where
   failed-more : (n : ℕ) (m′ : List ℕ) → FailedBelow d f r n m m′ → FailedBelow d f r (suc n) m (writeFailed d f r n m′)
   unfolding writeFailed
   failed-more n m′ below = go (isLive d n) refl
@@ -37,11 +39,13 @@ module _ (d : Directory) (f : ℕ) (r : Release) (few : f < 8) (eight : length (
           record {
             same-length = length-record (sizeOf d) m′ n f r (omega arith) few eight ∙ below .same-length;
             same = λ h o inside away.
-                load-record (sizeOf d) m′ n f r (omega arith) few eight h o inside (inr away) ∙ below .same h o inside away;
+                load-record (sizeOf d) m′ n f r (omega arith) few eight h o inside (inr away)
+                ∙ below .same h o inside away;
             held = λ h small up. at h small up (ℕ-discrete h n);
           }
         where
-          at : (h : ℕ) → h < suc n → isLive d h ≡ true → Dec (h ≡ n) → Held f none r (load (sizeOf d) (writeRecord (sizeOf d) m′ n f r) h)
+          at : (h : ℕ) → h < suc n → isLive d h ≡ true → Dec (h ≡ n)
+              → Held f none r (load (sizeOf d) (writeRecord (sizeOf d) m′ n f r) h)
           at h small up (yes same) =
               rw same
               (record-held (sizeOf d) m′ n f r (omega arith) few eight

@@ -27,7 +27,8 @@ use Rattle.protocol.proofs.Over.{over, over-none}
 use Rattle.protocol.proofs.BookLaws.{pricesIn, EightWords, uncounted, uncounted-late, uncounted-none}
 use Rattle.protocol.proofs.BookLaws.{update-same, update-other, update-each}
 use Rattle.protocol.proofs.Claims.{Apart, HomeWord, Half, wordIn, Agrees, Claim, claim-struck, claim-kept}
-use Rattle.protocol.proofs.Halves.{tentatives, committeds, pending, pendingCommitted, pending-none, committed-none}
+use Rattle.protocol.proofs.Halves.{tentatives, committeds, pending, pendingCommitted, pending-none}
+use Rattle.protocol.proofs.Halves.{committed-none}
 use Rattle.protocol.proofs.Halves.{tentative-late, committed-early, committed-late, pending-over}
 use Rattle.protocol.proofs.Held.{Numbers, Own, Done, Held}
 use Rattle.protocol.proofs.Core.{Core, Standing, Under}
@@ -42,7 +43,8 @@ module _ (d d′ : Directory) (firsts : d′ .primary ≡ d .primary) (seconds :
   prices-same half [] = refl
   prices-same half (p ∷ ps) = rw (prices-same half ps, firsts, seconds)
 
-  pub writes-same : (backup c : ℕ) (r : Release) (ps : List Price) → releaseWrites d′ backup c r ps ≡ releaseWrites d backup c r ps
+  pub writes-same : (backup c : ℕ) (r : Release) (ps : List Price)
+      → releaseWrites d′ backup c r ps ≡ releaseWrites d backup c r ps
   unfolding releaseWrites
   writes-same backup c r ps = rw (prices-same tentativeHalf ps, prices-same committedHalf ps)
 
@@ -51,7 +53,8 @@ module _ (d d′ : Directory) (firsts : d′ .primary ≡ d .primary) (seconds :
   pending-same backup c none = refl
   pending-same backup c (opened r list s) = rw (writes-same (backup c) c r (listPrices list))
 
-  pub committed-same : (backup : ℕ → ℕ) (c : ℕ) (R : Opened) → pendingCommitted d′ backup c R ≡ pendingCommitted d backup c R
+  pub committed-same : (backup : ℕ → ℕ) (c : ℕ) (R : Opened)
+      → pendingCommitted d′ backup c R ≡ pendingCommitted d backup c R
   unfolding pendingCommitted
   committed-same backup c none = refl
   committed-same backup c (opened r list s) = rw (writes-same (backup c) c r (listPrices list))
@@ -82,7 +85,8 @@ module _ (d : Directory) (f : ℕ) (m : List ℕ) (b : Book) (rack : RunningRack
       → Claim d (tentatives d (backupOf d)) (update (b .release) f none) (b .price) m
   struck-tentative differ claim = go (b .release f) refl
     where
-      go : (R : Opened) → b .release f ≡ R → Claim d (tentatives d (backupOf d)) (update (b .release) f none) (b .price) m
+      go : (R : Opened) → b .release f ≡ R
+          → Claim d (tentatives d (backupOf d)) (update (b .release) f none) (b .price) m
       go none is = absurd (differ (held .stamped ∙ sym (rw is at (held .done))))
       go (opened r list s) is =
           let marks = rw is at (held .done) in
@@ -92,7 +96,8 @@ module _ (d : Directory) (f : ℕ) (m : List ℕ) (b : Book) (rack : RunningRack
             | no late ↦ omega arith
           ] in
           claim-struck d (tentatives d (backupOf d)) (b .release) (b .price) m f few (core .eights) (core .apart)
-          (λ h p w v within. rw is (tentative-late d (backupOf d) f r list s (rw is at (core .eights f)) few (omega arith) h p w v within))
+          (λ h p w v within. rw is
+          (tentative-late d (backupOf d) f r list s (rw is at (core .eights f)) few (omega arith) h p w v within))
           (rw is (uncounted-late r list s counted)) claim
 
   -- it was not: no committed word is to be written, or all are
@@ -109,7 +114,8 @@ module _ (d : Directory) (f : ℕ) (m : List ℕ) (b : Book) (rack : RunningRack
           eight : length (r .desk) ≡ 8
           eight = rw is at (core .eights f)
 
-          by-steps : Dec (s < countsAt (length (listPrices list))) → pendingCommitted d (backupOf d) f (opened r list s) ≡ []
+          by-steps : Dec (s < countsAt (length (listPrices list)))
+              → pendingCommitted d (backupOf d) f (opened r list s) ≡ []
           by-steps (yes early) = committed-early d (backupOf d) f r list s eight early
           by-steps (no late) =
               committed-late d (backupOf d) f r list s eight (omega arith)
@@ -176,18 +182,23 @@ module _ (d : Directory) (f : ℕ) (m : List ℕ) (b : Book) (rack : RunningRack
             let was = live-before c still in
             rw (update-other (b .release) f none c (was .1)) (core .owns c (was .0));
         tentative = λ differ.
-            claim-kept d d′ (tentatives d (backupOf d)) (tentatives d′ (backupOf d)) (update (b .release) f none) (b .price) m m
+            claim-kept d d′ (tentatives d (backupOf d)) (tentatives d′ (backupOf d)) (update (b .release) f none)
+            (b .price) m m
             (λ c h p w word. home-word h p w word)
-            (λ c h p w v word agrees. rw (pending-same d d′ refl refl (backupOf d) c (update (b .release) f none c)) agrees)
+            (λ c h p w v word agrees. rw (pending-same d d′ refl refl (backupOf d) c (update (b .release) f none c))
+            agrees)
             (λ h p w word. refl) (struck-tentative differ (core .tentative tt));
         committed = λ agree.
-            claim-kept d d′ (committeds d (backupOf d)) (committeds d′ (backupOf d)) (update (b .release) f none) (b .price) m m
+            claim-kept d d′ (committeds d (backupOf d)) (committeds d′ (backupOf d)) (update (b .release) f none)
+            (b .price) m m
             (λ c h p w word. home-word h p w word)
-            (λ c h p w v word agrees. rw (committed-same d d′ refl refl (backupOf d) c (update (b .release) f none c)) agrees)
+            (λ c h p w v word agrees. rw (committed-same d d′ refl refl (backupOf d) c (update (b .release) f none c))
+            agrees)
             (λ h p w word. refl) (struck-committed agree (core .committed tt));
         held = λ c still kept.
             let was = live-before c still in
-            rw (update-other (b .release) f none c (was .1)) (core .held c (was .0) (live-before (backupOf d c) kept .0));
+            rw (update-other (b .release) f none c (was .1))
+            (core .held c (was .0) (live-before (backupOf d c) kept .0));
         dead = λ g h o gone little still above below. refl;
       }
 
@@ -205,7 +216,8 @@ module _ (d : Directory) (f : ℕ) (m : List ℕ) (b : Book) (rack : RunningRack
         lost = live-of-marked-dead d f;
         real = core .shape .below f live;
         failed = refl;
-        core = rw same-place (subst (λ (k : ℕ → ℕ). Core d′ k (load (sizeOf d) m) (stamp ≢ done) (stamp ≡ done) m (failBook b f))
+        core = rw same-place (subst
+            (λ (k : ℕ → ℕ). Core d′ k (load (sizeOf d) m) (stamp ≢ done) (stamp ≡ done) m (failBook b f))
             (sym (fun-ext before)) core-before);
         records = λ g h gone other little still.
             rack .records g h (dead-before g other gone) little (live-before h still .0);

@@ -35,14 +35,16 @@ module _ (cards pages words : ℕ) (limits : Within words cards pages) where
   -- the cards below the number of cards, and no others, are live
   live-below : (c : ℕ) → c < cards → isLive d c ≡ true
   unfolding formattedDirectory
-  live-below c below = table-read (λ c. ltb c cards) 8 c false (omega (arith, limits .cards-most)) ∙ lt-ltb c cards below
+  live-below c below = table-read (λ c. ltb c cards) 8 c false (omega (arith, limits .cards-most))
+      ∙ lt-ltb c cards below
 
   below-live : (c : ℕ) → isLive d c ≡ true → c < cards
   unfolding formattedDirectory
   below-live c live =
       elim (decLt c 8) [
         | yes few ↦ ltb-true c cards (sym (table-read (λ c. ltb c cards) 8 c false few) ∙ live)
-        | no past ↦ absurd (true≢false (sym live ∙ sym (read-past-end (formattedMarks cards) 8 c false (table-length _ 8) (omega arith))))
+        | no past ↦ absurd (true≢false
+            (sym live ∙ sym (read-past-end (formattedMarks cards) 8 c false (table-length _ 8) (omega arith))))
       ]
 
   -- each page's homes
@@ -66,7 +68,8 @@ module _ (cards pages words : ℕ) (limits : Within words cards pages) where
   next-home-live : (p : ℕ) → isLive d (nextLive (formattedMarks cards) cards (p % cards)) ≡ true
   unfolding formattedDirectory
   next-home-live p =
-      next-live-is-live (formattedMarks cards) cards (p % cards) (p % cards) (home-below p) (live-below (p % cards) (home-below p))
+      next-live-is-live (formattedMarks cards) cards (p % cards) (p % cards) (home-below p)
+      (live-below (p % cards) (home-below p))
 
   next-home-other : (p : ℕ) → nextLive (formattedMarks cards) cards (p % cards) ≢ p % cards
   unfolding formattedDirectory
@@ -93,7 +96,8 @@ module _ (cards pages words : ℕ) (limits : Within words cards pages) where
   own c live =
       rw (
         load-zeros (sizeOf d) words c 0,
-        load-run-zeros (sizeOf d) words c ownDesk deskSize (rw (length-zeros words) at (area-of-live shape c live)) (omega arith),
+        load-run-zeros (sizeOf d) words c ownDesk deskSize (rw (length-zeros words) at (area-of-live shape c live))
+            (omega arith),
       )
 
   core : Core d (backupOf d) (load (sizeOf d) (zeros words)) (Unit {0}) (Unit {0}) (zeros words) newBook
@@ -108,8 +112,10 @@ module _ (cards pages words : ℕ) (limits : Within words cards pages) where
         apart = λ c x label other named. names-none label;
         numbers = λ c. tt;
         owns = own;
-        tentative = λ _. tentative-right d (backupOf d) (newBook .price) (zeros words) (λ h p live home page. right h p);
-        committed = λ _. committed-right d (backupOf d) (newBook .price) (zeros words) (λ h p live home page. right h p);
+        tentative = λ _. tentative-right d (backupOf d) (newBook .price) (zeros words)
+            (λ h p live home page. right h p);
+        committed = λ _. committed-right d (backupOf d) (newBook .price) (zeros words)
+            (λ h p live home page. right h p);
         held = λ c live up. settled c (backupOf d c);
         dead = λ g h o gone less live above below. refl;
       }

@@ -1,4 +1,5 @@
--- The invariant between two calls: what a call finds is as good as what the last call left, whatever the areas of cards
+-- The invariant between two calls: what a call finds is as good as what the last call left, whatever the areas of
+-- cards
 -- that are away hold.
 use Prim.Native.Nat.{ℕ, _+_, _*_, _≤_, _<_}
 use mathlib.Core.Path.{_≡_, refl, _∙_}
@@ -88,7 +89,8 @@ module _ (d : Directory) (left found : List ℕ) (b : Book) (agree : SameLive d 
         homes-differ = rack .homes-differ;
       }
     where
-      word : (o : ℕ) → o < 38 + 18 * f → load (sizeOf d) found (nextLiveOf d f) o ≡ load (sizeOf d) left (nextLiveOf d f) o
+      word : (o : ℕ) → o < 38 + 18 * f
+          → load (sizeOf d) found (nextLiveOf d f) o ≡ load (sizeOf d) left (nextLiveOf d f) o
       word o below =
           agree .same (nextLiveOf d f) o (next-is-live d (rack .two) (rack .core .shape .below) f)
           (omega (arith, rack .real, rack .core .shape .few-cards))
@@ -108,7 +110,8 @@ pub rack-below : {d : Directory} {m : List ℕ} {b : Book} → Rack d m b → (c
 rack-below (inl rack) = rack .core .shape .below
 rack-below (inr rack) = rack .1 .core .shape .below
 
-pub undisturbed-live : {d : Directory} {out : ℕ → Bool} {left found : List ℕ} {b : Book} → Rack d left b → NoneAway d out
+pub undisturbed-live : {d : Directory} {out : ℕ → Bool} {left found : List ℕ} {b : Book} → Rack d left b
+    → NoneAway d out
     → Undisturbed d out left found → SameLive d left found
 undisturbed-live rack here undisturbed =
     record {

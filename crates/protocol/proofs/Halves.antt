@@ -17,7 +17,8 @@ use Rattle.diff.proofs.Stored.{OnPages, prices-on-pages}
 use Rattle.protocol.specs.Release.{Release, Write, priceWrites, runWrites, releaseWrites, countsAt}
 use Rattle.protocol.specs.Book.{Opened, none, opened, listPrices}
 use Rattle.protocol.proofs.Writes.{length-writes, length-price-writes, length-run-writes}
-use Rattle.protocol.proofs.Over.{over, over-none, over-first, over-append, over-miss, written, Misses, misses-append}
+use Rattle.protocol.proofs.Over.{over, over-none, over-first, over-append, over-miss, written, Misses}
+use Rattle.protocol.proofs.Over.{misses-append}
 use Rattle.protocol.proofs.Over.{misses-drop, run-misses, prices-miss, unnamed-miss, prices-over, HomeOf}
 use Rattle.protocol.proofs.BookLaws.{pricesIn, EightWords, uncounted, uncounted-none}
 use Rattle.protocol.proofs.Claims.{Half}
@@ -78,7 +79,8 @@ module _ (d : Directory) (backup c : ℕ) (r : Release) (ps : List Price) (few :
   unfolding releaseWrites
   after-tentative card p w s within late =
       let records = records-miss card p w tentativeHalf within (omega arith) in
-      let second = prices-miss d committedHalf ps card (pageStart p + (tentativeHalf + w)) (λ q u inside e. omega arith) 64 on in
+      let second = prices-miss d committedHalf ps card (pageStart p + (tentativeHalf + w))
+      (λ q u inside e. omega arith) 64 on in
       let at : s ≡ length (priceWrites d tentativeHalf ps) + (s - 2 * length ps) =
       omega (arith, length-price-writes d tentativeHalf ps) in
       rw (drop-part (priceWrites d tentativeHalf ps) _ s (s - 2 * length ps) at)
@@ -111,7 +113,8 @@ module _ (d : Directory) (backup c : ℕ) (r : Release) (ps : List Price) (few :
   unfolding releaseWrites
   tentative-over h p w v within home =
       let records = records-miss h p w tentativeHalf within (omega arith) in
-      let second = prices-miss d committedHalf ps h (pageStart p + (tentativeHalf + w)) (λ q u inside e. omega arith) 64 on in
+      let second = prices-miss d committedHalf ps h (pageStart p + (tentativeHalf + w)) (λ q u inside e. omega arith)
+      64 on in
       over-append (priceWrites d tentativeHalf ps) _ h (pageStart p + (tentativeHalf + w)) v
       ∙ over-miss _ (misses-append (records .0) (misses-append (records .1) (misses-append second (records .2))))
       ∙ prices-over d tentativeHalf ps h p w v within (omega arith) home 64 on
@@ -138,79 +141,86 @@ module _ (d : Directory) (backup : ℕ → ℕ) where
   unfolding pendingCommitted
   committed-none c = refl
 
-  pub pending-unnamed : (c h p w v : ℕ) (R : Opened) → c < 8 → EightWords R → w < 32 → names (pricesIn R) (32 * p + w) ≡ false
+  pub pending-unnamed : (c h p w v : ℕ) (R : Opened) → c < 8 → EightWords R → w < 32
+      → names (pricesIn R) (32 * p + w) ≡ false
       → over (pending d backup c R) h (pageStart p + (tentativeHalf + w)) v ≡ v
   unfolding pending
   pending-unnamed c h p w v none few eight within unnamed = over-none h _ v
   pending-unnamed c h p w v (opened r list s) few eight within unnamed =
       over-miss v
-      (misses-drop s (tentative-misses d (backup c) c r (listPrices list) few eight (on-pages list) h p w within unnamed))
+      (misses-drop s (tentative-misses d (backup c) c r (listPrices list) few eight (on-pages list) h p w within
+      unnamed))
 
   pub committed-unnamed : (c h p w v : ℕ) (R : Opened) → c < 8 → EightWords R → w < 32
       → names (pricesIn R) (32 * p + w) ≡ false
       → over (pendingCommitted d backup c R) h (pageStart p + (committedHalf + w)) v ≡ v
   unfolding pendingCommitted
   committed-unnamed c h p w v none few eight within unnamed = over-none h _ v
-  committed-unnamed c h p w v (opened r list s) few eight within unnamed = go (ltb s (countsAt (length (listPrices list))))
+  committed-unnamed c h p w v (opened r list s) few eight within unnamed = go
+      (ltb s (countsAt (length (listPrices list))))
     where
       go : (early : Bool)
-          → over (cond early [] (drop s (releaseWrites d (backup c) c r (listPrices list)))) h (pageStart p + (committedHalf + w)) v
+          → over (cond early [] (drop s (releaseWrites d (backup c) c r (listPrices list)))) h
+          (pageStart p + (committedHalf + w)) v
           ≡ v
       go true = over-none h _ v
       go false =
           over-miss v
-          (misses-drop s (committed-misses d (backup c) c r (listPrices list) few eight (on-pages list) h p w within unnamed))
+          (misses-drop s (committed-misses d (backup c) c r (listPrices list) few eight (on-pages list) h p w within
+          unnamed))
 
 -- the writes of an open release, one step on
-module _ (d : Directory) (backup : ℕ → ℕ) (c : ℕ) (r : Release) (list : List ℕ) (s : ℕ) (eight : length (r .desk) ≡ 8) where
-  pub pending-first : (h o v : ℕ) → s < 4 * length (listPrices list) + 10
-      → over (pending d backup c (opened r list s)) h o v
-      ≡ over (pending d backup c (opened r list (suc s))) h o
-      (written (stepWrite d (backup c) c r (listPrices list) s) h o v)
-  unfolding pending
-  pending-first h o v before =
-      over-first (releaseWrites d (backup c) c r (listPrices list)) s h o v
-      (omega (arith, length-writes d (backup c) c r (listPrices list) eight))
+module _ (d : Directory) (backup : ℕ → ℕ) (c : ℕ) (r : Release) (list : List ℕ) (s : ℕ) (eight : length (r .desk) ≡ 8)
+  where
+    pub pending-first : (h o v : ℕ) → s < 4 * length (listPrices list) + 10
+        → over (pending d backup c (opened r list s)) h o v
+        ≡ over (pending d backup c (opened r list (suc s))) h o
+        (written (stepWrite d (backup c) c r (listPrices list) s) h o v)
+    unfolding pending
+    pending-first h o v before =
+        over-first (releaseWrites d (backup c) c r (listPrices list)) s h o v
+        (omega (arith, length-writes d (backup c) c r (listPrices list) eight))
 
-  pub pending-over : 4 * length (listPrices list) + 10 ≤ s → pending d backup c (opened r list s) ≡ []
-  unfolding pending
-  pending-over past =
-      drop-of-length-le (releaseWrites d (backup c) c r (listPrices list)) {i = s}
-      (omega (arith, length-writes d (backup c) c r (listPrices list) eight))
+    pub pending-over : 4 * length (listPrices list) + 10 ≤ s → pending d backup c (opened r list s) ≡ []
+    unfolding pending
+    pending-over past =
+        drop-of-length-le (releaseWrites d (backup c) c r (listPrices list)) {i = s}
+        (omega (arith, length-writes d (backup c) c r (listPrices list) eight))
 
-  -- once the tentative words are written none of them is to be
-  pub tentative-late : c < 8 → 2 * length (listPrices list) ≤ s → (h p w v : ℕ) → w < 32
-      → over (pending d backup c (opened r list s)) h (pageStart p + (tentativeHalf + w)) v ≡ v
-  unfolding pending
-  tentative-late few late h p w v within =
-      over-miss v (after-tentative d (backup c) c r (listPrices list) few eight (on-pages list) h p w s within late)
+    -- once the tentative words are written none of them is to be
+    pub tentative-late : c < 8 → 2 * length (listPrices list) ≤ s → (h p w v : ℕ) → w < 32
+        → over (pending d backup c (opened r list s)) h (pageStart p + (tentativeHalf + w)) v ≡ v
+    unfolding pending
+    tentative-late few late h p w v within =
+        over-miss v (after-tentative d (backup c) c r (listPrices list) few eight (on-pages list) h p w s within late)
 
-  -- at the opening the tentative words are all to be written
-  pub tentative-first : c < 8 → s ≡ 0 → (h p w v : ℕ) → w < 32 → HomeOf d h p
-      → over (pending d backup c (opened r list s)) h (pageStart p + (tentativeHalf + w)) v
-      ≡ laidAt (listPrices list) (32 * p + w) v
-  unfolding pending
-  tentative-first few opening h p w v within home =
-      rw opening (tentative-over d (backup c) c r (listPrices list) few eight (on-pages list) h p w v within home)
+    -- at the opening the tentative words are all to be written
+    pub tentative-first : c < 8 → s ≡ 0 → (h p w v : ℕ) → w < 32 → HomeOf d h p
+        → over (pending d backup c (opened r list s)) h (pageStart p + (tentativeHalf + w)) v
+        ≡ laidAt (listPrices list) (32 * p + w) v
+    unfolding pending
+    tentative-first few opening h p w v within home =
+        rw opening (tentative-over d (backup c) c r (listPrices list) few eight (on-pages list) h p w v within home)
 
-  -- at the count the committed words are all to be written
-  pub committed-first : c < 8 → s ≡ countsAt (length (listPrices list)) → (h p w v : ℕ) → w < 32 → HomeOf d h p
-      → over (pending d backup c (opened r list s)) h (pageStart p + (committedHalf + w)) v
-      ≡ laidAt (listPrices list) (32 * p + w) v
-  unfolding pending
-  committed-first few counts h p w v within home =
-      rw counts (committed-over d (backup c) c r (listPrices list) few eight (on-pages list) h p w v within home)
+    -- at the count the committed words are all to be written
+    pub committed-first : c < 8 → s ≡ countsAt (length (listPrices list)) → (h p w v : ℕ) → w < 32 → HomeOf d h p
+        → over (pending d backup c (opened r list s)) h (pageStart p + (committedHalf + w)) v
+        ≡ laidAt (listPrices list) (32 * p + w) v
+    unfolding pending
+    committed-first few counts h p w v within home =
+        rw counts (committed-over d (backup c) c r (listPrices list) few eight (on-pages list) h p w v within home)
 
-  pub committed-early : s < countsAt (length (listPrices list)) → pendingCommitted d backup c (opened r list s) ≡ []
-  unfolding pendingCommitted
-  committed-early early = rw (lt-ltb s (countsAt (length (listPrices list))) early)
+    pub committed-early : s < countsAt (length (listPrices list)) → pendingCommitted d backup c (opened r list s) ≡ []
+    unfolding pendingCommitted
+    committed-early early = rw (lt-ltb s (countsAt (length (listPrices list))) early)
 
-  pub committed-late : countsAt (length (listPrices list)) ≤ s
-      → pendingCommitted d backup c (opened r list s) ≡ pending d backup c (opened r list s)
-  unfolding pendingCommitted pending
-  committed-late late = rw (le-ltb s (countsAt (length (listPrices list))) late)
+    pub committed-late : countsAt (length (listPrices list)) ≤ s
+        → pendingCommitted d backup c (opened r list s) ≡ pending d backup c (opened r list s)
+    unfolding pendingCommitted pending
+    committed-late late = rw (le-ltb s (countsAt (length (listPrices list))) late)
 
-pub uncounted-unnamed : (label v : ℕ) (R : Opened) → names (pricesIn R) label ≡ false → laidAt (uncounted R) label v ≡ v
+pub uncounted-unnamed : (label v : ℕ) (R : Opened) → names (pricesIn R) label ≡ false
+    → laidAt (uncounted R) label v ≡ v
 unfolding uncounted
 uncounted-unnamed label v none unnamed = laid-none label v
 uncounted-unnamed label v (opened r list s) unnamed = go (ltb s (countsAt (length (listPrices list))))

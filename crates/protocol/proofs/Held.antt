@@ -1,4 +1,5 @@
--- What a card's record on its backup says beside the book, and that a step keeps it so. `f o` is the word at offset o of
+-- What a card's record on its backup says beside the book, and that a step keeps it so. `f o` is the word at offset o
+-- of
 -- the backup's area.
 use Prim.Native.Nat.{ℕ, zero, suc, _+_, _-_, _*_, _/_, _%_, _≤_, _<_}
 use mathlib.Core.Path.{_≡_, refl, sym, ap, _∙_}
@@ -11,7 +12,8 @@ use Rattle.memory.specs.Layout.{recordStamp, recordDone, recordDesk}
 use Rattle.directory.specs.declared.Directory.{Directory}
 use Rattle.protocol.specs.Release.{Release, countsAt, stepsIn}
 use Rattle.protocol.specs.Book.{Opened, none, opened, listPrices}
-use Rattle.protocol.proofs.Writes.{Phase, phase, to-tentative, to-desk, to-stamp, to-committed, to-done, to-close}
+use Rattle.protocol.proofs.Writes.{Phase, phase, to-tentative, to-desk, to-stamp, to-committed, to-done}
+use Rattle.protocol.proofs.Writes.{to-close}
 use Rattle.protocol.proofs.Writes.{write-tentative, write-desk, write-stamp, write-committed, write-done}
 use Rattle.protocol.proofs.Over.{written, written-here, written-other-offset}
 use Rattle.protocol.proofs.Stepped.{stepWrite}
@@ -114,7 +116,8 @@ module _ (r : Release) (list : List ℕ) (s : ℕ) (last last′ : Release)
         (record {
           stamped = away (recordStamp c) (omega arith) (omega arith) (λ e. omega arith) ∙ held .stamped;
           desked = λ j within.
-              away (recordDesk c (last .number) + j) (omega arith) (omega arith) (λ e. omega (arith, next)) ∙ held .desked j within;
+              away (recordDesk c (last .number) + j) (omega arith) (omega arith) (λ e. omega (arith, next))
+              ∙ held .desked j within;
           done = (
             (λ soon. away (recordDone c) (omega arith) (omega arith) (λ e. omega arith) ∙ held .done .0 (omega arith)),
             (λ late _. absurd (omega arith)),
@@ -156,7 +159,8 @@ module _ (r : Release) (list : List ℕ) (s : ℕ) (last last′ : Release)
               ∙ held .parts j within (omega (arith, at)) (omega (arith, at));
           done = (
             (λ soon. absurd (omega arith)),
-            (λ late _. ap suc (away (recordDone c) (omega arith) (omega arith) (λ e. omega arith) ∙ held .done .0 (omega arith)) ∙ sym next),
+            (λ late _. ap suc (away (recordDone c) (omega arith) (omega arith) (λ e. omega arith)
+                ∙ held .done .0 (omega arith)) ∙ sym next),
             (λ late. absurd (omega arith)),
           );
           parts = λ j within there soon. absurd (omega arith);
@@ -177,7 +181,8 @@ module _ (r : Release) (list : List ℕ) (s : ℕ) (last last′ : Release)
         (record {
           stamped = away (recordStamp c) (omega arith) (omega arith) (λ e. omega arith) ∙ held .stamped;
           desked = λ j within.
-              away (recordDesk c (last .number) + j) (omega arith) (omega arith) (λ e. omega arith) ∙ held .desked j within;
+              away (recordDesk c (last .number) + j) (omega arith) (omega arith) (λ e. omega arith)
+              ∙ held .desked j within;
           done = (
             (λ soon. absurd (omega arith)),
             (λ late soon. absurd (omega arith)),

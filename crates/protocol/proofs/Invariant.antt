@@ -82,7 +82,8 @@ pub record AwaitingRack (d : Directory) (f : ℕ) (m : List ℕ) (b : Book) : Ty
   pub real : f < d .cards
   pub failed : b .failed ≡ f
   -- the tentative words are right if the second phase was under way, else the committed ones
-  pub core : Core d (backupBefore d f) (load (sizeOf d) m) (stampOf d f m ≢ doneOf d f m) (stampOf d f m ≡ doneOf d f m) m b
+  pub core : Core d (backupBefore d f) (load (sizeOf d) m) (stampOf d f m ≢ doneOf d f m)
+      (stampOf d f m ≡ doneOf d f m) m b
   pub records : (g h : ℕ) → isLive d g ≡ false → g ≢ f → g < d .cards → isLive d h ≡ true
       → Held g none (b .last g) (load (sizeOf d) m h)
   pub stamped : stampOf d f m ≡ b .last f .number
@@ -106,7 +107,8 @@ module _ (d : Directory) (two : TwoLive d) (below : (c : ℕ) → isLive d c ≡
   next-is-below = below (nextLiveOf d c) next-is-live
 
   pub next-is-other : nextLiveOf d c ≢ c
-  next-is-other = next-live-other (d .live) (d .cards) c (next .card) (below (next .card) (next .live)) (next .live) (next .other)
+  next-is-other = next-live-other (d .live) (d .cards) c (next .card) (below (next .card) (next .live)) (next .live)
+      (next .other)
 
 -- a mark that is made and unmade
 pub unmarked : (marks : List Bool) (c : ℕ) (mark : Bool) → getD marks c false ≡ mark → (other : Bool)

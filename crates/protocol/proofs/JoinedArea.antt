@@ -1,4 +1,5 @@
--- The area of a card that joins: its own stamp and desk, and the records that are copied to it. No other card's word changes.
+-- The area of a card that joins: its own stamp and desk, and the records that are copied to it. No other card's word
+-- changes.
 use Prim.Native.Nat.{ℕ, zero, suc, _+_, _-_, _*_, _≤_, _<_}
 use mathlib.Core.Path.{_≡_, refl, sym, ap, _∙_}
 use mathlib.Core.Logic.{_≢_, _⊎_, inl, inr}
@@ -16,7 +17,8 @@ use Rattle.memory.specs.Layout.{deskSize, ownStamp, ownDesk, releaseOpen, recor
 use Rattle.memory.specs.Area.{AreaIn, load, storeRun, clearRun, copyRun}
 use Rattle.memory.proofs.Index.{outside-other-card, outside-below, outside-above}
 use Rattle.memory.proofs.Runs.{length-store-run, length-clear-run, length-copy-run, load-run-is}
-use Rattle.memory.proofs.Runs.{load-store-run-outside, load-store-run-inside, load-clear-run-outside, load-clear-run-inside}
+use Rattle.memory.proofs.Runs.{load-store-run-outside, load-store-run-inside, load-clear-run-outside}
+use Rattle.memory.proofs.Runs.{load-clear-run-inside}
 use Rattle.memory.proofs.Runs.{load-copy-run-outside, load-copy-run-inside}
 use Rattle.directory.specs.declared.Directory.{Directory}
 use Rattle.directory.specs.Directory.{isLive, nextLiveOf}
@@ -45,20 +47,23 @@ module _ (d : Directory) (x : ℕ) (m : List ℕ) (shape : Shape d m) (real : x 
   pub reset-other : (h o : ℕ) → h ≢ x → o < sizeOf d → load (sizeOf d) (resetArea d x m) h o ≡ load (sizeOf d) m h o
   unfolding resetArea
   reset-other h o other inside =
-      load-store-run-outside (sizeOf d) cleared x ownStamp (r .number ∷ r .desk) h o (outside-other-card other (omega arith) inside)
+      load-store-run-outside (sizeOf d) cleared x ownStamp (r .number ∷ r .desk) h o
+      (outside-other-card other (omega arith) inside)
       ∙ load-clear-run-outside (sizeOf d) m x 0 (sizeOf d) h o (outside-other-card other (omega arith) inside)
 
   pub reset-zero : (o : ℕ) → 9 ≤ o → o < sizeOf d → load (sizeOf d) (resetArea d x m) x o ≡ 0
   unfolding resetArea
   reset-zero o above inside =
-      load-store-run-outside (sizeOf d) cleared x ownStamp (r .number ∷ r .desk) x o (outside-above (omega arith) inside)
+      load-store-run-outside (sizeOf d) cleared x ownStamp (r .number ∷ r .desk) x o
+      (outside-above (omega arith) inside)
       ∙ (rw (zero-add o) at (load-clear-run-inside (sizeOf d) m x 0 (sizeOf d) area (omega arith) o inside))
 
   reset-word : (o : ℕ) → o < 9 → load (sizeOf d) (resetArea d x m) x o ≡ getD (r .number ∷ r .desk) o 0
   unfolding resetArea
   reset-word o small =
       rw (zero-add o) at
-      (load-store-run-inside (sizeOf d) cleared x ownStamp (r .number ∷ r .desk) (rw length-clear-run area) (omega arith) o
+      (load-store-run-inside (sizeOf d) cleared x ownStamp (r .number ∷ r .desk) (rw length-clear-run area)
+      (omega arith) o
       (omega arith))
 
   pub reset-own : ownRelease (sizeOf d) (resetArea d x m) x ≡ r
@@ -83,7 +88,8 @@ module _ (d : Directory) (x : ℕ) (m : List ℕ) (shape : Shape d m) (real : x 
   not-x : (h : ℕ) → isLive d h ≡ true → h ≢ x
   not-x h live same = true≢false (sym live ∙ rw same dead)
 
-  copied-more : (n : ℕ) (m′ : List ℕ) → n < d .cards → CopiedBelow d x n m m′ → CopiedBelow d x (suc n) m (copyDeadRecord d x n m′)
+  copied-more : (n : ℕ) (m′ : List ℕ) → n < d .cards → CopiedBelow d x n m m′
+      → CopiedBelow d x (suc n) m (copyDeadRecord d x n m′)
   unfolding copyDeadRecord
   copied-more n m′ less below = go (not (isLive d n) && not (eqb n x)) refl
     where
@@ -100,12 +106,14 @@ module _ (d : Directory) (x : ℕ) (m : List ℕ) (shape : Shape d m) (real : x 
           load-copy-run-outside (sizeOf d) m′ _ _ x (recordStamp n) recordSize h o
           (outside-other-card other (omega (arith, few)) inside)
       outside h o inside (inr (inl under)) =
-          load-copy-run-outside (sizeOf d) m′ _ _ x (recordStamp n) recordSize h o (outside-below (omega arith) (omega (arith, few)))
+          load-copy-run-outside (sizeOf d) m′ _ _ x (recordStamp n) recordSize h o
+          (outside-below (omega arith) (omega (arith, few)))
       outside h o inside (inr (inr over)) =
           load-copy-run-outside (sizeOf d) m′ _ _ x (recordStamp n) recordSize h o (outside-above (omega arith) inside)
 
       go : (copies : Bool) → not (isLive d n) && not (eqb n x) ≡ copies
-          → CopiedBelow d x (suc n) m (cond copies (copyRun (sizeOf d) m′ (nextLiveOf d n) (recordStamp n) x (recordStamp n) recordSize) m′)
+          → CopiedBelow d x (suc n) m
+          (cond copies (copyRun (sizeOf d) m′ (nextLiveOf d n) (recordStamp n) x (recordStamp n) recordSize) m′)
       go true both =
           record {
             same-length = length-copy-run (sizeOf d) m′ _ _ _ _ recordSize ∙ below .same-length;
@@ -127,7 +135,8 @@ module _ (d : Directory) (x : ℕ) (m : List ℕ) (shape : Shape d m) (real : x 
               ]
 
           here : (g o : ℕ) → g ≡ n → 20 + 18 * g ≤ o → o < 38 + 18 * g
-              → load (sizeOf d) (copyRun (sizeOf d) m′ (nextLiveOf d n) (recordStamp n) x (recordStamp n) recordSize) x o
+              → load (sizeOf d) (copyRun (sizeOf d) m′ (nextLiveOf d n) (recordStamp n) x (recordStamp n) recordSize) x
+              o
               ≡ load (sizeOf d) m (nextLiveOf d g) o
           here g o same above beneath =
               let at : o ≡ recordStamp n + (o - recordStamp n) = omega arith in
@@ -136,7 +145,8 @@ module _ (d : Directory) (x : ℕ) (m : List ℕ) (shape : Shape d m) (real : x 
               load-copy-run-inside (sizeOf d) m′ (nextLiveOf d n) (recordStamp n) x (recordStamp n) recordSize source
               (area-of shape′ x real) (omega (arith, few)) (omega (arith, few)) (o - recordStamp n) (omega arith) in
               rw same
-              ((rw (← at) at inside) ∙ below .other-card (nextLiveOf d n) o (not-x (nextLiveOf d n) (nexts n)) (omega (arith, few)))
+              ((rw (← at) at inside)
+              ∙ below .other-card (nextLiveOf d n) o (not-x (nextLiveOf d n) (nexts n)) (omega (arith, few)))
       go false neither =
           record {
             same-length = below .same-length;
@@ -144,7 +154,8 @@ module _ (d : Directory) (x : ℕ) (m : List ℕ) (shape : Shape d m) (real : x 
             low = below .low;
             copied = λ g o under little gone other above beneath.
                 elim (ℕ-discrete g n) [
-                  | yes same ↦ absurd (true≢false (sym (copied-too (rw same at gone) (λ e. other (same ∙ e))) ∙ neither))
+                  | yes same ↦ absurd (true≢false
+                      (sym (copied-too (rw same at gone) (λ e. other (same ∙ e))) ∙ neither))
                   | no differs ↦ below .copied g o (omega arith) little gone other above beneath
                 ];
           }

@@ -27,7 +27,8 @@ use Rattle.protocol.proofs.Halves.{tentatives, committeds, pending-none
 use Rattle.protocol.proofs.Held.{Held, Own, held-kept}
 use Rattle.protocol.proofs.Core.{Core, Standing, standing-kept}
 use Rattle.protocol.proofs.OwnRecords.{OwnBelow, own-below}
-use Rattle.protocol.proofs.JoinedArea.{length-reset, reset-other, reset-zero, reset-own, CopiedBelow, copied-below}
+use Rattle.protocol.proofs.JoinedArea.{length-reset, reset-other, reset-zero, reset-own, CopiedBelow}
+use Rattle.protocol.proofs.JoinedArea.{copied-below}
 use Rattle.protocol.proofs.Recorded.{recorded-is}
 use Rattle.protocol.proofs.Invariant.{RunningRack, TwoLive, next-is-live, next-is-other, unmarked}
 
@@ -60,7 +61,8 @@ module _ (d : Directory) (x : ℕ) (m : List ℕ) (b : Book) (rack : RunningRack
 
   recorded : recordedRelease (sizeOf d) m (nextLiveOf d x) x ≡ b .last x
   recorded =
-      recorded-is (sizeOf d) m (nextLiveOf d x) x (b .last x) (area-of-live shape (nextLiveOf d x) (nexts x)) (omega arith) few
+      recorded-is (sizeOf d) m (nextLiveOf d x) x (b .last x) (area-of-live shape (nextLiveOf d x) (nexts x))
+      (omega arith) few
       (rack .core .last-eight x) (held-x .stamped) (held-x .desked)
 
   eight : length (recordedRelease (sizeOf d) m (nextLiveOf d x) x .desk) ≡ 8
@@ -96,7 +98,8 @@ module _ (d : Directory) (x : ℕ) (m : List ℕ) (b : Book) (rack : RunningRack
   backed : OwnBelow (sizeOf d) (backupIs d x) (λ c. x) (d .cards) m₂ m₃
   backed =
       own-below (sizeOf d) (omega arith) (backupIs d x) (λ c. x) m₂ (λ c due. small c (due-live c due))
-      (λ c due. rw length₂ (area-of shape x real)) (λ c due. rw (own₂ c (due-live c due)) (rack .core .last-eight c)) (d .cards)
+      (λ c due. rw length₂ (area-of shape x real)) (λ c due. rw (own₂ c (due-live c due)) (rack .core .last-eight c))
+      (d .cards)
 
   length₃ : length m₃ ≡ length m
   length₃ = backed .same-length ∙ length₂
@@ -167,7 +170,8 @@ module _ (d : Directory) (x : ℕ) (m : List ℕ) (b : Book) (rack : RunningRack
       (λ o above below.
       backed .records g x o (omega (arith, shape .few-cards)) (not-due g gone) above below
       ∙ copied .copied g o less (omega (arith, shape .few-cards)) gone other above below
-      ∙ reset-other d x m shape real eight (nextLiveOf d g) o (not-x (nextLiveOf d g) (nexts g)) (omega (arith, shape .few-cards)))
+      ∙ reset-other d x m shape real eight (nextLiveOf d g) o (not-x (nextLiveOf d g) (nexts g))
+      (omega (arith, shape .few-cards)))
       (rack .records g (nextLiveOf d g) gone less (nexts g))
     where
       not-due : (g : ℕ) → isLive d g ≡ false → backupIs d x g ≡ false
@@ -231,7 +235,8 @@ module _ (d : Directory) (x : ℕ) (m : List ℕ) (b : Book) (rack : RunningRack
   stands c live =
       elim (ℕ-discrete c x) [
         | yes same ↦ rw (same, idle x) x-closed
-        | no other ↦ standing-kept (d .pages) m m₃ c (b .release c) (kept-own c other) (rack .core .standing c (live-before c other live))
+        | no other ↦ standing-kept (d .pages) m m₃ c (b .release c) (kept-own c other)
+            (rack .core .standing c (live-before c other live))
       ]
 
   owns : (c : ℕ) → isLive d′ c ≡ true → Own (b .release c) (ownRelease (sizeOf d) m₃ c) (b .last c)
@@ -277,12 +282,14 @@ module _ (d : Directory) (x : ℕ) (m : List ℕ) (b : Book) (rack : RunningRack
         dead = λ g h o gone less up above under. refl;
       }
 
-  records : (g h : ℕ) → isLive d′ g ≡ false → g < d .cards → isLive d′ h ≡ true → Held g none (b .last g) (load (sizeOf d) m₃ h)
+  records : (g h : ℕ) → isLive d′ g ≡ false → g < d .cards → isLive d′ h ≡ true
+      → Held g none (b .last g) (load (sizeOf d) m₃ h)
   records g h gone less live =
       let was = dead-before g gone in
       elim (ℕ-discrete h x) [
         | yes same ↦ rw same (dead-on-x g (was .0) (was .1) less)
-        | no other ↦ kept-held g h none (omega (arith, shape .few-cards)) other (rack .records g h (was .0) less (live-before h other live))
+        | no other ↦ kept-held g h none (omega (arith, shape .few-cards)) other
+            (rack .records g h (was .0) less (live-before h other live))
       ]
 
   runs : RunningRack d′ m₃ b

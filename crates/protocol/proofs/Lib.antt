@@ -36,3 +36,6 @@ pub mod Counting
 pub mod Accepted
 pub mod Refused
 pub mod Demand3
+pub mod Fitted
+pub mod Corollaries
+pub mod CountsOnce

@@ -25,7 +25,8 @@ module _ (d : Directory) (f p : ℕ) where
 
   pub whole-secondary : lostHome d f p ≡ false → secondaryOf d p ≢ f
   unfolding lostHome
-  whole-secondary whole same = false≢true (sym whole ∙ or-true (eqb (primaryOf d p) f) (eq-eqb (secondaryOf d p) f same))
+  whole-secondary whole same = false≢true
+      (sym whole ∙ or-true (eqb (primaryOf d p) f) (eq-eqb (secondaryOf d p) f same))
     where
       or-true : (a : Bool) {b : Bool} → b ≡ true → a || b ≡ true
       or-true true is = refl
@@ -52,7 +53,8 @@ pub record MovedBelow (d : Directory) (f n : ℕ) (moved : Directory) : Type 0 w
   pub second : (p : ℕ) → p < n → secondaryOf moved p ≡ cond (lostHome d f p) (newHome d f p) (secondaryOf d p)
   pub later : (p : ℕ) → n ≤ p → (primaryOf moved p ≡ primaryOf d p) × (secondaryOf moved p ≡ secondaryOf d p)
 
-module _ (d : Directory) (f : ℕ) (most : d .pages ≤ 64) (firsts : length (d .primary) ≡ 64) (seconds : length (d .secondary) ≡ 64)
+module _ (d : Directory) (f : ℕ) (most : d .pages ≤ 64) (firsts : length (d .primary) ≡ 64)
+    (seconds : length (d .secondary) ≡ 64)
   where
     moved-more : (n : ℕ) (moved : Directory) → n < d .pages → MovedBelow d f n moved
         → MovedBelow d f (suc n) (moveHome d f n moved)
@@ -69,16 +71,22 @@ module _ (d : Directory) (f : ℕ) (most : d .pages ≤ 64) (firsts : length (d 
               primaries = length-set (moved .primary) n (keptHome d f n) ∙ below .primaries;
               secondaries = length-set (moved .secondary) n (newHome d f n) ∙ below .secondaries;
               first = λ p less. elim (ℕ-discrete p n) [
-                | yes same ↦ rw same (primary-of-moved moved n (keptHome d f n) (newHome d f n) (omega (arith, below .primaries)))
-                | no other ↦ primary-of-other moved n (keptHome d f n) (newHome d f n) p other ∙ below .first p (omega arith)
+                | yes same ↦ rw same (primary-of-moved moved n (keptHome d f n) (newHome d f n)
+                    (omega (arith, below .primaries)))
+                | no other ↦ primary-of-other moved n (keptHome d f n) (newHome d f n) p other
+                    ∙ below .first p (omega arith)
               ];
               second = λ p less. elim (ℕ-discrete p n) [
-                | yes same ↦ rw (same, lost) (secondary-of-moved moved n (keptHome d f n) (newHome d f n) (omega (arith, below .secondaries)))
-                | no other ↦ secondary-of-other moved n (keptHome d f n) (newHome d f n) p other ∙ below .second p (omega arith)
+                | yes same ↦ rw (same, lost)
+                    (secondary-of-moved moved n (keptHome d f n) (newHome d f n) (omega (arith, below .secondaries)))
+                | no other ↦ secondary-of-other moved n (keptHome d f n) (newHome d f n) p other
+                    ∙ below .second p (omega arith)
               ];
               later = λ p more. (
-                primary-of-other moved n (keptHome d f n) (newHome d f n) p (omega arith) ∙ below .later p (omega arith) .0,
-                secondary-of-other moved n (keptHome d f n) (newHome d f n) p (omega arith) ∙ below .later p (omega arith) .1,
+                primary-of-other moved n (keptHome d f n) (newHome d f n) p (omega arith)
+                    ∙ below .later p (omega arith) .0,
+                secondary-of-other moved n (keptHome d f n) (newHome d f n) p (omega arith)
+                    ∙ below .later p (omega arith) .1,
               );
             }
         go false whole =
@@ -89,7 +97,8 @@ module _ (d : Directory) (f : ℕ) (most : d .pages ≤ 64) (firsts : length (d 
               primaries = below .primaries;
               secondaries = below .secondaries;
               first = λ p less. elim (ℕ-discrete p n) [
-                | yes same ↦ rw same (below .later n (omega arith) .0 ∙ sym (kept-primary d f n (whole-primary d f n whole)))
+                | yes same ↦ rw same (below .later n (omega arith) .0
+                    ∙ sym (kept-primary d f n (whole-primary d f n whole)))
                 | no other ↦ below .first p (omega arith)
               ];
               second = λ p less. elim (ℕ-discrete p n) [

@@ -22,14 +22,17 @@ use Rattle.diff.specs.Reading.{start, readFrom, readDiff}
 use Rattle.diff.specs.Prices.{names, laidAt, pricesFrom, pricesOf}
 use Rattle.diff.specs.OnlyDiff.{Allowed}
 use Rattle.diff.proofs.Prices.{names-none, laid-none}
-use Rattle.diff.proofs.Derivation.{Reads, reads-derived, reads-good-then, reads-prices-then, reads-prices, reads-more-pages}
+use Rattle.diff.proofs.Derivation.{Reads, reads-derived, reads-good-then, reads-prices-then, reads-prices}
+use Rattle.diff.proofs.Derivation.{reads-more-pages}
 use Rattle.diff.proofs.OnlyDiff.{allowed-whole}
-use Rattle.protocol.specs.Release.{Release, sizeOf, ownRelease, openRelease, openList, openPrices, stepsOf, countsAt}
+use Rattle.protocol.specs.Release.{Release, sizeOf, ownRelease, openRelease, openList, openPrices, stepsOf}
+use Rattle.protocol.specs.Release.{countsAt}
 use Rattle.protocol.specs.Opening.{openMemory}
 use Rattle.protocol.specs.Book.{Opened, none, opened, listPrices, Book, update, setOpen}
 use Rattle.protocol.proofs.Shape.{SameOwn, shape-kept, area-of-live, own-kept, own-words-kept, same-own-release}
 use Rattle.protocol.proofs.Over.{over, over-none}
-use Rattle.protocol.proofs.BookLaws.{pricesIn, EightWords, uncounted-early, uncounted-none, update-same, update-other, update-each}
+use Rattle.protocol.proofs.BookLaws.{pricesIn, EightWords, uncounted-early, uncounted-none, update-same}
+use Rattle.protocol.proofs.BookLaws.{update-other, update-each}
 use Rattle.protocol.proofs.Claims.{Apart, HomeWord, Half, wordIn, Agrees, Claim, claim-moves}
 use Rattle.protocol.proofs.Halves.{on-pages, tentatives, committeds, pending, pending-none, committed-none}
 use Rattle.protocol.proofs.Halves.{committed-early, tentative-first}
@@ -38,7 +41,8 @@ use Rattle.protocol.proofs.Core.{Core, OpenStands, Standing, Under, sta
 
 -- ---- a list that is allowed, read where it is stored
 
-module _ (pages : ℕ) (list rest : List ℕ) (few-pages : pages ≤ 64) (few : length list ≤ 512) (allowed : Allowed pages list) where
+module _ (pages : ℕ) (list rest : List ℕ) (few-pages : pages ≤ 64) (few : length list ≤ 512)
+    (allowed : Allowed pages list) where
   whole-reads : (ps : List _) × Reads pages start 0 list ps
   whole-reads = let w = allowed-whole pages list allowed in (_, reads-derived pages (w .0) list start 0 (w .1))
 
@@ -58,7 +62,8 @@ module _ (pages : ℕ) (list rest : List ℕ) (few-pages : pages ≤ 64) (few : 
 
 -- ---- the words after an opening
 
-module _ (size : ℕ) (m : List ℕ) (c : ℕ) (r : Release) (list : List ℕ) (long : 676 ≤ size) (eight : length (r .desk) ≡ 8)
+module _ (size : ℕ) (m : List ℕ) (c : ℕ) (r : Release) (list : List ℕ) (long : 676 ≤ size)
+    (eight : length (r .desk) ≡ 8)
     (few : length list ≤ 512) where
   abbrev head : List ℕ
   head = 1 ∷ 0 ∷ r .number ∷ r .desk
@@ -110,7 +115,8 @@ module _ (size : ℕ) (m : List ℕ) (c : ℕ) (r : Release) (list : List ℕ) (
         let m₁ : List ℕ = storeRun size m c releaseOpen head in
         let m₂ : List ℕ = storeRun size m₁ c listStart list in
         let all : listSize ≡ length list + (listSize - length list) = omega arith in
-        let front = load-run-store-run size m₁ c listStart list (rw length-store-run area) (omega arith) (length list) refl in (
+        let front = load-run-store-run size m₁ c listStart list (rw length-store-run area) (omega arith) (length list)
+        refl in (
           loadRun size m₂ c (listStart + length list) (listSize - length list),
           ap (loadRun size m₂ c listStart) all
               ∙ load-run-append size m₂ c listStart (length list) (listSize - length list) ∙ rw front,
@@ -122,7 +128,8 @@ module _ (d : Directory) (backup : ℕ → ℕ) (old : ℕ → ℕ → ℕ) (T C
     (core : Core d backup old T C m b) (c : ℕ) (live : isLive d c ≡ true) (idle : b .release c ≡ none) (r : Release)
     (list : List ℕ) (eight : length (r .desk) ≡ 8) (few : length list ≤ 512) (allowed : Allowed (d .pages) list)
     (next : r .number ≡ suc (b .last c .number))
-    (free : (x label : ℕ) → x ≢ c → names (listPrices list) label ≡ true → names (pricesIn (b .release x)) label ≡ false) where
+    (free : (x label : ℕ) → x ≢ c → names (listPrices list) label ≡ true
+    → names (pricesIn (b .release x)) label ≡ false) where
   abbrev m′ : List ℕ
   m′ = openMemory (sizeOf d) m c r list
 
@@ -152,9 +159,11 @@ module _ (d : Directory) (backup : ℕ → ℕ) (old : ℕ → ℕ → ℕ) (T C
 
   page-word : (h p w half : ℕ) → HomeWord d h p w → half ≤ 32
       → load (sizeOf d) m′ h (pageStart p + (half + w)) ≡ load (sizeOf d) m h (pageStart p + (half + w))
-  page-word h p w half word small = elsewhere h _ (omega (arith, word .page, word .word)) (inr (inr (inr (omega arith))))
+  page-word h p w half word small = elsewhere h _ (omega (arith, word .page, word .word))
+      (inr (inr (inr (omega arith))))
 
-  record-word : (x h o : ℕ) → x < 8 → 20 + 18 * x ≤ o → o < 38 + 18 * x → load (sizeOf d) m′ h o ≡ load (sizeOf d) m h o
+  record-word : (x h o : ℕ) → x < 8 → 20 + 18 * x ≤ o → o < 38 + 18 * x
+      → load (sizeOf d) m′ h o ≡ load (sizeOf d) m h o
   record-word x h o small above below = elsewhere h o (omega arith) (inr (inr (inl (omega arith, omega arith))))
 
   no-steps : stepsOf (sizeOf d) m′ c ≡ 0
@@ -181,16 +190,19 @@ module _ (d : Directory) (backup : ℕ → ℕ) (old : ℕ → ℕ → ℕ) (T C
       elim (ℕ-discrete x c) [
         | yes same ↦
             let away : y ≢ c = λ e. other (e ∙ sym same) in
-            rw (update-other (b .release) c R′ y away) (free y label away (rw (same, update-same (b .release) c R′) at named))
+            rw (update-other (b .release) c R′ y away)
+            (free y label away (rw (same, update-same (b .release) c R′) at named))
         | no far ↦
-            let named-before : names (pricesIn (b .release x)) label ≡ true = rw (update-other (b .release) c R′ x far) at named in
+            let named-before : names (pricesIn (b .release x)) label ≡ true = rw (update-other (b .release) c R′ x far)
+            at named in
             elim (ℕ-discrete y c) [
               | yes here ↦ rw (here, update-same (b .release) c R′) (unnamed x label far named-before)
               | no away ↦ rw (update-other (b .release) c R′ y away) (core .apart x y label other named-before)
             ]
       ]
     where
-      unnamed : (x label : ℕ) → x ≢ c → names (pricesIn (b .release x)) label ≡ true → names (listPrices list) label ≡ false
+      unnamed : (x label : ℕ) → x ≢ c → names (pricesIn (b .release x)) label ≡ true
+          → names (listPrices list) label ≡ false
       unnamed x label far named-before = go (names (listPrices list) label) refl
         where
           go : (by-list : Bool) → names (listPrices list) label ≡ by-list → names (listPrices list) label ≡ false
@@ -209,7 +221,8 @@ module _ (d : Directory) (backup : ℕ → ℕ) (old : ℕ → ℕ → ℕ) (T C
         same-price = λ label _. refl;
         same-word = λ h p w word _. page-word h p w tentativeHalf word (omega arith);
         own = λ h p w word agrees.
-            let was = sym (over-none h _ _) ∙ (rw (idle, pending-none d backup c, uncounted-none) at agrees) ∙ laid-none (32 * p + w) _ in
+            let was = sym (over-none h _ _) ∙ (rw (idle, pending-none d backup c, uncounted-none) at agrees)
+            ∙ laid-none (32 * p + w) _ in
             rw (page-word h p w tentativeHalf word (omega arith), uncounted-early r list 0 (omega arith))
             (tentative-first d backup c r list 0 eight little refl h p w _ (word .word) (word .home)
             ∙ ap (laidAt (listPrices list) (32 * p + w)) was);
@@ -224,7 +237,11 @@ module _ (d : Directory) (backup : ℕ → ℕ) (old : ℕ → ℕ → ℕ) (T C
         same-price = λ label _. refl;
         same-word = λ h p w word _. page-word h p w committedHalf word (omega arith);
         own = λ h p w word agrees.
-            rw (page-word h p w committedHalf word (omega arith), committed-early d backup c r list 0 eight (omega arith))
+            rw (
+              page-word h p w committedHalf word (omega arith),
+              committed-early d backup c r list 0 eight
+                  (omega arith),
+            )
             (rw (idle, committed-none d backup c) at agrees);
       })
 
@@ -232,7 +249,8 @@ module _ (d : Directory) (backup : ℕ → ℕ) (old : ℕ → ℕ → ℕ) (T C
   open-core =
       record {
         shape = shape-kept (core .shape) m′ same-size;
-        standing = update-each (b .release) c R′ (λ x R. isLive d x ≡ true → Standing (d .pages) m′ x R) (λ _. own-stands)
+        standing = update-each (b .release) c R′ (λ x R. isLive d x ≡ true → Standing (d .pages) m′ x R)
+            (λ _. own-stands)
             (λ x other up. standing-kept (d .pages) m m′ x (b .release x) (kept-other x other) (core .standing x up));
         gone = update-each (b .release) c R′ (λ x R. isLive d x ≡ false → R ≡ none)
             (λ dead. absurd (true≢false (sym live ∙ dead))) (λ x other. core .gone x);
@@ -242,20 +260,24 @@ module _ (d : Directory) (backup : ℕ → ℕ) (old : ℕ → ℕ → ℕ) (T C
         apart = apart-opened;
         numbers = update-each (b .release) c R′ (λ x R. Numbers R (b .last x))
             ((λ _. next), (λ late. absurd (omega arith))) (λ x other. core .numbers x);
-        owns = update-each (b .release) c R′ (λ x R. isLive d x ≡ true → Own R (ownRelease (sizeOf d) m′ x) (b .last x))
+        owns = update-each (b .release) c R′
+            (λ x R. isLive d x ≡ true → Own R (ownRelease (sizeOf d) m′ x) (b .last x))
             (λ _. rw (own-same, rw idle at (core .owns c live)) next)
             (λ x other up. rw (own-kept (sizeOf d) m m′ x (same-own-release (sizeOf d) m m′ x (kept-other x other)))
             (core .owns x up));
         tentative = λ t. open-tentative (core .tentative t);
         committed = λ t. open-committed (core .committed t);
         held = update-each (b .release) c R′
-            (λ x R. isLive d x ≡ true → isLive d (backup x) ≡ true → Held x R (b .last x) (load (sizeOf d) m′ (backup x)))
+            (λ x R. isLive d x ≡ true → isLive d (backup x) ≡ true
+            → Held x R (b .last x) (load (sizeOf d) m′ (backup x)))
             (λ _ up. held-opened (core .held c live up))
             (λ x other lives up. held-kept x (b .release x) (b .last x) _ _
-            (λ o above below. record-word x (backup x) o (omega (arith, core .shape .below x lives, core .shape .few-cards)) above below)
+            (λ o above below. record-word x (backup x) o
+            (omega (arith, core .shape .below x lives, core .shape .few-cards)) above below)
             (core .held x lives up));
         dead = λ g h o gone small up above below.
-            record-word g h o (omega (arith, core .shape .few-cards)) above below ∙ core .dead g h o gone small up above below;
+            record-word g h o (omega (arith, core .shape .few-cards)) above below
+            ∙ core .dead g h o gone small up above below;
       }
     where
       held-opened : Held c (b .release c) (b .last c) (load (sizeOf d) m (backup c))

@@ -151,12 +151,14 @@ module _ (d : Directory) (half : ℕ) where
           → Misses card (pageStart p + (half + w)) (priceWrites d half (q ∷ qs))
       go (yes here) rest = absurd (true≢false (sym (names-first q qs (32 * p + w) here) ∙ none))
       go (no there) rest =
-          let apart : pageStart (q .page) + (half + q .word) ≢ pageStart p + (half + w) = omega (arith, on .1, within) in
+          let apart : pageStart (q .page) + (half + q .word) ≢ pageStart p + (half + w) = omega (arith, on .1, within)
+          in
           misses-more (λ _. apart)
           (misses-more (λ _. apart) (rest (sym (names-later q qs (32 * p + w) there) ∙ none)))
 
   -- at a home of the label's page: all of them leave what the prices lay there
-  pub prices-over : (ps : List Price) (h p w v : ℕ) → w < 32 → half ≤ 32 → HomeOf d h p → (pages : ℕ) → OnPages pages ps
+  pub prices-over : (ps : List Price) (h p w v : ℕ) → w < 32 → half ≤ 32 → HomeOf d h p → (pages : ℕ)
+      → OnPages pages ps
       → over (priceWrites d half ps) h (pageStart p + (half + w)) v ≡ laidAt ps (32 * p + w) v
   unfolding over
   prices-over [] h p w v within small home pages on = sym (laid-none (32 * p + w) v)

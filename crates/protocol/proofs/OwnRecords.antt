@@ -49,7 +49,8 @@ module _ (size : ℕ) (long : 676 ≤ size) (due : ℕ → Bool) (holder : ℕ �
       own = own-words-kept size m m′ n (below .same-length) (λ o less. below .low n o (omega arith))
 
       go : (writes : Bool) → due n ≡ writes
-          → OwnBelow size due holder (suc n) m (cond writes (writeRecord size m′ (holder n) n (ownRelease size m′ n)) m′)
+          → OwnBelow size due holder (suc n) m
+          (cond writes (writeRecord size m′ (holder n) n (ownRelease size m′ n)) m′)
       go true is =
           let few = small n is in
           let eight = eights n is in
@@ -59,7 +60,8 @@ module _ (size : ℕ) (long : 676 ≤ size) (due : ℕ → Bool) (holder : ℕ �
             low = λ h o less. other h o (omega arith) (inr (inl (omega arith))) ∙ below .low h o less;
             high = λ h o more inside. other h o inside (inr (inr (omega arith))) ∙ below .high h o more inside;
             records = λ g h o little not-due above under.
-                other h o (omega arith) (inr (apart g n o (λ e. true≢false (sym is ∙ ap due (sym e) ∙ not-due)) above under))
+                other h o (omega arith)
+                (inr (apart g n o (λ e. true≢false (sym is ∙ ap due (sym e) ∙ not-due)) above under))
                 ∙ below .records g h o little not-due above under;
             away = λ h o inside none-here. other h o inside (inl (none-here n is)) ∙ below .away h o inside none-here;
             held = λ c less is-due. at c less is-due (ℕ-discrete c n);
@@ -70,14 +72,16 @@ module _ (size : ℕ) (long : 676 ≤ size) (due : ℕ → Bool) (holder : ℕ �
           other = load-record size m′ (holder n) n (ownRelease size m n) long (small n is) (eights n is)
 
           at : (c : ℕ) → c < suc n → due c ≡ true → Dec (c ≡ n)
-              → Held c none (ownRelease size m c) (load size (writeRecord size m′ (holder n) n (ownRelease size m n)) (holder c))
+              → Held c none (ownRelease size m c)
+              (load size (writeRecord size m′ (holder n) n (ownRelease size m n)) (holder c))
           at c less is-due (yes same) =
               rw same
               (record-held size m′ (holder n) n (ownRelease size m n) long (small n is) (eights n is)
               (rw (below .same-length) (areas n is)))
           at c less is-due (no differs) =
               held-kept c none (ownRelease size m c) _ _
-              (λ o above under. other (holder c) o (omega (arith, small c is-due)) (inr (apart c n o differs above under)))
+              (λ o above under. other (holder c) o (omega (arith, small c is-due))
+              (inr (apart c n o differs above under)))
               (below .held c (omega arith) is-due)
       go false is-not =
           record {

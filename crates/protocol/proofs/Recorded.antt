@@ -11,7 +11,8 @@ use Rattle.protocol.specs.Release.{Release}
 use Rattle.protocol.specs.Record.{recordedRelease}
 
 -- its stamp and the desk of the stamp's evenness
-pub recorded-is : (size : ℕ) (m : List ℕ) (holder c : ℕ) (r : Release) → AreaIn (length m) size holder → 676 ≤ size → c < 8
+pub recorded-is : (size : ℕ) (m : List ℕ) (holder c : ℕ) (r : Release) → AreaIn (length m) size holder → 676 ≤ size
+    → c < 8
     → length (r .desk) ≡ 8 → load size m holder (recordStamp c) ≡ r .number
     → ((j : ℕ) → j < 8 → load size m holder (recordDesk c (r .number) + j) ≡ getD (r .desk) j 0)
     → recordedRelease size m holder c ≡ r

@@ -38,7 +38,8 @@ module _ (r : Release) (eight : length (r .desk) ≡ 8) where
   length-settled = omega (arith, length-desks (eqb (r .number % 2) 0))
 
   -- the desk stands by the number's evenness
-  pub settled-desk : (j i : ℕ) → j < 8 → i ≡ 2 + 8 * (r .number % 2) + j → getD (settledRecord r) i 0 ≡ getD (r .desk) j 0
+  pub settled-desk : (j i : ℕ) → j < 8 → i ≡ 2 + 8 * (r .number % 2) + j
+      → getD (settledRecord r) i 0 ≡ getD (r .desk) j 0
   unfolding settledRecord
   settled-desk j i within at = go (eqb (r .number % 2) 0) refl
     where
@@ -66,16 +67,19 @@ module _ (size : ℕ) (m : List ℕ) (holder c : ℕ) (r : Release) (long : 676 
   unfolding writeRecord
   load-record h o inside (inl other) =
       let long-enough = length-settled r eight in
-      load-store-run-outside size m holder (recordStamp c) (settledRecord r) h o (outside-other-card other (omega arith) inside)
+      load-store-run-outside size m holder (recordStamp c) (settledRecord r) h o
+      (outside-other-card other (omega arith) inside)
   load-record h o inside (inr (inl below)) =
       let long-enough = length-settled r eight in
-      load-store-run-outside size m holder (recordStamp c) (settledRecord r) h o (outside-below (omega arith) (omega arith))
+      load-store-run-outside size m holder (recordStamp c) (settledRecord r) h o
+      (outside-below (omega arith) (omega arith))
   load-record h o inside (inr (inr above)) =
       let long-enough = length-settled r eight in
       load-store-run-outside size m holder (recordStamp c) (settledRecord r) h o (outside-above (omega arith) inside)
 
   module _ (area : AreaIn (length m) size holder) where
-    record-word : (i : ℕ) → i < 18 → load size (writeRecord size m holder c r) holder (recordStamp c + i) ≡ getD (settledRecord r) i 0
+    record-word : (i : ℕ) → i < 18
+        → load size (writeRecord size m holder c r) holder (recordStamp c + i) ≡ getD (settledRecord r) i 0
     unfolding writeRecord
     record-word i within =
         let long-enough = length-settled r eight in
@@ -88,10 +92,12 @@ module _ (size : ℕ) (m : List ℕ) (holder c : ℕ) (r : Release) (long : 676 
     pub record-held : Held c none r (load size (writeRecord size m holder c r) holder)
     record-held =
         record {
-          stamped = let at : recordStamp c ≡ recordStamp c + 0 = omega arith in rw at (record-word 0 (omega arith) ∙ first-words .0);
+          stamped = let at : recordStamp c ≡ recordStamp c + 0 = omega arith in rw at
+              (record-word 0 (omega arith) ∙ first-words .0);
           desked = λ j within.
               let at : recordDesk c (r .number) + j ≡ recordStamp c + (2 + 8 * (r .number % 2) + j) = omega arith in
               rw at (record-word _ (omega arith) ∙ settled-desk r eight j _ within refl);
-          done = let at : recordDone c ≡ recordStamp c + 1 = omega arith in rw at (record-word 1 (omega arith) ∙ first-words .1);
+          done = let at : recordDone c ≡ recordStamp c + 1 = omega arith in rw at
+              (record-word 1 (omega arith) ∙ first-words .1);
           parts = tt;
         }

@@ -34,7 +34,8 @@ use Rattle.protocol.proofs.Core.{Core}
 use Rattle.protocol.proofs.Rehoming.{Right}
 use Rattle.protocol.proofs.FailedRecord.{FailedBelow, failed-below}
 use Rattle.protocol.proofs.OwnRecords.{OwnBelow, own-below}
-use Rattle.protocol.proofs.Moving.{MovedBelow, movedHomes, moved, recovered-parts, whole-primary, whole-secondary}
+use Rattle.protocol.proofs.Moving.{MovedBelow, movedHomes, moved, recovered-parts, whole-primary}
+use Rattle.protocol.proofs.Moving.{whole-secondary}
 use Rattle.protocol.proofs.Moving.{kept-primary}
 use Rattle.protocol.proofs.Invariant.{RunningRack, AwaitingRack, next-is-live, next-is-other, unmarked}
 use Rattle.protocol.proofs.Recovering as recovering
@@ -47,7 +48,8 @@ module _ (d : Directory) (backup : ℕ → ℕ) (price : ℕ → ℕ) (m : List 
       record {
         agrees = λ c h p w few word alone.
             rw (pending-none d backup c, uncounted-none)
-            (over-none h _ _ ∙ right h p (word .live) (word .home) (word .page) .tentatives w (word .word) ∙ sym (laid-none (32 * p + w) _));
+            (over-none h _ _ ∙ right h p (word .live) (word .home) (word .page) .tentatives w (word .word)
+            ∙ sym (laid-none (32 * p + w) _));
       }
 
   pub committed-right : Claim d (committeds d backup) (λ c. none) price m
@@ -55,7 +57,8 @@ module _ (d : Directory) (backup : ℕ → ℕ) (price : ℕ → ℕ) (m : List 
       record {
         agrees = λ c h p w few word alone.
             rw (committed-none d backup c)
-            (over-none h _ _ ∙ right h p (word .live) (word .home) (word .page) .committeds w (word .word) ∙ sym (laid-none (32 * p + w) _));
+            (over-none h _ _ ∙ right h p (word .live) (word .home) (word .page) .committeds w (word .word)
+            ∙ sym (laid-none (32 * p + w) _));
       }
 
 module _ (d : Directory) (f : ℕ) (m : List ℕ) (b : Book) (rack : AwaitingRack d f m b) where
@@ -94,7 +97,8 @@ module _ (d : Directory) (f : ℕ) (m : List ℕ) (b : Book) (rack : AwaitingRac
   own₄ : (c : ℕ) → ownRelease (sizeOf d) m₄ c ≡ ownRelease (sizeOf d) m₁ c
   own₄ c =
       own-words-kept (sizeOf d) m₁ m₄ c (failed .same-length ∙ recovering.m₃-length d f m b rack)
-      (λ o small. failed .same c o (omega arith) (inl (omega arith)) ∙ recovering.low-kept d f m b rack c o (omega arith))
+      (λ o small. failed .same c o (omega arith) (inl (omega arith))
+      ∙ recovering.low-kept d f m b rack c o (omega arith))
 
   own-last : (c : ℕ) → isLive d c ≡ true → ownRelease (sizeOf d) m₁ c ≡ b₁ .last c
   own-last c live = recovering.closed d f m b rack .owns c live
@@ -131,13 +135,15 @@ module _ (d : Directory) (f : ℕ) (m : List ℕ) (b : Book) (rack : AwaitingRac
   -- own words and lists
   own-word : (c o : ℕ) → (o < 20) ⊎ ((164 ≤ o) × (o < 676)) → load (sizeOf d) m₅ c o ≡ load (sizeOf d) m₁ c o
   own-word c o (inl low) =
-      backed .low c o low ∙ failed .same c o (omega arith) (inl (omega arith)) ∙ recovering.low-kept d f m b rack c o (omega arith)
+      backed .low c o low ∙ failed .same c o (omega arith) (inl (omega arith))
+      ∙ recovering.low-kept d f m b rack c o (omega arith)
   own-word c o (inr list) =
       backed .high c o (list .0) (omega arith) ∙ failed .same c o (omega arith) (inr (omega (arith, few)))
       ∙ recovering.low-kept d f m b rack c o (omega arith)
 
   -- a record that is not written
-  other-record : (g h o : ℕ) → g < 8 → g ≢ f → (isLive d g ≡ true → backupBefore d f g ≢ f) → 20 + 18 * g ≤ o → o < 38 + 18 * g
+  other-record : (g h o : ℕ) → g < 8 → g ≢ f → (isLive d g ≡ true → backupBefore d f g ≢ f) → 20 + 18 * g ≤ o
+      → o < 38 + 18 * g
       → load (sizeOf d) m₅ h o ≡ load (sizeOf d) m₁ h o
   other-record g h o little other not-his above below =
       backed .records g h o little (not-due g not-his) above below
@@ -178,11 +184,13 @@ module _ (d : Directory) (f : ℕ) (m : List ℕ) (b : Book) (rack : AwaitingRac
 
   -- a page's second home is a new one, or the one it had
   second : (p : ℕ) → p < d .pages
-      → ((lostHome d f p ≡ true) × (secondaryOf d′ p ≡ newHome d f p)) ⊎ ((lostHome d f p ≡ false) × (secondaryOf d′ p ≡ secondaryOf d p))
+      → ((lostHome d f p ≡ true) × (secondaryOf d′ p ≡ newHome d f p))
+      ⊎ ((lostHome d f p ≡ false) × (secondaryOf d′ p ≡ secondaryOf d p))
   second p page = go (lostHome d f p) refl
     where
       go : (lost : Bool) → lostHome d f p ≡ lost
-          → ((lostHome d f p ≡ true) × (secondaryOf d′ p ≡ newHome d f p)) ⊎ ((lostHome d f p ≡ false) × (secondaryOf d′ p ≡ secondaryOf d p))
+          → ((lostHome d f p ≡ true) × (secondaryOf d′ p ≡ newHome d f p))
+          ⊎ ((lostHome d f p ≡ false) × (secondaryOf d′ p ≡ secondaryOf d p))
       go true lost = inl (lost, moves .second p page ∙ rw lost)
       go false whole = inr (whole, moves .second p page ∙ rw whole)
 
@@ -201,7 +209,8 @@ module _ (d : Directory) (f : ℕ) (m : List ℕ) (b : Book) (rack : AwaitingRac
       (recovering.m₃-rehomed d f m b rack .stays (keptHome d f p) p page (recovering.kept-right d f m b rack p page)))
   right-home h p live (inl home) page = go (second p page)
     where
-      go : ((lostHome d f p ≡ true) × (secondaryOf d′ p ≡ newHome d f p)) ⊎ ((lostHome d f p ≡ false) × (secondaryOf d′ p ≡ secondaryOf d p))
+      go : ((lostHome d f p ≡ true) × (secondaryOf d′ p ≡ newHome d f p))
+          ⊎ ((lostHome d f p ≡ false) × (secondaryOf d′ p ≡ secondaryOf d p))
           → Right (sizeOf d) (b₁ .price) m₅ h p
       go (inl new) =
           rw (home, new .1)
@@ -227,7 +236,8 @@ module _ (d : Directory) (f : ℕ) (m : List ℕ) (b : Book) (rack : AwaitingRac
   live-held : (c : ℕ) → isLive d c ≡ true → Held c none (b₁ .last c) (load (sizeOf d) m₅ (backupOf d c))
   live-held c live =
       elim (ℕ-discrete (backupBefore d f c) f) [
-        | yes his ↦ rw (← (own-last c live), ← (own₄ c)) (backed .held c (rack .core .shape .below c live) (is-due c live his))
+        | yes his ↦ rw (← (own-last c live), ← (own₄ c))
+            (backed .held c (rack .core .shape .below c live) (is-due c live his))
         | no other ↦
             rw (same-backup c other)
             (held-kept c none (b₁ .last c) _ _
@@ -239,19 +249,22 @@ module _ (d : Directory) (f : ℕ) (m : List ℕ) (b : Book) (rack : AwaitingRac
       not-failed c live same = true≢false (sym live ∙ rw same (rack .lost))
 
   -- a dead card's record stands on every live card
-  dead-held : (g h : ℕ) → isLive d g ≡ false → g < d .cards → isLive d h ≡ true → Held g none (b₁ .last g) (load (sizeOf d) m₅ h)
+  dead-held : (g h : ℕ) → isLive d g ≡ false → g < d .cards → isLive d h ≡ true
+      → Held g none (b₁ .last g) (load (sizeOf d) m₅ h)
   dead-held g h dead less live =
       elim (ℕ-discrete g f) [
         | yes same ↦
             rw (same, recovering.last-same d f m b rack f (rack .lost), ← (recovering.answers d f m b rack))
             (held-kept f none r _ _
-            (λ o above below. backed .records f h o few (not-due f (λ up. absurd (true≢false (sym up ∙ rack .lost)))) above below)
+            (λ o above below. backed .records f h o few (not-due f (λ up. absurd (true≢false (sym up ∙ rack .lost))))
+            above below)
             (failed .held h (rack .core .shape .below h live) live))
         | no other ↦
             rw (recovering.last-same d f m b rack g dead)
             (held-kept g none (b .last g) _ _
             (λ o above below.
-            other-record g h o (omega (arith, rack .core .shape .few-cards)) other (λ up. absurd (true≢false (sym up ∙ dead)))
+            other-record g h o (omega (arith, rack .core .shape .few-cards)) other
+            (λ up. absurd (true≢false (sym up ∙ dead)))
             above below
             ∙ recovering.closed d f m b rack .dead g h o dead less live above below)
             (rack .records g h dead other less live))
@@ -307,13 +320,15 @@ module _ (d : Directory) (f : ℕ) (m : List ℕ) (b : Book) (rack : AwaitingRac
       }
     where
       second-live : (p : ℕ) → p < d .pages
-          → ((lostHome d f p ≡ true) × (secondaryOf d′ p ≡ newHome d f p)) ⊎ ((lostHome d f p ≡ false) × (secondaryOf d′ p ≡ secondaryOf d p))
+          → ((lostHome d f p ≡ true) × (secondaryOf d′ p ≡ newHome d f p))
+          ⊎ ((lostHome d f p ≡ false) × (secondaryOf d′ p ≡ secondaryOf d p))
           → isLive d (secondaryOf d′ p) ≡ true
       second-live p page (inl new) = rw (new .1) (recovering.new-home d f m b rack p)
       second-live p page (inr old) = rw (old .1) (whole-live p page (old .0))
 
       differ : (p : ℕ) → p < d .pages
-          → ((lostHome d f p ≡ true) × (secondaryOf d′ p ≡ newHome d f p)) ⊎ ((lostHome d f p ≡ false) × (secondaryOf d′ p ≡ secondaryOf d p))
+          → ((lostHome d f p ≡ true) × (secondaryOf d′ p ≡ newHome d f p))
+          ⊎ ((lostHome d f p ≡ false) × (secondaryOf d′ p ≡ secondaryOf d p))
           → primaryOf d′ p ≢ secondaryOf d′ p
       differ p page (inl new) same = recovering.new-is-other d f m b rack p (sym (new .1) ∙ sym same ∙ first p page)
       differ p page (inr old) same =
@@ -323,4 +338,5 @@ module _ (d : Directory) (f : ℕ) (m : List ℕ) (b : Book) (rack : AwaitingRac
   pub recovers : RunningRack (recoveredDirectory d f) (recoveredMemory d f m) b₁
   unfolding recoveredMemory writeRecords
   recovers =
-      rw (recovered-parts d f (rack .core .shape .few-pages) (rack .arrays .primaries) (rack .arrays .secondaries)) runs
+      rw (recovered-parts d f (rack .core .shape .few-pages) (rack .arrays .primaries) (rack .arrays .secondaries))
+      runs

@@ -18,7 +18,8 @@ use Rattle.protocol.specs.Release.{sizeOf, countsAt}
 use Rattle.protocol.specs.Record.{underWay}
 use Rattle.protocol.specs.Recovery.{backupBefore, closeReleases, restorePages, keptHome, newHome}
 use Rattle.protocol.specs.Recovery.{copyToNewHomes, failedRelease}
-use Rattle.protocol.specs.Book.{Opened, none, opened, listPrices, Book, count, countUncounted, countOpen, strikeOpen}
+use Rattle.protocol.specs.Book.{Opened, none, opened, listPrices, Book, count, countUncounted, countOpen}
+use Rattle.protocol.specs.Book.{strikeOpen}
 use Rattle.protocol.proofs.Shape.{area-of-live, shape-kept}
 use Rattle.protocol.proofs.Over.{over-none, HomeOf}
 use Rattle.protocol.proofs.BookLaws.{update-other, uncounted-none}
@@ -100,7 +101,8 @@ module _ (d : Directory) (f : ℕ) (m : List ℕ) (b : Book) (rack : AwaitingRac
       go true live = absurd (omega (arith, rack .core .shape .below x live))
       go false dead = dead
 
-  pub closed : Core d (backupBefore d f) (load (sizeOf d) m) (stampOf d f m ≢ doneOf d f m) (stampOf d f m ≡ doneOf d f m) m₁ b₁
+  pub closed : Core d (backupBefore d f) (load (sizeOf d) m) (stampOf d f m ≢ doneOf d f m)
+      (stampOf d f m ≡ doneOf d f m) m₁ b₁
   closed = close-core-all d f _ _ _ m b past-dead (rack .core)
 
   up : isLive d (nextLiveOf d f) ≡ true
@@ -118,7 +120,8 @@ module _ (d : Directory) (f : ℕ) (m : List ℕ) (b : Book) (rack : AwaitingRac
   pub answers : failedRelease d f m ≡ b .last f
   unfolding failedRelease
   answers =
-      recorded-is (sizeOf d) m₁ (nextLiveOf d f) f (b .last f) (area-of-live (closed .shape) (nextLiveOf d f) up) (omega arith)
+      recorded-is (sizeOf d) m₁ (nextLiveOf d f) f (b .last f) (area-of-live (closed .shape) (nextLiveOf d f) up)
+      (omega arith)
       few (rack .core .last-eight f) (record-kept (recordStamp f) (omega arith) (omega arith) ∙ rack .stamped)
       (λ j within. record-kept _ (omega arith) (omega arith) ∙ rack .desked j within)
 
@@ -153,7 +156,8 @@ module _ (d : Directory) (f : ℕ) (m : List ℕ) (b : Book) (rack : AwaitingRac
       ∙ laid-none (32 * p + w) _
 
   -- so both halves are, once restored
-  pub restored-right : (h p : ℕ) → isLive d h ≡ true → HomeOf d h p → p < d .pages → Right (sizeOf d) (b₁ .price) m₂ h p
+  pub restored-right : (h p : ℕ) → isLive d h ≡ true → HomeOf d h p → p < d .pages
+      → Right (sizeOf d) (b₁ .price) m₂ h p
   restored-right h p live home page = go forward refl m₂-restored
     where
       word : (w : ℕ) → w < 32 → HomeWord d h p w

@@ -1,6 +1,6 @@
 -- The proof of demand 1: a refused call leaves memory, directory and buffers as they were.
 use Prim.Native.Nat.{ℕ}
-use mathlib.Core.Path.{_≡_, refl, sym, ap, _∙_}
+use mathlib.Core.Path.{_≡_, refl}
 use mathlib.Core.List.{List, [], _∷_}
 use mathlib.Core.Bool.{Bool, true, false, cond, true≢false}
 use borrow.Author.Tests.{eq-eqb}
@@ -8,11 +8,9 @@ use lib.ListN.{length}
 use lib.Dec.{eqb}
 use Rattle.memory.specs.Layout.{deskSize}
 use Rattle.memory.specs.Area.{zeros}
-use Rattle.answer.specs.declared.Outcome.{Outcome}
 use Rattle.answer.specs.Outcome.{limits, refusedAt}
 use Rattle.directory.specs.declared.Directory.{Directory}
 use Rattle.directory.specs.Directory.{emptyDirectory}
-use Rattle.protocol.specs.Release.{Release}
 use Rattle.protocol.specs.Checks.{Check, check, firstRefusal, outsideLimits}
 use Rattle.protocol.specs.Result.{Result, accepted, resultOf}
 use Rattle.protocol.specs.Formatting.{formatting}
@@ -23,17 +21,18 @@ use Rattle.protocol.specs.Failure.{failure, failureChecks}
 use Rattle.protocol.specs.Recovery.{recovery, recoveryChecks}
 use Rattle.protocol.specs.Join.{join, joinChecks}
 use Rattle.protocol.specs.DeskQuestion.{deskQuestion, deskChecks}
-use Rattle.protocol.specs.Book.{Call, open-release, make-step, fetch-page, fail-card, recover, join-card, ask-desk}
+use Rattle.protocol.specs.Book.{Call, open-release, make-step, fetch-page, fail-card, recover, join-card}
+use Rattle.protocol.specs.Book.{ask-desk}
 use Rattle.protocol.specs.Demand3.{perform}
 use Rattle.protocol.specs.Demand1.{refusalsOf, handedBack, isAmong, Unchanged, Demand1}
 use Rattle.protocol.proofs.Accepting.{when-refused}
 
-abbrev numbersOf : List Check → List ℕ
+abbrev pub numbersOf : List Check → List ℕ
 numbersOf [] = []
 numbersOf (c ∷ cs) = c .number ∷ numbersOf cs
 
 -- the first check that refuses is one of them
-among : (cs : List Check) (value : ℕ) → accepted (firstRefusal cs value) ≡ false
+pub among : (cs : List Check) (value : ℕ) → accepted (firstRefusal cs value) ≡ false
     → isAmong (numbersOf cs) (firstRefusal cs value .number) ≡ true
 unfolding firstRefusal isAmong
 among [] value refused = absurd (true≢false refused)
@@ -46,13 +45,16 @@ among (c ∷ cs) value refused = go (c .refuses) refused (among cs value)
     go : (refuses : Bool)
         → accepted (cond refuses (refusedAt (c .number) (c .place)) (firstRefusal cs value)) ≡ false
         → (accepted (firstRefusal cs value) ≡ false → isAmong (numbersOf cs) (firstRefusal cs value .number) ≡ true)
-        → isAmong (c .number ∷ numbersOf cs) (cond refuses (refusedAt (c .number) (c .place)) (firstRefusal cs value) .number)
+        → isAmong (c .number ∷ numbersOf cs)
+        (cond refuses (refusedAt (c .number) (c .place)) (firstRefusal cs value) .number)
         ≡ true
     go true refused rest = rw (eq-eqb (c .number) (c .number) refl)
-    go false refused rest = one-more (eqb (c .number) (firstRefusal cs value .number)) (isAmong (numbersOf cs) (firstRefusal cs value .number)) (rest refused)
+    go false refused rest = one-more (eqb (c .number) (firstRefusal cs value .number))
+        (isAmong (numbersOf cs) (firstRefusal cs value .number)) (rest refused)
 
 by-checks : (cs : List Check) (value : ℕ) (done : Result) (d : Directory) (m words : List ℕ)
-    → done .outcome ≡ firstRefusal cs value → accepted (resultOf (firstRefusal cs value) done d m words .outcome) ≡ false
+    → done .outcome ≡ firstRefusal cs value
+    → accepted (resultOf (firstRefusal cs value) done d m words .outcome) ≡ false
     → Unchanged (numbersOf cs) d m words (resultOf (firstRefusal cs value) done d m words)
 by-checks cs value done d m words same refused =
     let e = when-refused (firstRefusal cs value) done d m words same refused in

@@ -38,7 +38,8 @@ right-same same right =
 module _ (d : Directory) (f page : ℕ) (m : List ℕ) where
   copies : lostHome d f page ≡ true
       → copyToNewHome d f page m
-      ≡ copyRun (sizeOf d) m (keptHome d f page) (tentative page) (newHome d f page) (tentative page) (pageSize + pageSize)
+      ≡ copyRun (sizeOf d) m (keptHome d f page) (tentative page) (newHome d f page) (tentative page)
+      (pageSize + pageSize)
   unfolding copyToNewHome
   copies lost = rw lost
 
@@ -56,17 +57,20 @@ module _ (d : Directory) (f page : ℕ) (m : List ℕ) where
 
     copied-elsewhere : (h p o : ℕ) → p < d .pages → o < 64 → (h ≢ newHome d f page) ⊎ (p ≢ page)
         → load (sizeOf d) (copyToNewHome d f page m) h (pageStart p + o) ≡ load (sizeOf d) m h (pageStart p + o)
-    copied-elsewhere h p o inside within (inl other) = outside h _ (outside-other-card other (omega arith) (omega arith))
+    copied-elsewhere h p o inside within (inl other) = outside h _
+        (outside-other-card other (omega arith) (omega arith))
     copied-elsewhere h p o inside within (inr other) =
         outside h _ (outside-other-offset (λ j below e. omega arith) (omega arith) (omega arith))
 
-    copied-there : Shape d m → isLive d (keptHome d f page) ≡ true → isLive d (newHome d f page) ≡ true → (o : ℕ) → o < 64
+    copied-there : Shape d m → isLive d (keptHome d f page) ≡ true → isLive d (newHome d f page) ≡ true → (o : ℕ)
+        → o < 64
         → load (sizeOf d) (copyToNewHome d f page m) (newHome d f page) (pageStart page + o)
         ≡ load (sizeOf d) m (keptHome d f page) (pageStart page + o)
     copied-there shape kept new o within =
         rw (copies lost)
         (load-copy-run-inside (sizeOf d) m (keptHome d f page) (tentative page) (newHome d f page) (tentative page)
-        (pageSize + pageSize) (area-of-live shape _ kept) (area-of-live shape _ new) (omega arith) (omega arith) o within)
+        (pageSize + pageSize) (area-of-live shape _ kept) (area-of-live shape _ new) (omega arith) (omega arith) o
+        within)
 
 -- ---- the pages below n
 
@@ -112,7 +116,8 @@ module _ (d : Directory) (f : ℕ) (price : ℕ → ℕ) (m : List ℕ) (shape :
           there : Right (sizeOf d) price (copyToNewHome d f n m′) (newHome d f n) n
           there =
               right-same
-              (copied-there d f n m′ lost fits (shape-kept shape m′ (below .same-length)) (kept-live n fits lost) (new-live n fits lost))
+              (copied-there d f n m′ lost fits (shape-kept shape m′ (below .same-length)) (kept-live n fits lost)
+              (new-live n fits lost))
               (below .stays (keptHome d f n) n fits (kept-right n fits lost))
 
           still : (h p : ℕ) → p < d .pages → Right (sizeOf d) price m′ h p
@@ -121,9 +126,11 @@ module _ (d : Directory) (f : ℕ) (price : ℕ → ℕ) (m : List ℕ) (shape :
               elim (ℕ-discrete p n) [
                 | yes same ↦ elim (ℕ-discrete h (newHome d f n)) [
                   | yes here ↦ rw (same, here) there
-                  | no other ↦ right-same (λ o within. copied-elsewhere d f n m′ lost fits h p o inside within (inl other)) right
+                  | no other ↦ right-same
+                      (λ o within. copied-elsewhere d f n m′ lost fits h p o inside within (inl other)) right
                 ]
-                | no other ↦ right-same (λ o within. copied-elsewhere d f n m′ lost fits h p o inside within (inr other)) right
+                | no other ↦ right-same
+                    (λ o within. copied-elsewhere d f n m′ lost fits h p o inside within (inr other)) right
               ]
 
   pub rehomed-below : (n : ℕ) → n ≤ d .pages → RehomedBelow d f price n m (inTurn (copyToNewHome d f) n m)

@@ -1,4 +1,5 @@
--- Restoring the pages: at each live home of each page the one half becomes what the other is, and nothing else changes.
+-- Restoring the pages: at each live home of each page the one half becomes what the other is, and nothing else
+-- changes.
 use Prim.Native.Nat.{ℕ, zero, suc, _+_, _*_, _≤_, _<_}
 use mathlib.Core.Path.{_≡_, refl, sym, ap, _∙_}
 use mathlib.Core.Logic.{_≢_, _⊎_, inl, inr}
@@ -74,11 +75,13 @@ module _ (d : Directory) (forward : Bool) (page home : ℕ) (m : List ℕ) where
         → load (sizeOf d) (restoreHome d forward page home m) h o ≡ load (sizeOf d) m h o
     elsewhere h o outside = go (isLive d home) refl
       where
-        go : (up : Bool) → isLive d home ≡ up → load (sizeOf d) (restoreHome d forward page home m) h o ≡ load (sizeOf d) m h o
+        go : (up : Bool) → isLive d home ≡ up
+            → load (sizeOf d) (restoreHome d forward page home m) h o ≡ load (sizeOf d) m h o
         go true live = rw (restores live) (load-copy-run-outside (sizeOf d) m home _ home _ pageSize h o outside)
         go false dead = rw (restores-not dead)
 
-    pub restore-low : (h o : ℕ) → o < 676 → load (sizeOf d) (restoreHome d forward page home m) h o ≡ load (sizeOf d) m h o
+    pub restore-low : (h o : ℕ) → o < 676
+        → load (sizeOf d) (restoreHome d forward page home m) h o ≡ load (sizeOf d) m h o
     restore-low h o low =
         elsewhere h o (outside-below (omega arith) (omega (arith, halves-small forward .1)))
 
@@ -88,7 +91,8 @@ module _ (d : Directory) (forward : Bool) (page home : ℕ) (m : List ℕ) where
         ≡ halfWord (sizeOf d) m h p (source forward) w
     restore-source h p w inside within =
         elsewhere h _
-        (outside-other-offset (λ j below e. apart j below e (halves-apart forward)) (omega (arith, halves-small forward .1))
+        (outside-other-offset (λ j below e. apart j below e (halves-apart forward))
+        (omega (arith, halves-small forward .1))
         (omega (arith, halves-small forward .0)))
       where
         apart : (j : ℕ) → j < pageSize → pageStart p + (source forward + w) ≡ pageStart page + target forward + j
@@ -102,7 +106,8 @@ module _ (d : Directory) (forward : Bool) (page home : ℕ) (m : List ℕ) where
         elsewhere h _ (outside-other-card other (omega (arith, halves-small forward .1)) (omega arith))
     restore-other h p w half inside within small (inr other) =
         elsewhere h _
-        (outside-other-offset (λ j below e. omega (arith, halves-small forward .1)) (omega (arith, halves-small forward .1))
+        (outside-other-offset (λ j below e. omega (arith, halves-small forward .1))
+        (omega (arith, halves-small forward .1))
         (omega arith))
 
     -- the half that it is copied to
@@ -114,7 +119,8 @@ module _ (d : Directory) (forward : Bool) (page home : ℕ) (m : List ℕ) where
         let to : pageStart page + (target forward + w) ≡ pageStart page + target forward + w = omega arith in
         let from : pageStart page + source forward + w ≡ pageStart page + (source forward + w) = omega arith in
         rw (restores live, to)
-        (load-copy-run-inside (sizeOf d) m home (pageStart page + source forward) home (pageStart page + target forward) pageSize
+        (load-copy-run-inside (sizeOf d) m home (pageStart page + source forward) home
+        (pageStart page + target forward) pageSize
         area area (omega (arith, halves-small forward .0)) (omega (arith, halves-small forward .1)) w within
         ∙ rw from)
 
@@ -144,7 +150,8 @@ module _ (d : Directory) (forward : Bool) (m : List ℕ) (shape : Shape d m) whe
       kept = λ h p w inside within.
           restore-source d forward n home m′ fits h p w inside within ∙ below .kept h p w inside within;
       copied = λ h p w before inside within live is-home.
-          restore-other d forward n home m′ fits h p w (target forward) inside within (halves-small forward .1) (inr (omega arith))
+          restore-other d forward n home m′ fits h p w (target forward) inside within (halves-small forward .1)
+          (inr (omega arith))
           ∙ below .copied h p w before inside within live is-home;
     },
     λ h w within live which. at h w within live which (ℕ-discrete h home),
@@ -155,10 +162,12 @@ module _ (d : Directory) (forward : Bool) (m : List ℕ) (shape : Shape d m) whe
           ≡ halfWord (sizeOf d) m h n (source forward) w
       at h w within live which (yes same) =
           rw same
-          (restore-target d forward n home m′ fits (shape-kept shape m′ (below .same-length)) (rw same at live) w within
+          (restore-target d forward n home m′ fits (shape-kept shape m′ (below .same-length)) (rw same at live) w
+          within
           ∙ below .kept home n w fits within)
       at h w within live (inl was) (no other) =
-          restore-other d forward n home m′ fits h n w (target forward) fits within (halves-small forward .1) (inl other)
+          restore-other d forward n home m′ fits h n w (target forward) fits within (halves-small forward .1)
+          (inl other)
           ∙ homes h w within live was
       at h w within live (inr same) (no other) = absurd (other same)
 

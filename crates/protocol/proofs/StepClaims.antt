@@ -14,14 +14,18 @@ use Rattle.diff.proofs.Prices.{laid-none, laid-unnamed}
 use Rattle.diff.proofs.Stored.{price-on-page}
 use Rattle.protocol.specs.Release.{Release, Write, releaseWrites, countsAt, stepsIn}
 use Rattle.protocol.specs.Book.{Opened, none, opened, listPrices, update}
-use Rattle.protocol.proofs.Writes.{noPrice, length-writes, Phase, phase, to-tentative, to-desk, to-stamp, to-committed}
+use Rattle.protocol.proofs.Writes.{noPrice, length-writes, Phase, phase, to-tentative, to-desk, to-stamp}
+use Rattle.protocol.proofs.Writes.{to-committed}
 use Rattle.protocol.proofs.Writes.{to-done, to-close, write-tentative, write-desk, write-stamp}
 use Rattle.protocol.proofs.Over.{over, over-none, written, written-miss, written-other-offset, misses-at}
 use Rattle.protocol.proofs.Stepped.{stepWrite}
-use Rattle.protocol.proofs.BookLaws.{pricesIn, EightWords, uncounted, uncounted-early, uncounted-late, update-same}
-use Rattle.protocol.proofs.Claims.{Apart, HomeWord, Half, wordIn, Agrees, Claim, Moves, claim-moves, claim-struck, claim-kept}
+use Rattle.protocol.proofs.BookLaws.{pricesIn, EightWords, uncounted, uncounted-early, uncounted-late}
+use Rattle.protocol.proofs.BookLaws.{update-same}
+use Rattle.protocol.proofs.Claims.{Apart, HomeWord, Half, wordIn, Agrees, Claim, Moves, claim-moves}
+use Rattle.protocol.proofs.Claims.{claim-struck, claim-kept}
 use Rattle.protocol.proofs.Halves.{on-pages, tentative-misses, committed-misses, committed-over, pending}
-use Rattle.protocol.proofs.Halves.{pendingCommitted, pending-first, pending-over, committed-early, committed-late, committed-first}
+use Rattle.protocol.proofs.Halves.{pendingCommitted, pending-first, pending-over, committed-early}
+use Rattle.protocol.proofs.Halves.{committed-late, committed-first}
 use Rattle.protocol.proofs.Halves.{tentatives, committeds}
 
 -- the book's prices after a step: counted with the release's own if the step counts it
@@ -29,10 +33,12 @@ pub record PricesAfter (k s : ℕ) (price price′ : ℕ → ℕ) (laid : ℕ �
   pub counts : suc s ≡ countsAt k → (label : ℕ) → price′ label ≡ laid label
   pub plain : suc s ≢ countsAt k → (label : ℕ) → price′ label ≡ price label
 
-module _ (d : Directory) (backup : ℕ → ℕ) (release : ℕ → Opened) (price price′ : ℕ → ℕ) (m m′ : List ℕ) (c : ℕ) (few : c < 8)
+module _ (d : Directory) (backup : ℕ → ℕ) (release : ℕ → Opened) (price price′ : ℕ → ℕ) (m m′ : List ℕ) (c : ℕ)
+    (few : c < 8)
     (r : Release) (list : List ℕ) (s : ℕ) (is : release c ≡ opened r list s) (eight : length (r .desk) ≡ 8)
     (before : s < 4 * length (listPrices list) + 10)
-    (after : PricesAfter (length (listPrices list)) s price price′ (λ label. laidAt (listPrices list) label (price label))) where
+    (after : PricesAfter (length (listPrices list)) s price price′
+    (λ label. laidAt (listPrices list) label (price label))) where
   -- a label that the release does not name keeps its price
   price-kept : (label : ℕ) → names (listPrices list) label ≡ false → price′ label ≡ price label
   price-kept label unnamed =
@@ -43,11 +49,17 @@ module _ (d : Directory) (backup : ℕ → ℕ) (release : ℕ → Opened) (pric
 
   -- the target of the tentative words stays
   due-kept : (label : ℕ)
-      → laidAt (uncounted (opened r list (suc s))) label (price′ label) ≡ laidAt (uncounted (opened r list s)) label (price label)
+      → laidAt (uncounted (opened r list (suc s))) label (price′ label) ≡ laidAt (uncounted (opened r list s)) label
+      (price label)
   due-kept label =
       elim (ℕ-discrete (suc s) (countsAt (length (listPrices list)))) [
         | yes counts ↦
-            rw (uncounted-late r list (suc s) (omega arith), uncounted-early r list s (omega arith), after .counts counts label)
+            rw (
+              uncounted-late r list (suc s) (omega arith),
+              uncounted-early r list s (omega arith),
+              after .counts
+                  counts label,
+            )
             (laid-none label _)
         | no plain ↦ rw (after .plain plain label) (go (decLt s (countsAt (length (listPrices list)))) plain)
       ]
@@ -60,22 +72,23 @@ module _ (d : Directory) (backup : ℕ → ℕ) (release : ℕ → Opened) (pric
 
   module _ (H : Half d) (wrote : (h p w : ℕ) → HomeWord d h p w
       → wordIn d H m′ h p w
-      ≡ written (stepWrite d (backup c) c r (listPrices list) s) h (pageStart p + (H .half + w)) (wordIn d H m h p w)) where
-    -- what a step's moves need beside its effect on c's own words
-    moves : ((h p w : ℕ) → HomeWord d h p w → names (listPrices list) (32 * p + w) ≡ false
-        → stepWrite d (backup c) c r (listPrices list) s .card ≡ h
-        → stepWrite d (backup c) c r (listPrices list) s .offset ≢ pageStart p + (H .half + w))
-        → ((h p w : ℕ) → HomeWord d h p w → Agrees d H c (opened r list s) price h p w (wordIn d H m h p w)
-        → Agrees d H c (opened r list (suc s)) price′ h p w (wordIn d H m′ h p w))
-        → Moves d H release price price′ m m′ c (opened r list (suc s))
-    moves misses own =
-        record {
-          grows = λ label unnamed. rw is unnamed;
-          same-price = price-kept;
-          same-word = λ h p w word unnamed.
-              wrote h p w word ∙ written-miss _ h _ (wordIn d H m h p w) (misses h p w word unnamed);
-          own = λ h p w word agrees. own h p w word (rw is at agrees);
-        }
+      ≡ written (stepWrite d (backup c) c r (listPrices list) s) h (pageStart p + (H .half + w)) (wordIn d H m h p w))
+    where
+      -- what a step's moves need beside its effect on c's own words
+      moves : ((h p w : ℕ) → HomeWord d h p w → names (listPrices list) (32 * p + w) ≡ false
+          → stepWrite d (backup c) c r (listPrices list) s .card ≡ h
+          → stepWrite d (backup c) c r (listPrices list) s .offset ≢ pageStart p + (H .half + w))
+          → ((h p w : ℕ) → HomeWord d h p w → Agrees d H c (opened r list s) price h p w (wordIn d H m h p w)
+          → Agrees d H c (opened r list (suc s)) price′ h p w (wordIn d H m′ h p w))
+          → Moves d H release price price′ m m′ c (opened r list (suc s))
+      moves misses own =
+          record {
+            grows = λ label unnamed. rw is unnamed;
+            same-price = price-kept;
+            same-word = λ h p w word unnamed.
+                wrote h p w word ∙ written-miss _ h _ (wordIn d H m h p w) (misses h p w word unnamed);
+            own = λ h p w word agrees. own h p w word (rw is at agrees);
+          }
 
   within-writes : s < length (releaseWrites d (backup c) c r (listPrices list))
   within-writes = omega (arith, before, length-writes d (backup c) c r (listPrices list) eight)
@@ -128,15 +141,18 @@ module _ (d : Directory) (backup : ℕ → ℕ) (release : ℕ → Opened) (pric
       still : suc s ≤ countsAt (length (listPrices list)) → (h p w : ℕ) → HomeWord d h p w
           → wordIn d (committeds d backup) m′ h p w ≡ wordIn d (committeds d backup) m h p w
       still early h p w word =
-          wrote h p w word ∙ written-other-offset _ h _ (wordIn d (committeds d backup) m h p w) (early-apart early p w (word .word))
+          wrote h p w word ∙ written-other-offset _ h _ (wordIn d (committeds d backup) m h p w)
+          (early-apart early p w (word .word))
 
       own : (h p w : ℕ) → HomeWord d h p w
           → Agrees d (committeds d backup) c (opened r list s) price h p w (wordIn d (committeds d backup) m h p w)
-          → Agrees d (committeds d backup) c (opened r list (suc s)) price′ h p w (wordIn d (committeds d backup) m′ h p w)
+          → Agrees d (committeds d backup) c (opened r list (suc s)) price′ h p w
+          (wordIn d (committeds d backup) m′ h p w)
       own h p w word agrees = at (ℕ-discrete (suc s) (countsAt (length (listPrices list))))
         where
           at : Dec (suc s ≡ countsAt (length (listPrices list)))
-              → Agrees d (committeds d backup) c (opened r list (suc s)) price′ h p w (wordIn d (committeds d backup) m′ h p w)
+              → Agrees d (committeds d backup) c (opened r list (suc s)) price′ h p w
+              (wordIn d (committeds d backup) m′ h p w)
           at (yes counts) =
               let was = sym (over-none h _ _)
               ∙ (rw (committed-early d backup c r list s eight (omega arith)) at agrees) ∙ laid-none (32 * p + w) _ in
@@ -147,10 +163,12 @@ module _ (d : Directory) (backup : ℕ → ℕ) (release : ℕ → Opened) (pric
               )
               (committed-first d backup c r list (suc s) eight few counts h p w _ (word .word) (word .home)
               ∙ ap (laidAt (listPrices list) (32 * p + w)) was ∙ sym (laid-none (32 * p + w) _))
-          at (no plain) = rw (after .plain plain (32 * p + w)) (going-on (decLt s (countsAt (length (listPrices list)))) plain)
+          at (no plain) = rw (after .plain plain (32 * p + w))
+              (going-on (decLt s (countsAt (length (listPrices list)))) plain)
             where
               going-on : Dec (s < countsAt (length (listPrices list))) → suc s ≢ countsAt (length (listPrices list))
-                  → Agrees d (committeds d backup) c (opened r list (suc s)) price h p w (wordIn d (committeds d backup) m′ h p w)
+                  → Agrees d (committeds d backup) c (opened r list (suc s)) price h p w
+                  (wordIn d (committeds d backup) m′ h p w)
               going-on (yes early) plain =
                   rw (committed-early d backup c r list (suc s) eight (omega arith), still (omega arith) h p w word)
                   (rw (committed-early d backup c r list s eight early) at agrees)
@@ -178,7 +196,8 @@ module _ (d : Directory) (backup : ℕ → ℕ) (release : ℕ → Opened) (pric
   close-tentatives same claim =
       same-words (tentatives d backup) same (update release c none)
       (claim-struck d (tentatives d backup) release price m c few eights apart
-      (λ h p w v within. rw (is, pending-over d backup c r list s eight past) (over-none h _ v)) (rw is (uncounted-late r list s (omega arith))) claim)
+      (λ h p w v within. rw (is, pending-over d backup c r list s eight past) (over-none h _ v))
+      (rw is (uncounted-late r list s (omega arith))) claim)
 
   pub close-committeds : ((h p w : ℕ) → HomeWord d h p w
       → wordIn d (committeds d backup) m′ h p w ≡ wordIn d (committeds d backup) m h p w)

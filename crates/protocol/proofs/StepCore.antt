@@ -69,7 +69,8 @@ module _ (d : Directory) (backup : ℕ → ℕ) (old : ℕ → ℕ → ℕ) (T C
           list = λ o above under. elsewhere x o (omega arith) (inl other);
         }
 
-    kept-record : (x h o : ℕ) → x < 8 → 20 + 18 * x ≤ o → o < 38 + 18 * x → load (sizeOf d) m′ h o ≡ load (sizeOf d) m h o
+    kept-record : (x h o : ℕ) → x < 8 → 20 + 18 * x ≤ o → o < 38 + 18 * x
+        → load (sizeOf d) m′ h o ≡ load (sizeOf d) m h o
     kept-record x h o little above under = elsewhere h o (omega arith) (inr (inl (omega arith, omega arith)))
 
     kept-page : (h o : ℕ) → 676 ≤ o → o < sizeOf d → load (sizeOf d) m′ h o ≡ load (sizeOf d) m h o
@@ -77,7 +78,8 @@ module _ (d : Directory) (backup : ℕ → ℕ) (old : ℕ → ℕ → ℕ) (T C
 
     own-last : ownRelease (sizeOf d) m′ c ≡ b .last c
     own-last =
-        close-own (sizeOf d) m c (omega arith) (rw (standing .stands .release) eight) (area-of-live (core .shape) c live)
+        close-own (sizeOf d) m c (omega arith) (rw (standing .stands .release) eight)
+        (area-of-live (core .shape) c live)
         ∙ standing .stands .release ∙ sym ((rw is at (core .numbers c)) .1 (omega arith))
 
     pub close-core : Core d backup old T C m′ (setOpen b c none)
@@ -87,31 +89,38 @@ module _ (d : Directory) (backup : ℕ → ℕ) (old : ℕ → ℕ → ℕ) (T C
           standing = update-each (b .release) c none (λ x R. isLive d x ≡ true → Standing (d .pages) m′ x R)
               (λ _. close-word-9 (sizeOf d) m c (omega arith) (rw (standing .stands .release) eight)
               (area-of-live (core .shape) c live))
-              (λ x other up. standing-kept (d .pages) m m′ x (b .release x) (kept-other x other) (core .standing x up));
-          gone = update-each (b .release) c none (λ x R. isLive d x ≡ false → R ≡ none) (λ _. refl) (λ x other. core .gone x);
+              (λ x other up. standing-kept (d .pages) m m′ x (b .release x) (kept-other x other)
+              (core .standing x up));
+          gone = update-each (b .release) c none (λ x R. isLive d x ≡ false → R ≡ none) (λ _. refl)
+              (λ x other. core .gone x);
           under = update-each (b .release) c none (λ x R. Under R) tt (λ x other. core .under x);
           eights = update-each (b .release) c none (λ x R. EightWords R) tt (λ x other. core .eights x);
           last-eight = core .last-eight;
           apart = apart-struck (b .release) c (core .apart);
           numbers = update-each (b .release) c none (λ x R. Numbers R (b .last x)) tt (λ x other. core .numbers x);
-          owns = update-each (b .release) c none (λ x R. isLive d x ≡ true → Own R (ownRelease (sizeOf d) m′ x) (b .last x))
+          owns = update-each (b .release) c none
+              (λ x R. isLive d x ≡ true → Own R (ownRelease (sizeOf d) m′ x) (b .last x))
               (λ _. own-last)
               (λ x other up. rw (own-kept (sizeOf d) m m′ x (same-own-release (sizeOf d) m m′ x (kept-other x other)))
               (core .owns x up));
           tentative = λ t.
-              close-tentatives d backup (b .release) (b .price) m m′ c few (core .eights) (core .apart) r list s is (omega arith)
+              close-tentatives d backup (b .release) (b .price) m m′ c few (core .eights) (core .apart) r list s is
+              (omega arith)
               (λ h p w word. kept-page h _ (omega arith) (omega (arith, word .page, word .word))) (core .tentative t);
           committed = λ t.
-              close-committeds d backup (b .release) (b .price) m m′ c few (core .eights) (core .apart) r list s is (omega arith)
+              close-committeds d backup (b .release) (b .price) m m′ c few (core .eights) (core .apart) r list s is
+              (omega arith)
               (λ h p w word. kept-page h _ (omega arith) (omega (arith, word .page, word .word))) (core .committed t);
           held = update-each (b .release) c none
-              (λ x R. isLive d x ≡ true → isLive d (backup x) ≡ true → Held x R (b .last x) (load (sizeOf d) m′ (backup x)))
+              (λ x R. isLive d x ≡ true → isLive d (backup x) ≡ true
+              → Held x R (b .last x) (load (sizeOf d) m′ (backup x)))
               (λ _ up. close-held c r list s (b .last c) _ _ (omega arith)
               (λ o above below. kept-record c (backup c) o few above below) (rw is at (core .held c live up)))
               (λ x other lives up. held-kept x (b .release x) (b .last x) _ _
               (λ o above below. kept-record x (backup x) o (small x lives) above below) (core .held x lives up));
           dead = λ g h o gone little up above below.
-              kept-record g h o (omega (arith, core .shape .few-cards)) above below ∙ core .dead g h o gone little up above below;
+              kept-record g h o (omega (arith, core .shape .few-cards)) above below
+              ∙ core .dead g h o gone little up above below;
         }
 
   -- ---- any step
@@ -120,7 +129,8 @@ module _ (d : Directory) (backup : ℕ → ℕ) (old : ℕ → ℕ → ℕ) (T C
       → Core d backup old T C (stepMemory d (backup c) m c) (stepBook b c (opened r list s))
   write-step before =
       elim (ℕ-discrete (suc s) (countsAt (length (listPrices list)))) [
-        | yes counts ↦ subst (Core d backup old T C (stepMemory d (backup c) m c)) (sym (step-book-counts b c r list s counts))
+        | yes counts ↦ subst (Core d backup old T C (stepMemory d (backup c) m c))
+            (sym (step-book-counts b c r list s counts))
             (write-core d backup old T C m b core c live r list s is before _ _
             (record { counts = λ _ label. refl; plain = λ no. absurd (no counts) })
             (record { counts = λ _. update-same (b .last) c r; plain = λ no. absurd (no counts) })

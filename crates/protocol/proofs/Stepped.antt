@@ -10,19 +10,23 @@ use native.Mathlib.Omega.{arith}
 use native.Mathlib.Decide.{ℕ-discrete}
 use borrow.Author.Tests.{lt-ltb, le-ltb}
 use lib.ListN.{length, getD}
-use Rattle.memory.specs.Layout.{areaSize, deskSize, ownStamp, ownDesk, releaseOpen, releaseSize, stepsMade, releaseDesk}
+use Rattle.memory.specs.Layout.{areaSize, deskSize, ownStamp, ownDesk, releaseOpen, releaseSize, stepsMade}
+use Rattle.memory.specs.Layout.{releaseDesk}
 use Rattle.memory.specs.Layout.{listStart, listSize, pageStart}
 use Rattle.memory.specs.Area.{indexOf, AreaIn, load, store, storeRun}
 use Rattle.memory.proofs.Index.{index-same-card, index-same-offset, outside-other-card, outside-below, outside-above}
-use Rattle.memory.proofs.Words.{length-store, load-store-same, load-store-elsewhere, load-store-other-card, load-store-other-offset}
+use Rattle.memory.proofs.Words.{length-store, load-store-same, load-store-elsewhere, load-store-other-card}
+use Rattle.memory.proofs.Words.{load-store-other-offset}
 use Rattle.memory.proofs.Runs.{length-load-run, load-run-is, length-store-run, length-clear-run}
-use Rattle.memory.proofs.Runs.{load-store-run-outside, load-store-run-inside, load-clear-run-outside, load-clear-run-inside}
+use Rattle.memory.proofs.Runs.{load-store-run-outside, load-store-run-inside, load-clear-run-outside}
+use Rattle.memory.proofs.Runs.{load-clear-run-inside}
 use Rattle.directory.specs.declared.Directory.{Directory}
 use Rattle.directory.specs.Live.{liveAt}
 use Rattle.directory.specs.Directory.{isLive}
 use Rattle.diff.specs.declared.Price.{Price}
 use Rattle.diff.proofs.Stored.{OnPages, prices-on-pages, price-on-page}
-use Rattle.protocol.specs.Release.{Release, Write, noWrite, sizeOf, ownRelease, openRelease, openPrices, stepsOf, isOpen}
+use Rattle.protocol.specs.Release.{Release, Write, noWrite, sizeOf, ownRelease, openRelease, openPrices, stepsOf}
+use Rattle.protocol.specs.Release.{isOpen}
 use Rattle.protocol.specs.Release.{releaseWrites, makeWrite, close, stepMemory}
 use Rattle.protocol.proofs.Writes.{noPrice, length-writes, Phase, phase, to-tentative, to-desk, to-stamp}
 use Rattle.protocol.proofs.Writes.{to-committed, to-done, to-close}
@@ -85,7 +89,8 @@ module _ (d : Directory) (backup c : ℕ) (r : Release) (ps : List Price) (eight
   write-offset s before = go (phase (length ps) s (omega arith))
     where
       go : Phase (length ps) s → StepOffset (d .pages) c (getD (releaseWrites d backup c r ps) s noWrite .offset)
-      go (to-tentative early) = rw (write-tentative d backup c r ps eight s early) (price-offset (s / 2) 0 (omega arith) (omega arith))
+      go (to-tentative early) = rw (write-tentative d backup c r ps eight s early)
+          (price-offset (s / 2) 0 (omega arith) (omega arith))
       go (to-desk j at within) =
           rw (write-desk d backup c r ps eight s j at within)
           (record { place = inl (omega arith, omega arith); inside = omega arith })
@@ -93,7 +98,8 @@ module _ (d : Directory) (backup c : ℕ) (r : Release) (ps : List Price) (eight
           rw (write-stamp d backup c r ps eight s at)
           (record { place = inl (omega arith, omega arith); inside = omega arith })
       go (to-committed j at within) =
-          rw (write-committed d backup c r ps eight s j at within) (price-offset (j / 2) 32 (omega arith) (omega arith))
+          rw (write-committed d backup c r ps eight s j at within)
+          (price-offset (j / 2) 32 (omega arith) (omega arith))
       go (to-done at) =
           rw (write-done d backup c r ps eight s at)
           (record { place = inl (omega arith, omega arith); inside = omega arith })
@@ -116,7 +122,8 @@ module _ {d : Directory} {m : List ℕ} (shape : Shape d m) (backup c : ℕ) (li
   pub eight : length (r .desk) ≡ 8
   unfolding openRelease
   eight =
-      rw (← (stands .release)) (length-load-run (sizeOf d) m c releaseDesk deskSize (area-of-live shape c live) (omega arith))
+      rw (← (stands .release))
+      (length-load-run (sizeOf d) m c releaseDesk deskSize (area-of-live shape c live) (omega arith))
 
   on-pages : OnPages (d .pages) ps
   on-pages = rw (← (stands .prices)) (prices-on-pages (d .pages) _)
@@ -129,7 +136,8 @@ module _ {d : Directory} {m : List ℕ} (shape : Shape d m) (backup c : ℕ) (li
 
   -- before the close: the write, and one more in word 10
   pub step-writes : s < 4 * length ps + 10
-      → stepMemory d backup m c ≡ store (sizeOf d) (makeWrite (d .live) (sizeOf d) m (stepWrite d backup c r ps s)) c stepsMade (s + 1)
+      → stepMemory d backup m c ≡ store (sizeOf d) (makeWrite (d .live) (sizeOf d) m (stepWrite d backup c r ps s)) c
+      stepsMade (s + 1)
   unfolding stepMemory
   step-writes before =
       rw (stands .release, stands .prices, stands .steps, count)
@@ -146,11 +154,13 @@ module _ {d : Directory} {m : List ℕ} (shape : Shape d m) (backup c : ℕ) (li
     write-in = write-offset d backup c r ps eight few on-pages s before
 
     pub length-step : length (stepMemory d backup m c) ≡ length m
-    length-step = rw (step-writes before) (length-store _ _ _ _ _ ∙ length-make-write (d .live) (sizeOf d) m (stepWrite d backup c r ps s))
+    length-step = rw (step-writes before)
+        (length-store _ _ _ _ _ ∙ length-make-write (d .live) (sizeOf d) m (stepWrite d backup c r ps s))
 
     -- a word of a live card, but for the steps
     pub load-step : (h o : ℕ) → isLive d h ≡ true → o < (sizeOf d) → (h ≡ c → o ≢ stepsMade)
-        → load (sizeOf d) (stepMemory d backup m c) h o ≡ written (stepWrite d backup c r ps s) h o (load (sizeOf d) m h o)
+        → load (sizeOf d) (stepMemory d backup m c) h o ≡ written (stepWrite d backup c r ps s) h o
+        (load (sizeOf d) m h o)
     load-step h o up inside other =
         rw (step-writes before)
         (load-store-elsewhere (sizeOf d) _ c stepsMade (s + 1) h o apart
@@ -175,14 +185,16 @@ module _ {d : Directory} {m : List ℕ} (shape : Shape d m) (backup c : ℕ) (li
         → load (sizeOf d) (stepMemory d backup m c) x o ≡ load (sizeOf d) m x o
     own-word x o up other place =
         load-step x o up (fits place) other
-        ∙ written-other-offset (stepWrite d backup c r ps s) x o (load (sizeOf d) m x o) (apart place (write-in .place))
+        ∙ written-other-offset (stepWrite d backup c r ps s) x o (load (sizeOf d) m x o)
+        (apart place (write-in .place))
       where
         fits : (o < 20) ⊎ ((164 ≤ o) × (o < 676)) → o < sizeOf d
         fits (inl low) = omega arith
         fits (inr list) = omega arith
 
         apart : (o < 20) ⊎ ((164 ≤ o) × (o < 676))
-            → ((20 + 18 * c ≤ stepWrite d backup c r ps s .offset) × (stepWrite d backup c r ps s .offset < 38 + 18 * c))
+            → ((20 + 18 * c ≤ stepWrite d backup c r ps s .offset)
+            × (stepWrite d backup c r ps s .offset < 38 + 18 * c))
             ⊎ (676 ≤ stepWrite d backup c r ps s .offset)
             → stepWrite d backup c r ps s .offset ≢ o
         apart (inl low) (inl records) e = omega arith
@@ -197,7 +209,8 @@ module _ {d : Directory} {m : List ℕ} (shape : Shape d m) (backup c : ℕ) (li
         load-step h o up (omega arith) (λ _ e. omega arith)
         ∙ written-other-offset (stepWrite d backup c r ps s) h o (load (sizeOf d) m h o) (apart (write-in .place))
       where
-        apart : ((20 + 18 * c ≤ stepWrite d backup c r ps s .offset) × (stepWrite d backup c r ps s .offset < 38 + 18 * c))
+        apart : ((20 + 18 * c ≤ stepWrite d backup c r ps s .offset)
+            × (stepWrite d backup c r ps s .offset < 38 + 18 * c))
             ⊎ (676 ≤ stepWrite d backup c r ps s .offset)
             → stepWrite d backup c r ps s .offset ≢ o
         apart (inl records) e = omega arith
@@ -277,7 +290,8 @@ module _ (size : ℕ) (m : List ℕ) (c : ℕ) (long : 676 ≤ size) where
       close-word-9 =
           let m₁ = storeRun size m c ownStamp own-words in
           load-clear-run-outside size _ c listStart listSize c releaseOpen (outside-below (omega arith) (omega arith))
-          ∙ load-clear-run-inside size m₁ c releaseOpen releaseSize (rw length-store-run area) (omega arith) 0 (omega arith)
+          ∙ load-clear-run-inside size m₁ c releaseOpen releaseSize (rw length-store-run area) (omega arith) 0
+          (omega arith)
 
       pub close-not-open : (marks : List Bool) → isOpen marks size (close size m c) c ≡ false
       unfolding isOpen

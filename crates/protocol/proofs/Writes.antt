@@ -58,7 +58,8 @@ run-write-at card offset (v ∷ vs) (suc j) within =
 getD-left : (xs ys : List Write) (i : ℕ) → i < length xs → getD (xs ++ ys) i noWrite ≡ getD xs i noWrite
 getD-left xs ys i within = List·getD-append xs ys noWrite i within
 
-getD-right : (xs ys : List Write) (n i j : ℕ) → length xs ≡ n → i ≡ n + j → getD (xs ++ ys) i noWrite ≡ getD ys j noWrite
+getD-right : (xs ys : List Write) (n i j : ℕ) → length xs ≡ n → i ≡ n + j
+    → getD (xs ++ ys) i noWrite ≡ getD ys j noWrite
 getD-right xs ys n i j size at = rw (at, ← size) (getD-append-add xs ys j noWrite)
 
 module _ (d : Directory) (backup c : ℕ) (r : Release) (ps : List Price) (eight : length (r .desk) ≡ 8) where
@@ -84,14 +85,17 @@ module _ (d : Directory) (backup c : ℕ) (r : Release) (ps : List Price) (eight
 
   -- 1. step s + 1, while s is below 2k
   pub write-tentative : (s : ℕ) → s < 2 * length ps
-      → getD (releaseWrites d backup c r ps) s noWrite ≡ priceWrite (homeOf d s) tentativeHalf (getD ps (s / 2) noPrice)
+      → getD (releaseWrites d backup c r ps) s noWrite ≡ priceWrite (homeOf d s) tentativeHalf
+      (getD ps (s / 2) noPrice)
   unfolding releaseWrites
   write-tentative s within =
-      getD-left (priceWrites d tentativeHalf ps) _ s (omega (arith, tentatives)) ∙ price-write-at d tentativeHalf ps s within
+      getD-left (priceWrites d tentativeHalf ps) _ s (omega (arith, tentatives))
+      ∙ price-write-at d tentativeHalf ps s within
 
   -- 2. step 2k + j + 1
   pub write-desk : (s j : ℕ) → s ≡ 2 * length ps + j → j < 8
-      → getD (releaseWrites d backup c r ps) s noWrite ≡ writeOf backup (recordDesk c (r .number) + j) (getD (r .desk) j 0)
+      → getD (releaseWrites d backup c r ps) s noWrite ≡ writeOf backup (recordDesk c (r .number) + j)
+      (getD (r .desk) j 0)
   unfolding releaseWrites
   write-desk s j at within =
       getD-right (priceWrites d tentativeHalf ps) _ (2 * length ps) s j tentatives at
@@ -108,7 +112,8 @@ module _ (d : Directory) (backup c : ℕ) (r : Release) (ps : List Price) (eight
 
   -- 4. step 2k + 10 + j
   pub write-committed : (s j : ℕ) → s ≡ 2 * length ps + 9 + j → j < 2 * length ps
-      → getD (releaseWrites d backup c r ps) s noWrite ≡ priceWrite (homeOf d j) committedHalf (getD ps (j / 2) noPrice)
+      → getD (releaseWrites d backup c r ps) s noWrite ≡ priceWrite (homeOf d j) committedHalf
+      (getD ps (j / 2) noPrice)
   unfolding releaseWrites
   write-committed s j at within =
       getD-right (priceWrites d tentativeHalf ps) _ (2 * length ps) s (9 + j) tentatives (omega arith)
@@ -123,9 +128,11 @@ module _ (d : Directory) (backup c : ℕ) (r : Release) (ps : List Price) (eight
   unfolding releaseWrites
   write-done s at =
       getD-right (priceWrites d tentativeHalf ps) _ (2 * length ps) s (9 + 2 * length ps) tentatives (omega arith)
-      ∙ getD-right (runWrites backup (recordDesk c (r .number)) (r .desk)) _ 8 (9 + 2 * length ps) (1 + 2 * length ps) desks
+      ∙ getD-right (runWrites backup (recordDesk c (r .number)) (r .desk)) _ 8 (9 + 2 * length ps) (1 + 2 * length ps)
+      desks
       (omega arith)
-      ∙ getD-right (runWrites backup (recordStamp c) (r .number ∷ [])) second 1 (1 + 2 * length ps) (2 * length ps) refl
+      ∙ getD-right (runWrites backup (recordStamp c) (r .number ∷ [])) second 1 (1 + 2 * length ps) (2 * length ps)
+      refl
       (omega arith)
       ∙ getD-right (priceWrites d committedHalf ps) last (2 * length ps) (2 * length ps) 0 committeds (omega arith)
 

@@ -1,4 +1,5 @@
--- The book (document 01, "The book of demand 3"): the reference model of the rack. It is fed each call and whether it was
+-- The book (document 01, "The book of demand 3"): the reference model of the rack. It is fed each call and whether it
+-- was
 -- accepted; it sees neither memory nor directory nor an answer.
 -- Assumes nothing: these are definitions.
 use Prim.Native.Nat.{ℕ, suc, _+_, _*_}
@@ -60,7 +61,8 @@ listPrices list = pricesOf 64 list
 
 -- ---- what accepted calls do to it
 
--- "To count a release sets every word its list prices to that price, and its card's last number and desk to the release's
+-- "To count a release sets every word its list prices to that price, and its card's last number and desk to the
+-- release's
 -- own."
 abbrev pub count : Book → ℕ → Release → List ℕ → Book
 count b card r list =
@@ -88,7 +90,8 @@ abbrev pub failBook : Book → ℕ → Book
 failBook b card =
     record { price = b .price; last = b .last; release = update (b .release) card none; failed = card }
 
--- "open releases of fewer than 2k + 9 steps are counted, cards ascending, then all open ones struck out"; a rack has at
+-- "open releases of fewer than 2k + 9 steps are counted, cards ascending, then all open ones struck out"; a rack has
+-- at
 -- most 8 cards
 unfoldable pub countUncounted : ℕ → Opened → Book → Book
 countUncounted card none b = b

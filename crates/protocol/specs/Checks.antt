@@ -59,7 +59,8 @@ badHome cards marks status h = leb cards h || (not (liveAt marks h) && not (awai
 unfoldable pub badPage : Directory → ℕ → Bool
 badPage d p =
     eqb (primaryOf d p) (secondaryOf d p)
-    || (badHome (d .cards) (d .live) (d .status) (primaryOf d p) || badHome (d .cards) (d .live) (d .status) (secondaryOf d p))
+    || (badHome (d .cards) (d .live) (d .status) (primaryOf d p) || badHome (d .cards) (d .live) (d .status)
+    (secondaryOf d p))
 
 -- "an awaited card that is live or does not exist"
 unfoldable pub badStatus : ℕ → List Bool → Status → Bool

@@ -1,4 +1,5 @@
--- Demand 1 over the definitions: "a refusal changes no word of what was lent", and has a number of document 01's table.
+-- Demand 1 over the definitions: "a refusal changes no word of what was lent", and has a number of document 01's
+-- table.
 -- Assumes nothing: these are definitions.
 use Prim.Native.Nat.{ℕ}
 use mathlib.Core.Path.{_≡_}
@@ -11,7 +12,8 @@ use Rattle.directory.specs.declared.Directory.{Directory}
 use Rattle.directory.specs.Directory.{emptyDirectory}
 use Rattle.protocol.specs.Result.{Result, accepted}
 use Rattle.protocol.specs.Formatting.{formatting}
-use Rattle.protocol.specs.Book.{Call, open-release, make-step, fetch-page, fail-card, recover, join-card, ask-desk}
+use Rattle.protocol.specs.Book.{Call, open-release, make-step, fetch-page, fail-card, recover, join-card}
+use Rattle.protocol.specs.Book.{ask-desk}
 use Rattle.protocol.specs.Demand3.{perform}
 
 -- document 01, "What the rack refuses": the numbers by which each call refuses, in the order of its checks

@@ -18,7 +18,8 @@ use Rattle.protocol.specs.Failure.{failure}
 use Rattle.protocol.specs.Recovery.{recovery}
 use Rattle.protocol.specs.Join.{join}
 use Rattle.protocol.specs.DeskQuestion.{deskQuestion}
-use Rattle.protocol.specs.Book.{Call, open-release, make-step, fetch-page, fail-card, recover, join-card, ask-desk}
+use Rattle.protocol.specs.Book.{Call, open-release, make-step, fetch-page, fail-card, recover, join-card}
+use Rattle.protocol.specs.Book.{ask-desk}
 use Rattle.protocol.specs.Book.{Opened, none}
 use Rattle.protocol.specs.Book.{Book, newBook, update, feedIf}
 
@@ -44,7 +45,8 @@ away recover out = out
 away (join-card card) out = update out card false
 away (ask-desk card) out = out
 
--- "Nobody else writes the memory, but from its accepted failure to its accepted join a card's area may hold anything at
+-- "Nobody else writes the memory, but from its accepted failure to its accepted join a card's area may hold anything
+-- at
 -- each call"
 pub record Undisturbed (d : Directory) (out : ℕ → Bool) (left found : List ℕ) : Type 0 where
   pub same-length : length found ≡ length left
@@ -82,18 +84,28 @@ Tells b recover result =
 Tells b (join-card card) result = Unit {0}
 Tells b (ask-desk card) result = b .release card ≡ none → result .words ≡ b .last card .desk
 
--- Each call gets what the last one left, refused or not; an accepted one tells what the book holds.
-unfoldable pub AllTell : Directory → List ℕ → (ℕ → Bool) → Book → List Visit → Type 0
-AllTell d left out b [] = Unit {0}
-AllTell d left out b (v ∷ vs) =
-    let result : Result = perform (v .call) d (v .found) in
+-- ---- every list of calls
+
+abbrev pub answerTo : Directory → Visit → Result
+answerTo d v = perform (v .call) d (v .found)
+
+-- Each call gets what the last one left, refused or not; at each, P holds of the book, the directory and the visit.
+unfoldable pub Always :
+    (Book → Directory → Visit → Type 0) → Directory → List ℕ → (ℕ → Bool) → Book → List Visit → Type 0
+Always P d left out b [] = Unit {0}
+Always P d left out b (v ∷ vs) =
+    let result : Result = answerTo d v in
     let taken : Bool = accepted (result .outcome) in
     Typed (v .call) → Undisturbed d out left (v .found)
-    → (taken ≡ true → Tells b (v .call) result)
-    × AllTell (result .directory) (result .memory) (cond taken (away (v .call) out) out) (feedIf taken (v .call) b) vs
+    → P b d v
+    × Always P (result .directory) (result .memory) (cond taken (away (v .call) out) out) (feedIf taken (v .call) b) vs
 
--- Demand 3.
-abbrev pub Demand3 : Type 0
-Demand3 =
+-- on every formatted rack
+abbrev pub Everywhere : (Book → Directory → Visit → Type 0) → Type 0
+Everywhere P =
     (m : List ℕ) (cards pages : ℕ) → accepted (formatting m cards pages .outcome) ≡ true → (visits : List Visit)
-    → AllTell (formatting m cards pages .directory) (formatting m cards pages .memory) (λ card. false) newBook visits
+    → Always P (formatting m cards pages .directory) (formatting m cards pages .memory) (λ card. false) newBook visits
+
+-- Demand 3: an accepted call tells what the book holds.
+abbrev pub Demand3 : Type 0
+Demand3 = Everywhere (λ b d v. accepted (answerTo d v .outcome) ≡ true → Tells b (v .call) (answerTo d v))

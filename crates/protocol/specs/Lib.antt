@@ -14,3 +14,4 @@ pub mod Join
 pub mod Book
 pub mod Demand3
 pub mod Demand1
+pub mod Corollaries

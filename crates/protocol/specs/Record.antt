@@ -18,7 +18,8 @@ recordedRelease size m holder c =
 
 -- the second phase of the release is under way: "stamp and done mark differ"
 unfoldable pub underWay : ℕ → List ℕ → ℕ → ℕ → Bool
-underWay size m holder c = cond (eqb (load size m holder (recordStamp c)) (load size m holder (recordDone c))) false true
+underWay size m holder c =
+    cond (eqb (load size m holder (recordStamp c)) (load size m holder (recordDone c))) false true
 
 -- "stamp, done mark equal to it, desk by evenness, other desk 0"
 unfoldable pub settledRecord : Release → List ℕ

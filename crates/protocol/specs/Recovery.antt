@@ -13,7 +13,8 @@ use Rattle.memory.specs.Area.{copyRun, zeros}
 use Rattle.directory.specs.declared.Directory.{Directory}
 use Rattle.directory.specs.declared.Status.{Status}
 use Rattle.directory.specs.declared.Status.the-variants.{Running, Awaiting}
-use Rattle.directory.specs.Directory.{isLive, primaryOf, secondaryOf, nextLiveOf, backupOf, markedLive, withHomes, withStatus}
+use Rattle.directory.specs.Directory.{isLive, primaryOf, secondaryOf, nextLiveOf, backupOf, markedLive, withHomes}
+use Rattle.directory.specs.Directory.{withStatus}
 use Rattle.protocol.specs.Release.{Release, sizeOf, openPrices, stepsOf, isOpen, stepsIn, stepMemory}
 use Rattle.protocol.specs.Record.{recordedRelease, underWay, writeRecord, writeOwnRecord}
 use Rattle.protocol.specs.Checks.{Check, check, firstRefusal, fittingChecks, awaitsRecovery}
@@ -71,7 +72,8 @@ newHome d f page = nextLiveOf d (keptHome d f page)
 unfoldable pub copyToNewHome : Directory → ℕ → ℕ → List ℕ → List ℕ
 copyToNewHome d f page m =
     cond (lostHome d f page)
-    (copyRun (sizeOf d) m (keptHome d f page) (tentative page) (newHome d f page) (tentative page) (pageSize + pageSize))
+    (copyRun (sizeOf d) m (keptHome d f page) (tentative page) (newHome d f page) (tentative page)
+    (pageSize + pageSize))
     m
 
 unfoldable pub copyToNewHomes : Directory → ℕ → List ℕ → List ℕ
@@ -84,7 +86,8 @@ moveHome d f page moved = cond (lostHome d f page) (withHomes moved page (keptHo
 unfoldable pub recoveredDirectory : Directory → ℕ → Directory
 recoveredDirectory d f = withStatus (inTurn (moveHome d f) (d .pages) d) Running
 
--- ---- "f's record .. is written on every live card. Each live card whose backup was f has its record written likewise on
+-- ---- "f's record .. is written on every live card. Each live card whose backup was f has its record written likewise
+-- on
 -- its new backup, from its own stamp and desk."
 
 unfoldable pub writeFailed : Directory → ℕ → Release → ℕ → List ℕ → List ℕ
@@ -95,7 +98,8 @@ backupWas d f c = isLive d c && eqb (backupBefore d f c) f
 
 unfoldable pub writeRecords : Directory → ℕ → Release → List ℕ → List ℕ
 writeRecords d f r m =
-    inTurn (writeOwnRecord (sizeOf d) (backupWas d f) (backupOf d)) (d .cards) (inTurn (writeFailed d f r) (d .cards) m)
+    inTurn (writeOwnRecord (sizeOf d) (backupWas d f) (backupOf d)) (d .cards)
+    (inTurn (writeFailed d f r) (d .cards) m)
 
 -- ---- the whole
 

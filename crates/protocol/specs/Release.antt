@@ -67,7 +67,8 @@ priceWrite home half p = writeOf (home (p .page)) (pageStart (p .page) + (half +
 -- "for each price in order, the .. word at the secondary, then at the primary"
 abbrev pub priceWrites : Directory → ℕ → List Price → List Write
 priceWrites d half [] = []
-priceWrites d half (p ∷ ps) = priceWrite (secondaryOf d) half p ∷ priceWrite (primaryOf d) half p ∷ priceWrites d half ps
+priceWrites d half (p ∷ ps) = priceWrite (secondaryOf d) half p ∷ priceWrite (primaryOf d) half p ∷ priceWrites d half
+    ps
 
 -- words stored at a card one after the other
 abbrev pub runWrites : ℕ → ℕ → List ℕ → List Write
@@ -98,7 +99,8 @@ stepsIn k = 4 * k + 11
 
 -- ---- one step
 
--- A store meant for a dead card is dropped ("Failure, recovery, join"). On a running rack the homes and the backup of a
+-- A store meant for a dead card is dropped ("Failure, recovery, join"). On a running rack the homes and the backup of
+-- a
 -- live card are live.
 unfoldable pub makeWrite : List Bool → ℕ → List ℕ → Write → List ℕ
 makeWrite marks size m w = cond (liveAt marks (w .card)) (store size m (w .card) (w .offset) (w .value)) m

@@ -12,7 +12,8 @@ use Rattle.protocol.specs.Checks.{Check, check, firstRefusal, runningChe
 use Rattle.protocol.specs.Result.{Result, resultOf}
 
 abbrev pub stepChecks : Directory → List ℕ → ℕ → List Check
-stepChecks d m c = runningChecks d m ++ check (noLiveCard d c) noCard ∷ check (not (isOpen (d .live) (sizeOf d) m c)) noneOpen ∷ []
+stepChecks d m c = runningChecks d m ++ check (noLiveCard d c) noCard ∷ check (not (isOpen (d .live) (sizeOf d) m c))
+    noneOpen ∷ []
 
 unfoldable pub step : Directory → List ℕ → ℕ → Result
 step d m c =

@@ -1,15 +1,33 @@
-// The demands on the rack, over the definitions that the calls' contracts cite. The functions here do nothing when they
+// The demands on the rack, over the definitions that the calls' contracts cite. The functions here
+// do nothing when they
 // are called: they are where the gate shows the theorems.
 ghost use Rattle.protocol.specs.Demand1.{Demand1};
 ghost use Rattle.protocol.specs.Demand3.{Demand3};
+ghost use Rattle.protocol.specs.Corollaries.{AlwaysFits, ResendsRefused, CountsOnce};
 
 // Demand 1: a refused call leaves everything that was lent as it was.
 pub fn refused_changes_nothing()
     ensures { λ _. ⌜ Demand1 ⌝ }
 {}
 
-// Demand 3: after every list of calls, and whatever the areas of cards that are away hold, accepted calls answer what the
+// Demand 3: after every list of calls, and whatever the areas of cards that are away hold, accepted
+// calls answer what the
 // book holds.
 pub fn calls_tell_the_book()
     ensures { λ _. ⌜ Demand3 ⌝ }
+{}
+
+// No call on a rack so reached is refused with 2.
+pub fn rack_always_fits()
+    ensures { λ _. ⌜ AlwaysFits ⌝ }
+{}
+
+// A release resent to its card is refused with 4 or 5, unless a recovery undid it.
+pub fn resends_are_refused()
+    ensures { λ _. ⌜ ResendsRefused ⌝ }
+{}
+
+// Each call counts at most the next number of a card, so no release counts twice.
+pub fn releases_count_once()
+    ensures { λ _. ⌜ CountsOnce ⌝ }
 {}

@@ -29,7 +29,8 @@ module _ (pages : ℕ) (list : List ℕ) (index : ℕ) (s : Cursor) where
 
   pub read-turn : (step : Step) → step ≡ wordStep pages s index (getD list index 0) → index < length list
       → (index ≡ 512 → ⊥)
-      → readFrom pages (drop index list) index s ≡ afterStep (readFrom pages (drop (index + 1) list) (index + 1)) s index step
+      → readFrom pages (drop index list) index s ≡ afterStep (readFrom pages (drop (index + 1) list) (index + 1)) s
+      index step
   unfolding readFrom
   read-turn step does within few = rw (does, drop-cons list index 0 within, add-one) (simp (ne-eqb index 512 few))
 
@@ -48,7 +49,8 @@ module _ (pages : ℕ) (list : List ℕ) (index : ℕ) (s : Cursor) where
 
   pub prices-turn : (step : Step) → step ≡ wordStep pages s index (getD list index 0) → index < length list
       → s .due ≤ 0
-      → pricesFrom pages (drop index list) index s ≡ pricesAfter (pricesFrom pages (drop (index + 1) list) (index + 1)) step
+      → pricesFrom pages (drop index list) index s ≡ pricesAfter (pricesFrom pages (drop (index + 1) list) (index + 1))
+      step
   unfolding pricesFrom
   prices-turn step does within idle =
       rw (does, drop-cons list index 0 within, add-one) (simp (le-ltb 0 (s .due) idle))

@@ -1,4 +1,5 @@
-// Reading a diff (document 01's list of changes): a list handed in, a list that stands in a card's area, and one price.
+// Reading a diff (document 01's list of changes): a list handed in, a list that stands in a card's
+// area, and one price.
 ghost use mathlib.Core.Path.{_≡_};
 ghost use Prim.Native.Nat.{_+_, _<_, _≤_};
 ghost use lib.ListN.{length};

@@ -22,7 +22,8 @@ cast-at : tie.Need-cast-at Inv-loop μ-loop
 cast-at c = omega arith
 
 returns : tie.Need-returns Inv-loop μ-loop
-returns c = sym (first-live-past-marks (c .before .before .before .args .marks .now) _ _ (c .if1 .taken) (omega arith)) ∙ c .before .before .loop .inv .1
+returns c = sym (first-live-past-marks (c .before .before .before .args .marks .now) _ _ (c .if1 .taken) (omega arith))
+    ∙ c .before .before .loop .inv .1
 
 shared-slice-read-if2 : tie.Need-shared-slice-read-if2 Inv-loop μ-loop
 shared-slice-read-if2 c = search needs

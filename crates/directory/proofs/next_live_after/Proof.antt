@@ -17,7 +17,8 @@ first-live-requires : tie.Need-first-live-requires
 first-live-requires c κs = search needs
 
 returns : tie.Need-returns
-returns c = c .before .first-live .ensures ∙ sym (next-live-up (c .before .before .before .before .args .marks .now) _ _ (omega arith))
+returns c = c .before .first-live .ensures
+    ∙ sym (next-live-up (c .before .before .before .before .args .marks .now) _ _ (omega arith))
 
 first-live-requires-2 : tie.Need-first-live-requires-2
 first-live-requires-2 c κs = search needs

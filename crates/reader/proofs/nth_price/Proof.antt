@@ -1,4 +1,5 @@
--- `reader::nth_price` meets its contract. The loop's invariant: the price that is asked for is the one numbered `left` of the
+-- `reader::nth_price` meets its contract. The loop's invariant: the price that is asked for is the one numbered `left`
+-- of the
 -- words that are left.
 use Prim.Native.Nat.{_≤_, _-_}
 use mathlib.Core.Path.{_≡_, sym, ap, _∙_}
@@ -39,7 +40,8 @@ sub-t14 c = search needs
 returns : tie.Need-returns Inv-loop μ-loop
 returns c =
     let at = c .before .before .before .before .before .before .loop in
-    let turn = prices-due _ _ _ (at .s) (c .before .before .before .before .before .loop-test .taken) (c .before .before .if1 .taken) in
+    let turn = prices-due _ _ _ (at .s) (c .before .before .before .before .before .loop-test .taken)
+    (c .before .before .if1 .taken) in
     sym (nth-first _ _ (at .left) (c .before .if2 .taken)) ∙ sym (ap (λ ps. nthPrice ps (at .left)) turn) ∙ at .inv .3
 
 sub-left : tie.Need-sub-left Inv-loop μ-loop
@@ -57,12 +59,14 @@ loop-less c = search needs
 loop-again : tie.Need-loop-again Inv-loop μ-loop
 loop-again c =
     let at = c .before .before .before .before .before .before .loop in
-    let turn = prices-due _ _ _ (at .s) (c .before .before .before .before .before .loop-test .taken) (c .before .before .if1 .taken) in
+    let turn = prices-due _ _ _ (at .s) (c .before .before .before .before .before .loop-test .taken)
+    (c .before .before .if1 .taken) in
     rw (c .price-read .ensures) (
       search needs,
       record { within = search needs; one = search needs; few = search needs; named = search needs },
       search needs,
-      sym (nth-later _ _ (at .left) (c .before .if2 .left)) ∙ sym (ap (λ ps. nthPrice ps (at .left)) turn) ∙ at .inv .3,
+      sym (nth-later _ _ (at .left) (c .before .if2 .left)) ∙ sym (ap (λ ps. nthPrice ps (at .left)) turn)
+          ∙ at .inv .3,
     )
 
 read-word-requires : tie.Need-read-word-requires Inv-loop μ-loop
@@ -82,7 +86,9 @@ loop-again-2 c =
     let at = c .before .before .before .before .before .before .before .before .loop in
     let does = sym (c .before .t .given .1) ∙ c .before .before .before .read-word .ensures in
     let kept = word-kept _ _ _ _ (at .inv .1) _ does in
-    let turn = prices-turn _ _ _ (at .s) _ does (c .before .before .before .before .before .before .before .loop-test .taken) (c .before .before .before .before .if1 .left) in (
+    let turn = prices-turn _ _ _ (at .s) _ does
+    (c .before .before .before .before .before .before .before .loop-test .taken)
+    (c .before .before .before .before .if1 .left) in (
       search needs,
       record { within = kept .0; one = kept .1; few = search needs; named = kept .3 },
       search needs,
@@ -96,7 +102,8 @@ returns-2 : tie.Need-returns-2 Inv-loop μ-loop
 returns-2 c =
     let at = c .before .before .before .before .before .before .before .loop in
     let does = sym (c .enum-told .given .1) ∙ c .before .before .read-word .ensures in
-    let turn = prices-turn _ _ _ (at .s) _ does (c .before .before .before .before .before .before .loop-test .taken) (c .before .before .before .if1 .left) in
+    let turn = prices-turn _ _ _ (at .s) _ does (c .before .before .before .before .before .before .loop-test .taken)
+    (c .before .before .before .if1 .left) in
     sym (nth-none (at .left)) ∙ sym (ap (λ ps. nthPrice ps (at .left)) turn) ∙ at .inv .3
 
 enum-told-2 : tie.Need-enum-told-2 Inv-loop μ-loop
@@ -106,7 +113,8 @@ returns-3 : tie.Need-returns-3 Inv-loop μ-loop
 returns-3 c =
     let at = c .before .before .before .before .before .before .before .loop in
     let does = sym (c .enum-told2 .given .1) ∙ c .before .before .read-word .ensures in
-    let turn = prices-turn _ _ _ (at .s) _ does (c .before .before .before .before .before .before .loop-test .taken) (c .before .before .before .if1 .left) in
+    let turn = prices-turn _ _ _ (at .s) _ does (c .before .before .before .before .before .before .loop-test .taken)
+    (c .before .before .before .if1 .left) in
     sym (nth-none (at .left)) ∙ sym (ap (λ ps. nthPrice ps (at .left)) turn) ∙ at .inv .3
 
 returns-4 : tie.Need-returns-4 Inv-loop μ-loop

@@ -14,10 +14,20 @@ add-t7 : tie.Need-add-t7
 add-t7 c = search needs
 
 returns-3 : tie.Need-returns-3
-returns-3 c = simp (ne-eqb _ _ (c .before .before .before .if1 .left), le-ltb _ _ (c .before .if2 .left), le-leb _ _ (c .if3 .taken))
+returns-3 c = simp (
+  ne-eqb _ _ (c .before .before .before .if1 .left),
+  le-ltb _ _ (c .before .if2 .left),
+  le-leb _ _
+      (c .if3 .taken),
+)
 
 returns-4 : tie.Need-returns-4
-returns-4 c = simp (ne-eqb _ _ (c .before .before .before .if1 .left), le-ltb _ _ (c .before .if2 .left), lt-leb _ _ (c .if3 .left))
+returns-4 c = simp (
+  ne-eqb _ _ (c .before .before .before .if1 .left),
+  le-ltb _ _ (c .before .if2 .left),
+  lt-leb _ _
+      (c .if3 .left),
+)
 
 pub page-word-spec : {M : Type 1} → statement M
 page-word-spec = tie.close (tie.spec returns returns-2 add-t7 returns-3 returns-4)

@@ -1,4 +1,5 @@
--- `reader::read` meets its contract. The loop's invariant: the words that are left, read from here, give the verdict on the
+-- `reader::read` meets its contract. The loop's invariant: the words that are left, read from here, give the verdict
+-- on the
 -- whole list.
 use Prim.Native.Nat.{_≤_, _-_}
 use mathlib.Core.Path.{_≡_, sym, _∙_}
@@ -57,7 +58,8 @@ loop-again c =
       search needs,
       record { within = kept .0; one = kept .1; few = search needs; named = kept .3 },
       search needs,
-      sym (read-turn _ _ _ _ _ does (c .before .before .before .before .before .before .loop-test .taken) (c .before .before .before .before .before .if1 .left)) ∙ at .inv .4,
+      sym (read-turn _ _ _ _ _ does (c .before .before .before .before .before .before .loop-test .taken)
+          (c .before .before .before .before .before .if1 .left)) ∙ at .inv .4,
     )
 
 enum-told : tie.Need-enum-told Inv-loop μ-loop
@@ -73,7 +75,8 @@ returns-2 : tie.Need-returns-2 Inv-loop μ-loop
 returns-2 c =
     let at = c .before .before .before .before .before .before .loop in
     let does = sym (c .enum-told .given .1) ∙ c .before .before .read-word .ensures in
-    sym (read-turn _ _ _ _ _ does (c .before .before .before .before .before .loop-test .taken) (c .before .before .before .before .if1 .left)) ∙ at .inv .4
+    sym (read-turn _ _ _ _ _ does (c .before .before .before .before .before .loop-test .taken)
+    (c .before .before .before .before .if1 .left)) ∙ at .inv .4
 
 enum-told-2 : tie.Need-enum-told-2 Inv-loop μ-loop
 enum-told-2 c = search needs
@@ -85,7 +88,8 @@ returns-3 : tie.Need-returns-3 Inv-loop μ-loop
 returns-3 c =
     let at = c .before .before .before .before .before .before .loop in
     let does = sym (c .enum-told2 .given .1) ∙ c .before .before .read-word .ensures in
-    sym (read-turn _ _ _ _ _ does (c .before .before .before .before .before .loop-test .taken) (c .before .before .before .before .if1 .left)) ∙ at .inv .4
+    sym (read-turn _ _ _ _ _ does (c .before .before .before .before .before .loop-test .taken)
+    (c .before .before .before .before .if1 .left)) ∙ at .inv .4
 
 cast-t14 : tie.Need-cast-t14 Inv-loop μ-loop
 cast-t14 c = search needs

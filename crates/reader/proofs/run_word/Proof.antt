@@ -14,16 +14,33 @@ add-if3 : tie.Need-add-if3
 add-if3 c = search needs
 
 returns-3 : tie.Need-returns-3
-returns-3 c = simp (ne-eqb _ _ (c .before .before .if1 .left), ne-eqb _ _ (c .before .if2 .left), lt-ltb _ _ (c .if3 .taken))
+returns-3 c = simp (
+  ne-eqb _ _ (c .before .before .if1 .left),
+  ne-eqb _ _ (c .before .if2 .left),
+  lt-ltb _ _
+      (c .if3 .taken),
+)
 
 add-if4 : tie.Need-add-if4
 add-if4 c = search needs
 
 returns-4 : tie.Need-returns-4
-returns-4 c = simp (ne-eqb _ _ (c .before .before .before .before .if1 .left), ne-eqb _ _ (c .before .before .before .if2 .left), le-ltb _ _ (c .before .before .if3 .left), lt-ltb _ _ (c .if4 .taken))
+returns-4 c = simp (
+  ne-eqb _ _ (c .before .before .before .before .if1 .left),
+  ne-eqb _ _
+      (c .before .before .before .if2 .left),
+  le-ltb _ _ (c .before .before .if3 .left),
+  lt-ltb _ _ (c .if4 .taken),
+)
 
 returns-5 : tie.Need-returns-5
-returns-5 c = simp (ne-eqb _ _ (c .before .before .before .before .if1 .left), ne-eqb _ _ (c .before .before .before .if2 .left), le-ltb _ _ (c .before .before .if3 .left), le-ltb _ _ (c .if4 .left))
+returns-5 c = simp (
+  ne-eqb _ _ (c .before .before .before .before .if1 .left),
+  ne-eqb _ _
+      (c .before .before .before .if2 .left),
+  le-ltb _ _ (c .before .before .if3 .left),
+  le-ltb _ _ (c .if4 .left),
+)
 
 pub run-word-spec : {M : Type 1} → statement M
 run-word-spec =

@@ -1,0 +1,10 @@
+-- `protocol::rack_always_fits` meets its contract: the theorem is `always-fits` of proofs/Corollaries.antt.
+use Rattle.protocol.proofs.Corollaries.{always-fits}
+use Rattle.protocol.proofs.rack_always_fits.Statement.{statement}
+use Rattle.protocol.proofs.rack_always_fits.Tie as tie
+
+returns : tie.Need-returns
+returns c = always-fits
+
+pub rack-always-fits-spec : {M : Type 1} → statement M
+rack-always-fits-spec = tie.close (tie.spec returns)

@@ -1,0 +1,10 @@
+-- `protocol::releases_count_once` meets its contract: the theorem is `counts-once` of proofs/CountsOnce.antt.
+use Rattle.protocol.proofs.CountsOnce.{counts-once}
+use Rattle.protocol.proofs.releases_count_once.Statement.{statement}
+use Rattle.protocol.proofs.releases_count_once.Tie as tie
+
+returns : tie.Need-returns
+returns c = counts-once
+
+pub releases-count-once-spec : {M : Type 1} → statement M
+releases-count-once-spec = tie.close (tie.spec returns)

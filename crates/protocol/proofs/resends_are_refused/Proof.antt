@@ -1,0 +1,10 @@
+-- `protocol::resends_are_refused` meets its contract: the theorem is `resends-refused` of proofs/Corollaries.antt.
+use Rattle.protocol.proofs.Corollaries.{resends-refused}
+use Rattle.protocol.proofs.resends_are_refused.Statement.{statement}
+use Rattle.protocol.proofs.resends_are_refused.Tie as tie
+
+returns : tie.Need-returns
+returns c = resends-refused
+
+pub resends-are-refused-spec : {M : Type 1} → statement M
+resends-are-refused-spec = tie.close (tie.spec returns)

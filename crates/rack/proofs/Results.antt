@@ -1,0 +1,104 @@
+-- What a call leaves, by the outcome that its checks reach: a refusal leaves all as it was.
+use Prim.Native.Nat.{ℕ, _<_}
+use mathlib.Core.Path.{_≡_, refl}
+use mathlib.Core.Logic.{_≢_}
+use mathlib.Core.List.{List, []}
+use mathlib.Core.Bool.{true}
+use borrow.Author.Tests.{eq-eqb, ne-eqb}
+use lib.ListN.{length}
+use Rattle.answer.specs.declared.Outcome.{Outcome}
+use Rattle.memory.specs.Layout.{deskSize}
+use Rattle.memory.specs.Area.{zeros}
+use Rattle.directory.specs.declared.Directory.{Directory}
+use Rattle.directory.specs.Directory.{backupOf}
+use Rattle.protocol.specs.Release.{Release, sizeOf, stepMemory}
+use Rattle.protocol.specs.Checks.{Check, firstRefusal}
+use Rattle.protocol.specs.Result.{Result, resultOf}
+use Rattle.protocol.specs.Opening.{opening, openingChecks, openMemory}
+use Rattle.protocol.specs.Step.{step, stepChecks}
+use Rattle.protocol.specs.Fetch.{fetch, fetchChecks, committedPage}
+use Rattle.protocol.specs.Failure.{failure, failureChecks, failedDirectory}
+use Rattle.protocol.specs.DeskQuestion.{deskQuestion, deskChecks, deskOf}
+use Rattle.protocol.proofs.Accepting.{Passed, numbered, all-passed, Runs, OpeningPassed, StepPassed, FetchPassed}
+use Rattle.protocol.proofs.Accepting.{opening-passed, step-passed, fetch-passed, desk-passed}
+
+-- ---- any call
+
+abbrev resultIs : Outcome → Directory → List ℕ → List ℕ → Result
+resultIs o d m words = record { outcome = o; directory = d; memory = m; words = words }
+
+module _ {first o : Outcome} (reached : first ≡ o) (done : Outcome → Result) (d : Directory) (m words : List ℕ) where
+  refused-keeps : first .number ≢ 0 → resultOf o (done o) d m words ≡ resultIs first d m words
+  refused-keeps some = rw (← reached) (rw (ne-eqb _ _ some))
+
+  accepted-does : first .number ≡ 0 → resultOf o (done o) d m words ≡ done first
+  accepted-does none = rw (← reached) (rw (eq-eqb _ _ none))
+
+all-pass : (cs : List Check) → numbered cs ≡ true → {first : Outcome} → first ≡ firstRefusal cs 0 → first .number ≡ 0
+    → Passed cs
+all-pass cs real reached none = all-passed cs 0 real (rw (← reached) (eq-eqb _ _ none))
+
+-- ---- each call
+
+module _ (d : Directory) (m : List ℕ) where
+  module _ (c : ℕ) (r : Release) (list : List ℕ) {first : Outcome}
+      (reached : first ≡ firstRefusal (openingChecks d m c (r .number) list) 0) where
+    pub opening-refused : first .number ≢ 0 → opening d m c r list ≡ resultIs first d m []
+    unfolding opening
+    opening-refused = refused-keeps reached (λ o. resultIs o d (openMemory (sizeOf d) m c r list) []) d m []
+
+    pub opening-accepted : first .number ≡ 0
+        → opening d m c r list ≡ resultIs first d (openMemory (sizeOf d) m c r list) []
+    unfolding opening
+    opening-accepted = accepted-does reached (λ o. resultIs o d (openMemory (sizeOf d) m c r list) []) d m []
+
+    pub opening-facts : first .number ≡ 0 → OpeningPassed d m c (r .number) list
+    opening-facts none =
+        opening-passed d m c (r .number) list (all-pass (openingChecks d m c (r .number) list) refl reached none)
+
+  module _ (c : ℕ) {first : Outcome} (reached : first ≡ firstRefusal (stepChecks d m c) 0) where
+    pub step-refused : first .number ≢ 0 → step d m c ≡ resultIs first d m []
+    unfolding step
+    step-refused = refused-keeps reached (λ o. resultIs o d (stepMemory d (backupOf d c) m c) []) d m []
+
+    pub step-accepted : first .number ≡ 0 → step d m c ≡ resultIs first d (stepMemory d (backupOf d c) m c) []
+    unfolding step
+    step-accepted = accepted-does reached (λ o. resultIs o d (stepMemory d (backupOf d c) m c) []) d m []
+
+    pub step-facts : first .number ≡ 0 → StepPassed d m c
+    step-facts none = step-passed d m c (all-pass (stepChecks d m c) refl reached none)
+
+  module _ (page : ℕ) (buffer : List ℕ) {first : Outcome}
+      (reached : first ≡ firstRefusal (fetchChecks d m page (length buffer)) 0) where
+    pub fetch-refused : first .number ≢ 0 → fetch d m page buffer ≡ resultIs first d m buffer
+    unfolding fetch
+    fetch-refused = refused-keeps reached (λ o. resultIs o d m (committedPage d m page)) d m buffer
+
+    pub fetch-accepted : first .number ≡ 0 → fetch d m page buffer ≡ resultIs first d m (committedPage d m page)
+    unfolding fetch
+    fetch-accepted = accepted-does reached (λ o. resultIs o d m (committedPage d m page)) d m buffer
+
+    pub fetch-facts : first .number ≡ 0 → FetchPassed d m page (length buffer)
+    fetch-facts none =
+        fetch-passed d m page (length buffer) (all-pass (fetchChecks d m page (length buffer)) refl reached none)
+
+  module _ (c : ℕ) {first : Outcome} (reached : first ≡ firstRefusal (failureChecks d m c) 0) where
+    pub failure-refused : first .number ≢ 0 → failure d m c ≡ resultIs first d m []
+    unfolding failure
+    failure-refused = refused-keeps reached (λ o. resultIs o (failedDirectory d c) m []) d m []
+
+    pub failure-accepted : first .number ≡ 0 → failure d m c ≡ resultIs first (failedDirectory d c) m []
+    unfolding failure
+    failure-accepted = accepted-does reached (λ o. resultIs o (failedDirectory d c) m []) d m []
+
+  module _ (c : ℕ) {first : Outcome} (reached : first ≡ firstRefusal (deskChecks d m c) 0) where
+    pub desk-refused : first .number ≢ 0 → deskQuestion d m c ≡ resultIs first d m (zeros deskSize)
+    unfolding deskQuestion
+    desk-refused = refused-keeps reached (λ o. resultIs o d m (deskOf d m c)) d m (zeros deskSize)
+
+    pub desk-accepted : first .number ≡ 0 → deskQuestion d m c ≡ resultIs first d m (deskOf d m c)
+    unfolding deskQuestion
+    desk-accepted = accepted-does reached (λ o. resultIs o d m (deskOf d m c)) d m (zeros deskSize)
+
+    pub desk-facts : first .number ≡ 0 → Runs d m × (c < d .cards)
+    desk-facts none = desk-passed d m c (all-pass (deskChecks d m c) refl reached none)

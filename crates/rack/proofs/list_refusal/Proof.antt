@@ -1,0 +1,75 @@
+-- Rests on its tests, the definition's in the same order; a list that reads well has at most 512 words.
+use mathlib.Core.Path.{sym, _∙_}
+use native.Mathlib.Omega.{arith}
+use borrow.Author.Needs.{needs}
+use borrow.Author.Tests.{lt-ltb, le-ltb}
+use Rattle.rack.proofs.Fitting.{allowed-few}
+use Rattle.rack.proofs.Refusing.{first-refuses, first-passes, last-passes}
+use Rattle.rack.proofs.list_refusal.Statement.{statement}
+use Rattle.rack.proofs.list_refusal.Tie as tie
+
+check-requires : tie.Need-check-requires
+check-requires c κs = search needs
+
+outcome-of-requires : tie.Need-outcome-of-requires
+outcome-of-requires c κs = search needs
+
+refused-requires : tie.Need-refused-requires
+refused-requires c κs = search needs
+
+returns : tie.Need-returns
+returns c =
+    let faulty = c .before in
+    let read = faulty .before .before .outcome-of .ensures ∙ faulty .before .before .before .check .ensures in
+    (rw read at (c .refused .ensures)) ∙ sym (first-refuses _ _ _ _ (rw read at (lt-ltb _ _ (faulty .if1 .taken))))
+
+lowest-sharing-requires : tie.Need-lowest-sharing-requires
+lowest-sharing-requires c κs =
+    let read = c .before .before .outcome-of .ensures ∙ c .before .before .before .check .ensures in
+    let a = c .before .before .before .before .before .before .before .args in
+    let few = allowed-few (a .pages) (a .list .now) (rw (← read) (omega arith)) in
+    search needs
+
+cast-refused : tie.Need-cast-refused
+cast-refused c = search needs
+
+refused-requires-2 : tie.Need-refused-requires-2
+refused-requires-2 c κs = search needs
+
+returns-2 : tie.Need-returns-2
+returns-2 c =
+    let shared = c .before in
+    let faulty = shared .before .before in
+    let read = faulty .before .before .outcome-of .ensures ∙ faulty .before .before .before .check .ensures in
+    let found = shared .before .lowest-sharing .ensures in
+    (rw found at (c .refused2 .ensures))
+    ∙ sym (first-passes _ _ _ _ (rw read at (le-ltb _ _ (faulty .if1 .left)))
+    ∙ first-refuses _ _ _ _ (rw found at (lt-ltb _ _ (shared .if2 .taken))))
+
+refused-requires-3 : tie.Need-refused-requires-3
+refused-requires-3 c κs = search needs
+
+returns-3 : tie.Need-returns-3
+returns-3 c =
+    let shared = c .before in
+    let faulty = shared .before .before in
+    let read = faulty .before .before .outcome-of .ensures ∙ faulty .before .before .before .check .ensures in
+    let found = shared .before .lowest-sharing .ensures in
+    c .refused3 .ensures
+    ∙ sym (first-passes _ _ _ _ (rw read at (le-ltb _ _ (faulty .if1 .left)))
+    ∙ last-passes _ _ _ (rw found at (le-ltb _ _ (shared .if2 .left))))
+
+pub list-refusal-spec : {M : Type 1} → statement M
+list-refusal-spec =
+    tie.close
+    (tie.spec
+    check-requires
+    outcome-of-requires
+    refused-requires
+    returns
+    lowest-sharing-requires
+    cast-refused
+    refused-requires-2
+    returns-2
+    refused-requires-3
+    returns-3)

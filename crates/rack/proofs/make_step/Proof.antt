@@ -1,0 +1,117 @@
+-- Rests on its checks: an accepted step finds homes that are cards and a release that reads well.
+use Prim.Native.Nat.{_<_}
+use mathlib.Core.Path.{_≡_, refl, _∙_}
+use borrow.Author.Needs.{needs, length-unmapped}
+use lib.ListN.{length}
+use Rattle.protocol.specs.Release.{sizeOf}
+use Rattle.release.proofs.Callers.{card-in, step-by-homes}
+use Rattle.rack.proofs.Fitting.{homes-in, fitting}
+use Rattle.rack.proofs.Results.{step-facts, step-refused, step-accepted}
+use Rattle.rack.proofs.make_step.Statement.{statement}
+use Rattle.rack.proofs.make_step.Tie as tie
+
+slice-aggregate-step-refusal : tie.Need-slice-aggregate-step-refusal
+slice-aggregate-step-refusal c = search needs
+
+slice-aggregate-step-refusal-2 : tie.Need-slice-aggregate-step-refusal-2
+slice-aggregate-step-refusal-2 c = search needs
+
+slice-aggregate-step-refusal-3 : tie.Need-slice-aggregate-step-refusal-3
+slice-aggregate-step-refusal-3 c = search needs
+
+step-refusal-requires : tie.Need-step-refusal-requires
+step-refusal-requires c κs = search needs
+
+answer-of-requires : tie.Need-answer-of-requires
+answer-of-requires c κs = search needs
+
+same-length : tie.Need-same-length
+same-length c = search needs
+
+returns : tie.Need-returns
+returns c =
+    let first = c .before .before .before in
+    let start = first .before .before .before .before .before .before .before .before .before in
+    let a = start .args in
+    let d = a .directory in
+    let m = a .memory .now in
+    rw (step-refused d m (a .card) (first .step-refusal .ensures) (c .if1 .taken))
+    (c .before .before .answer-of .ensures, (refl, refl))
+
+slice-aggregate-next-live-after : tie.Need-slice-aggregate-next-live-after
+slice-aggregate-next-live-after c = search needs
+
+next-live-after-requires : tie.Need-next-live-after-requires
+next-live-after-requires c κs = search needs
+
+cast-backup : tie.Need-cast-backup
+cast-backup c = search needs
+
+slice-aggregate-step-release : tie.Need-slice-aggregate-step-release
+slice-aggregate-step-release c = search needs
+
+slice-aggregate-step-release-2 : tie.Need-slice-aggregate-step-release-2
+slice-aggregate-step-release-2 c = search needs
+
+slice-aggregate-step-release-3 : tie.Need-slice-aggregate-step-release-3
+slice-aggregate-step-release-3 c = search needs
+
+step-release-requires : tie.Need-step-release-requires
+step-release-requires c κs =
+    let test = c .before .before .before .before .before .before in
+    let first = test .before .before .before in
+    let start = first .before .before .before .before .before .before .before .before .before in
+    let a = start .args in
+    let d = a .directory in
+    let m = a .memory .now in
+    let arrays = start .good .1 .0 .1 .1 .1 .1 in
+    let marks : length (d .live) ≡ 8 = length-unmapped _ (d .live) 8 (arrays .0 .1 .0 .1) in
+    let primaries : length (d .primary) ≡ 64 = length-unmapped _ (d .primary) 64 (arrays .1 .0 .1 .0 .1) in
+    let secondaries : length (d .secondary) ≡ 64 = length-unmapped _ (d .secondary) 64 (arrays .1 .1 .0 .1 .0 .1) in
+    let passed = step-facts d m (a .card) (first .step-refusal .ensures) (test .if1 .left) in
+    let fit = fitting (passed .runs .fits) in
+    let within = fit .within in
+    let next = c .before .before .before .before .next-live-after in
+    let below : next .result < d .cards = rw (next .ensures) (fit .next-below (a .card)) in
+    let own = card-in (d .live) (sizeOf d) marks (within .cards-most) (within .whole) (passed .below) in
+    let backup = card-in (d .live) (sizeOf d) marks (within .cards-most) (within .whole) below in
+    let homes = homes-in d m fit marks primaries secondaries in
+    (homes, (own, (backup, fit .good (a .card) (passed .below) (passed .is-open))))
+
+same-length-2 : tie.Need-same-length-2
+same-length-2 c = search needs
+
+returns-2 : tie.Need-returns-2
+returns-2 c =
+    let test = c .before .before .before .before .before .before .before .before .before in
+    let first = test .before .before .before in
+    let start = first .before .before .before .before .before .before .before .before .before in
+    let a = start .args in
+    let d = a .directory in
+    let m = a .memory .now in
+    let stepped = c .before .before in
+    let next = stepped .before .before .before .before .before in
+    let made = rw (next .next-live-after .ensures) at (stepped .step-release .ensures) in
+    rw (step-accepted d m (a .card) (first .step-refusal .ensures) (test .if1 .left))
+    (test .before .before .answer-of .ensures, (refl, made ∙ step-by-homes d _ m (a .card)))
+
+pub make-step-spec : {M : Type 1} → statement M
+make-step-spec =
+    tie.close
+    (tie.spec
+    slice-aggregate-step-refusal
+    slice-aggregate-step-refusal-2
+    slice-aggregate-step-refusal-3
+    step-refusal-requires
+    answer-of-requires
+    same-length
+    returns
+    slice-aggregate-next-live-after
+    next-live-after-requires
+    cast-backup
+    slice-aggregate-step-release
+    slice-aggregate-step-release-2
+    slice-aggregate-step-release-3
+    step-release-requires
+    same-length-2
+    returns-2)

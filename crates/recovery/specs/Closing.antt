@@ -1,0 +1,35 @@
+-- What closing the open releases relies on, as a rack that passed its checks has it, and the memory after recovery.
+use Prim.Native.Nat.{ℕ, _*_, _+_, _<_}
+use mathlib.Core.Path.{_≡_}
+use mathlib.Core.List.{List}
+use mathlib.Core.Bool.{Bool, true}
+use Rattle.laws.specs.Search.{inTurn}
+use Rattle.memory.specs.Layout.{areaSize}
+use Rattle.directory.specs.declared.Directory.{Directory}
+use Rattle.directory.specs.Directory.{nextLiveOf, backupOf}
+use Rattle.diff.specs.declared.Verdict.the-variants.{Good}
+use Rattle.diff.specs.Reading.{readDiff}
+use Rattle.protocol.specs.Release.{sizeOf, openList, stepsOf, isOpen}
+use Rattle.protocol.specs.Record.{recordedRelease, underWay, writeOwnRecord}
+use Rattle.protocol.specs.Recovery.{restorePages, copyToNewHomes, writeFailed}
+use Rattle.release.specs.Stepping.{GoodRelease}
+use Rattle.recovery.specs.Rack.{backedBy}
+
+-- a release whose list reads well, and which has so many steps left, the close among them
+pub record StepsLeft (pages : ℕ) (m : List ℕ) (card left : ℕ) : Type 0 where
+  pub k : ℕ
+  pub words : ℕ
+  pub reads : readDiff pages (openList (areaSize pages) m card) ≡ Good k words
+  pub counts : stepsOf (areaSize pages) m card + left ≡ 4 * k + 11
+
+-- all open releases are good
+pub record ReleasesIn (d : Directory) (m : List ℕ) : Type 0 where
+  pub good : (c : ℕ) → c < d .cards → isOpen (d .live) (sizeOf d) m c ≡ true → GoodRelease (d .pages) m c
+
+-- the memory after recovery, from one whose releases are closed and by the marks from before the failure
+unfoldable pub recoveredClosed : Directory → List Bool → ℕ → List ℕ → List ℕ
+recoveredClosed d before f closed =
+    let holder : ℕ = nextLiveOf d f in
+    inTurn (writeOwnRecord (sizeOf d) (backedBy (d .live) before (d .cards) f) (backupOf d)) (d .cards)
+    (inTurn (writeFailed d f (recordedRelease (sizeOf d) closed holder f)) (d .cards)
+    (copyToNewHomes d f (restorePages d (underWay (sizeOf d) closed holder f) closed)))

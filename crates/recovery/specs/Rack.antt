@@ -1,0 +1,50 @@
+-- What recovery and join rely on, as a rack that passed its checks has it; a directory as far as they look at it.
+use Prim.Native.Nat.{ℕ, _*_, _<_, _≤_}
+use mathlib.Core.Path.{_≡_}
+use mathlib.Core.Logic.{_≢_}
+use mathlib.Core.List.{List, []}
+use mathlib.Core.Bool.{Bool, true, _&&_}
+use lib.ListN.{length}
+use lib.Dec.{eqb}
+use Rattle.memory.specs.Layout.{areaSize}
+use Rattle.directory.specs.declared.Directory.{Directory}
+use Rattle.directory.specs.declared.Status.the-variants.{Running}
+use Rattle.directory.specs.Live.{liveAt, nextLive}
+use Rattle.directory.specs.Directory.{directoryOf}
+
+-- marks of at most 8 cards, and a memory of one area for each card
+pub record RackIn (live : List Bool) (cards pages words : ℕ) : Type 0 where
+  pub few : pages ≤ 64
+  pub eight : cards ≤ 8
+  pub marks : length live ≡ 8
+  pub whole : words ≡ cards * areaSize pages
+
+-- cards, pages, marks and homes
+abbrev pub rackOf : ℕ → ℕ → List Bool → List ℕ → List ℕ → Directory
+rackOf cards pages live primary secondary = directoryOf cards pages live primary secondary Running
+
+-- cards, pages and marks
+abbrev pub marksOf : ℕ → ℕ → List Bool → Directory
+marksOf cards pages live = rackOf cards pages live [] []
+
+-- homes alone
+abbrev pub pagesOf : List ℕ → List ℕ → Directory
+pagesOf primary secondary = rackOf 0 0 [] primary secondary
+
+-- a live card whose backup, by other marks, is a given one
+abbrev pub backedBy : List Bool → List Bool → ℕ → ℕ → ℕ → Bool
+backedBy live marks cards backup c = liveAt live c && eqb (nextLive marks cards c) backup
+
+-- who is live by some marks is live by others
+pub record Covers (marks live : List Bool) : Type 0 where
+  pub live-too : (c : ℕ) → liveAt live c ≡ true → liveAt marks c ≡ true
+
+-- two live cards at least, as a rack always has
+pub record TwoLive (live : List Bool) (cards : ℕ) : Type 0 where
+  pub one : ℕ
+  pub two : ℕ
+  pub apart : one ≢ two
+  pub one-below : one < cards
+  pub two-below : two < cards
+  pub one-live : liveAt live one ≡ true
+  pub two-live : liveAt live two ≡ true

@@ -1,0 +1,152 @@
+-- The rows hold: what is a number is computed, and the two rows on every number and every stamp are proved.
+use Prim.Native.Nat.{ℕ, _≤_, _<_}
+use mathlib.Core.Path.{_≡_, refl, sym, ap, _∙_}
+use mathlib.Core.List.{List, [], _∷_}
+use mathlib.Core.Bool.{Bool, true, false}
+use native.Mathlib.Omega.{arith}
+use borrow.Author.Tests.{le-leb, lt-leb}
+use lib.ListN.{length}
+use Rattle.laws.specs.Search.{lowestFrom, countBelow, inTurn}
+use Rattle.answer.specs.declared.Outcome.{Outcome}
+use Rattle.answer.specs.Outcome.{refusedAt, numberUsed}
+use Rattle.memory.specs.Area.{load, store, loadRun, storeRun, clearRun, copyRun, zeros}
+use Rattle.directory.specs.declared.Directory.{Directory}
+use Rattle.directory.specs.Directory.{formattedDirectory, emptyDirectory, tableFrom}
+use Rattle.directory.specs.Live.{nextLive}
+use Rattle.diff.specs.Making.{changesFrom, encodeFrom, madeDiff, runLength, header}
+use Rattle.diff.specs.Prices.{pricesOf, pricesFrom, names}
+use Rattle.diff.specs.Reading.{readFrom, wordStep, checkDiff}
+use Rattle.protocol.specs.Release.{Release, sizeOf, ownRelease, openRelease, openList, stepsOf, isOpen, releaseWrites}
+use Rattle.protocol.specs.Release.{makeWrite, close, stepMemory}
+use Rattle.protocol.specs.Record.{recordedRelease, underWay, settledRecord, writeRecord, writeOwnRecord}
+use Rattle.protocol.specs.Checks.{firstRefusal, outsideLimits, fewLive, badHome, badPage, badStatus, badRelease}
+use Rattle.protocol.specs.Checks.{badCard}
+use Rattle.protocol.specs.Checks.{unfitRack, awaitsRecovery}
+use Rattle.protocol.specs.Result.{Result}
+use Rattle.protocol.specs.Formatting.{formatting}
+use Rattle.protocol.specs.Opening.{shareWord, sharesWith, openingChecks, openMemory, opening}
+use Rattle.protocol.specs.Step.{step}
+use Rattle.protocol.specs.Fetch.{namesPage, inMotion, committedPage, fetch}
+use Rattle.protocol.specs.Failure.{failure}
+use Rattle.protocol.specs.Recovery.{stepTimes, runToClose, closeReleases, restoreHome, restorePage, restorePages}
+use Rattle.protocol.specs.Recovery.{lostHome}
+use Rattle.protocol.specs.Recovery.{keptHome, newHome, copyToNewHome, copyToNewHomes, moveHome, recoveredDirectory}
+use Rattle.protocol.specs.Recovery.{writeFailed, writeRecords, failedRelease, recoveredMemory, awaitedCard, recovery}
+use Rattle.protocol.proofs.Accepting.{outcome-of}
+use Rattle.worked.specs.Rows.{AllHold, newRack, changedPages, changes, noChange, stepped, released}
+use Rattle.worked.specs.Rows.{recoveredFrom}
+use Rattle.worked.specs.Rows.{fetched, pageOf, Idle, rows, Worked, Shown}
+
+-- ---- a number at or below the stamp
+
+used : (d : Directory) (m : List ℕ) (card : ℕ) (r : Release) (list : List ℕ) → Idle d m card
+    → r .number ≤ ownRelease (sizeOf d) m card .number
+    → opening d m card r list .outcome ≡ refusedAt numberUsed (ownRelease (sizeOf d) m card .number)
+unfolding opening firstRefusal awaitsRecovery
+used d m card r list idle low =
+    let o : Outcome = firstRefusal (openingChecks d m card (r .number) list) 0 in
+    let done : Result = record { outcome = o; directory = d; memory = openMemory (sizeOf d) m card r list; words = [] }
+    in
+    rw (
+      outcome-of o done d m [] refl,
+      idle .limits,
+      idle .fit,
+      idle .running,
+      lt-leb (d .cards) card (idle .exists),
+      idle .live,
+      idle .idle,
+      le-leb (r .number) (ownRelease (sizeOf d) m card .number) low,
+    )
+
+-- ---- releases through a recovery
+
+-- the card died after its stamp
+forward : fetched (recoveredFrom 13 1) 1 ≡ pageOf 250 199
+unfolding lowestFrom countBelow inTurn load store loadRun storeRun clearRun copyRun zeros formattedDirectory
+    emptyDirectory tableFrom nextLive pricesOf pricesFrom names readFrom wordStep checkDiff ownRelease openRelease
+    openList stepsOf isOpen releaseWrites makeWrite close stepMemory recordedRelease underWay settledRecord
+    writeRecord writeOwnRecord firstRefusal outsideLimits fewLive badHome badPage badStatus badRelease badCard
+    unfitRack awaitsRecovery formatting shareWord sharesWith openMemory opening step namesPage inMotion
+    committedPage fetch failure stepTimes runToClose closeReleases restoreHome restorePage restorePages
+    lostHome keptHome newHome copyToNewHome copyToNewHomes moveHome recoveredDirectory writeFailed
+    writeRecords failedRelease recoveredMemory awaitedCard recovery newRack changedPages
+    changes noChange stepped released recoveredFrom fetched pageOf
+forward = refl
+
+-- it died before
+back : fetched (recoveredFrom 12 1) 1 ≡ zeros 32
+unfolding lowestFrom countBelow inTurn load store loadRun storeRun clearRun copyRun zeros formattedDirectory
+    emptyDirectory tableFrom nextLive pricesOf pricesFrom names readFrom wordStep checkDiff ownRelease openRelease
+    openList stepsOf isOpen releaseWrites makeWrite close stepMemory recordedRelease underWay settledRecord
+    writeRecord writeOwnRecord firstRefusal outsideLimits fewLive badHome badPage badStatus badRelease badCard
+    unfitRack awaitsRecovery formatting shareWord sharesWith openMemory opening step namesPage inMotion
+    committedPage fetch failure stepTimes runToClose closeReleases restoreHome restorePage restorePages
+    lostHome keptHome newHome copyToNewHome copyToNewHomes moveHome recoveredDirectory writeFailed
+    writeRecords failedRelease recoveredMemory awaitedCard recovery newRack changedPages
+    changes noChange stepped released recoveredFrom fetched pageOf
+back = refl
+
+-- another card died
+completed : fetched (recoveredFrom 5 2) 1 ≡ pageOf 250 199
+unfolding lowestFrom countBelow inTurn load store loadRun storeRun clearRun copyRun zeros formattedDirectory
+    emptyDirectory tableFrom nextLive pricesOf pricesFrom names readFrom wordStep checkDiff ownRelease openRelease
+    openList stepsOf isOpen releaseWrites makeWrite close stepMemory recordedRelease underWay settledRecord
+    writeRecord writeOwnRecord firstRefusal outsideLimits fewLive badHome badPage badStatus badRelease badCard
+    unfitRack awaitsRecovery formatting shareWord sharesWith openMemory opening step namesPage inMotion
+    committedPage fetch failure stepTimes runToClose closeReleases restoreHome restorePage restorePages
+    lostHome keptHome newHome copyToNewHome copyToNewHomes moveHome recoveredDirectory writeFailed
+    writeRecords failedRelease recoveredMemory awaitedCard recovery newRack changedPages
+    changes noChange stepped released recoveredFrom fetched pageOf
+completed = refl
+
+pub shown : Shown
+shown = record { forward = forward; back = back; completed = completed }
+
+-- ---- the twelve
+
+pub worked : Worked
+unfolding AllHold changesFrom encodeFrom madeDiff runLength header lowestFrom countBelow inTurn load store loadRun
+    storeRun clearRun copyRun zeros formattedDirectory emptyDirectory tableFrom nextLive pricesOf pricesFrom names
+    readFrom wordStep checkDiff ownRelease openRelease openList stepsOf isOpen releaseWrites makeWrite close
+    stepMemory recordedRelease underWay settledRecord writeRecord writeOwnRecord firstRefusal outsideLimits
+    fewLive badHome badPage badStatus badRelease badCard unfitRack awaitsRecovery formatting shareWord
+    sharesWith openMemory opening step namesPage inMotion committedPage fetch failure stepTimes
+    runToClose closeReleases restoreHome restorePage restorePages lostHome keptHome newHome
+    copyToNewHome copyToNewHomes moveHome recoveredDirectory writeFailed writeRecords
+    failedRelease recoveredMemory awaitedCard recovery newRack changedPages changes
+    noChange stepped released recoveredFrom fetched pageOf
+worked = (
+  (refl, refl, refl),
+  (
+    refl,
+    (
+      (refl, refl),
+      (
+        (refl, (refl, refl)),
+        (
+          back,
+          (
+            forward,
+            (
+              (refl, refl),
+              (
+                refl,
+                (
+                  refl,
+                  (
+                    refl,
+                    (
+                      (λ d m card r list idle stamp small. used d m card r list idle (omega arith)
+                          ∙ ap (refusedAt numberUsed) stamp),
+                      ((λ d m card r list idle zero. used d m card r list idle (omega arith)), tt),
+                    ),
+                  ),
+                ),
+              ),
+            ),
+          ),
+        ),
+      ),
+    ),
+  ),
+)

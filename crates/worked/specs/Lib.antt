@@ -1,0 +1,2 @@
+-- Worked numbers.
+pub mod Rows

@@ -1,0 +1,180 @@
+//! What the rack refuses ("What the rack refuses, by who caused it"). "Checks
+//! run 1, 2, 11 (for recovery 12), then 3 or 9, then the rest in rising number."
+
+use crate::answer::Refusal;
+use crate::directory::{Directory, Status};
+use crate::layout::{area, memory_words, OPEN, OWN_STAMP, PAGE_WORDS, STEPS};
+use crate::list::{prices, read_handed_in, read_list};
+use crate::release::{all_steps, list_of, Release};
+
+type Checked = Result<(), Refusal>;
+
+fn refuse_if(condition: bool, number: u32) -> Checked {
+    match condition {
+        true => Err(Refusal::plain(number)),
+        false => Ok(()),
+    }
+}
+
+/// Formatting: 1.
+pub fn formatting(memory: &[u32], cards: u32, pages: u32) -> Checked {
+    refuse_if(memory_words(cards, pages) != Some(memory.len()), 1)
+}
+
+/// Opening a release: 1, 2, 11, 3, 4, 5, 6, 7, 8.
+pub fn opening(
+    memory: &[u32],
+    directory: &Directory,
+    card: u32,
+    number: u32,
+    list: &[u32],
+) -> Checked {
+    running(memory, directory)?;
+    refuse_if(!directory.is_live(card), 3)?;
+    let own = area(memory, directory.pages, card);
+    refuse_if(Release::read(own).is_some(), 4)?;
+    release_number(own[OWN_STAMP], number)?;
+    read_handed_in(list, directory.pages).map_err(|place| Refusal::at(7, place as u64))?;
+    match sharing_card(memory, directory, card, list) {
+        Some(other) => Err(Refusal::at(8, u64::from(other))),
+        None => Ok(()),
+    }
+}
+
+/// A single step: 1, 2, 11, 3, 16.
+pub fn step(memory: &[u32], directory: &Directory, card: u32) -> Checked {
+    running(memory, directory)?;
+    refuse_if(!directory.is_live(card), 3)?;
+    refuse_if(
+        Release::read(area(memory, directory.pages, card)).is_none(),
+        16,
+    )
+}
+
+/// A fetch: 1, 2, 11, 9, 10, 17.
+pub fn fetch(memory: &[u32], directory: &Directory, page: u32, buffer: &[u32]) -> Checked {
+    running(memory, directory)?;
+    refuse_if(page >= directory.pages, 9)?;
+    if let Some(card) = counting_card(memory, directory, page) {
+        return Err(Refusal::at(10, u64::from(card)));
+    }
+    refuse_if(buffer.len() != PAGE_WORDS, 17)
+}
+
+/// A fetch of all pages: 1, 2, 11, 17.
+pub fn fetch_of_all(memory: &[u32], directory: &Directory, buffer: &[u32]) -> Checked {
+    running(memory, directory)?;
+    refuse_if(buffer.len() != PAGE_WORDS * directory.pages as usize, 17)
+}
+
+/// A failure: 1, 2, 11, 3, 13.
+pub fn failure(memory: &[u32], directory: &Directory, card: u32) -> Checked {
+    running(memory, directory)?;
+    refuse_if(!directory.is_live(card), 3)?;
+    refuse_if(directory.live_cards().count() == 2, 13)
+}
+
+/// Recovery: 1, 2, 12. Gives the awaited card.
+pub fn recovery(memory: &[u32], directory: &Directory) -> Result<u32, Refusal> {
+    rack(memory, directory)?;
+    match directory.status {
+        Status::Awaiting(card) => Ok(card),
+        Status::Running => Err(Refusal::plain(12)),
+    }
+}
+
+/// A join: 1, 2, 11, 3, 14, 15.
+pub fn joining(memory: &[u32], directory: &Directory, card: u32) -> Checked {
+    running(memory, directory)?;
+    refuse_if(card >= directory.cards, 3)?;
+    refuse_if(directory.is_live(card), 14)?;
+    refuse_if(open_releases(memory, directory).next().is_some(), 15)
+}
+
+/// A desk question: 1, 2, 11, 3.
+pub fn desk_question(memory: &[u32], directory: &Directory, card: u32) -> Checked {
+    running(memory, directory)?;
+    refuse_if(card >= directory.cards, 3)
+}
+
+/// Refusals 1, 2 and 11.
+fn running(memory: &[u32], directory: &Directory) -> Checked {
+    rack(memory, directory)?;
+    refuse_if(directory.status != Status::Running, 11)
+}
+
+/// Refusals 1 and 2. What comes after them may rely on the lengths, the homes
+/// and the open releases.
+fn rack(memory: &[u32], directory: &Directory) -> Checked {
+    formatting(memory, directory.cards, directory.pages)?;
+    let sound = directory.live_cards().count() >= 2
+        && awaited_is_sound(directory)
+        && (0..directory.pages).all(|page| homes_are_sound(directory, page))
+        && directory
+            .live_cards()
+            .all(|card| release_is_sound(area(memory, directory.pages, card), directory.pages));
+    refuse_if(!sound, 2)
+}
+
+/// Not "an awaited card that is live or does not exist".
+fn awaited_is_sound(directory: &Directory) -> bool {
+    match directory.status {
+        Status::Running => true,
+        Status::Awaiting(card) => card < directory.cards && !directory.is_live(card),
+    }
+}
+
+/// Not "homes equal, not below the number of cards, or dead and not the awaited
+/// card".
+fn homes_are_sound(directory: &Directory, page: u32) -> bool {
+    let [primary, secondary] = directory.homes_of(page);
+    primary != secondary
+        && [primary, secondary].into_iter().all(|home| {
+            let awaited = directory.status == Status::Awaiting(home);
+            home < directory.cards && (directory.is_live(home) || awaited)
+        })
+}
+
+/// Not "a live card's word 9 above 1, or an open release whose list is faulty or
+/// whose steps exceed 4k + 10".
+fn release_is_sound(area: &[u32], pages: u32) -> bool {
+    match area[OPEN] {
+        0 => true,
+        1 => read_list(list_of(area), pages)
+            .is_ok_and(|extent| area[STEPS] < all_steps(extent.prices)),
+        _ => false,
+    }
+}
+
+/// Refusals 5 and 6.
+fn release_number(stamp: u32, number: u32) -> Checked {
+    if number <= stamp {
+        return Err(Refusal::at(5, u64::from(stamp)));
+    }
+    refuse_if(number - stamp > 1, 6)
+}
+
+/// The releases open on live cards, ascending.
+fn open_releases<'a>(
+    memory: &'a [u32],
+    directory: &'a Directory,
+) -> impl Iterator<Item = (u32, Release<'a>)> {
+    directory.live_cards().filter_map(|card| {
+        Release::read(area(memory, directory.pages, card)).map(|release| (card, release))
+    })
+}
+
+/// The lowest other card whose open release shares a page word with the list.
+fn sharing_card(memory: &[u32], directory: &Directory, card: u32, list: &[u32]) -> Option<u32> {
+    open_releases(memory, directory)
+        .filter(|(other, _)| *other != card)
+        .find(|(_, release)| prices(list).any(|price| release.prices_word(price.page, price.word)))
+        .map(|(other, _)| other)
+}
+
+/// The lowest card with an open release that already counts and holds the page.
+pub fn counting_card(memory: &[u32], directory: &Directory, page: u32) -> Option<u32> {
+    open_releases(memory, directory)
+        .find(|(_, release)| release.counts() && release.prices_page(page))
+        .map(|(card, _)| card)
+}

@@ -1,0 +1,79 @@
+//! The lent memory and the words of one card's area ("Cards, pages, memory").
+
+use std::ops::RangeInclusive;
+
+pub const CARD_LIMITS: RangeInclusive<u32> = 3..=8;
+pub const PAGE_LIMITS: RangeInclusive<u32> = 1..=64;
+
+/// The most cards and pages a directory has room for.
+pub const MOST_CARDS: usize = 8;
+pub const MOST_PAGES: usize = 64;
+
+pub const PAGE_WORDS: usize = 32;
+pub const DESK_WORDS: usize = 8;
+pub const RECORD_WORDS: usize = 18;
+/// The most words of a list ("At most 512 words in all").
+pub const LIST_WORDS: usize = 512;
+
+// The table of one area, by the first word of each row.
+pub const OWN_STAMP: usize = 0;
+pub const OWN_DESK: usize = 1;
+pub const OPEN: usize = 9;
+pub const STEPS: usize = 10;
+pub const NUMBER: usize = 11;
+pub const DESK: usize = 12;
+pub const RECORDS: usize = 20;
+pub const LIST: usize = 164;
+pub const PAGES: usize = 676;
+
+pub type Desk = [u32; DESK_WORDS];
+
+/// An area is 676 + 64 × pages words.
+fn area_words(pages: u32) -> usize {
+    PAGES + 2 * PAGE_WORDS * pages as usize
+}
+
+/// The stated length of the memory, or `None` outside the limits.
+pub fn memory_words(cards: u32, pages: u32) -> Option<usize> {
+    let within = CARD_LIMITS.contains(&cards) && PAGE_LIMITS.contains(&pages);
+    within.then(|| cards as usize * area_words(pages))
+}
+
+/// The first word of a card's area in the memory.
+pub fn area_at(pages: u32, card: u32) -> usize {
+    card as usize * area_words(pages)
+}
+
+pub fn area(memory: &[u32], pages: u32, card: u32) -> &[u32] {
+    &memory[area_at(pages, card)..][..area_words(pages)]
+}
+
+pub fn area_mut(memory: &mut [u32], pages: u32, card: u32) -> &mut [u32] {
+    &mut memory[area_at(pages, card)..][..area_words(pages)]
+}
+
+/// Where an area holds the record of a card: 20 + 18c.
+pub fn record_at(card: u32) -> usize {
+    RECORDS + RECORD_WORDS * card as usize
+}
+
+/// Where an area holds a page's tentative words: 676 + 64p.
+pub fn tentative_at(page: u32) -> usize {
+    PAGES + 2 * PAGE_WORDS * page as usize
+}
+
+/// Where an area holds a page's committed words, after the tentative ones.
+pub fn committed_at(page: u32) -> usize {
+    tentative_at(page) + PAGE_WORDS
+}
+
+/// The eight desk words that start at a word of an area.
+pub fn desk_at(area: &[u32], at: usize) -> Desk {
+    let mut desk = [0; DESK_WORDS];
+    desk.copy_from_slice(&area[at..at + DESK_WORDS]);
+    desk
+}
+
+pub fn put_desk(area: &mut [u32], at: usize, desk: &Desk) {
+    area[at..at + DESK_WORDS].copy_from_slice(desk);
+}

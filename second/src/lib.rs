@@ -1,0 +1,28 @@
+//! The price rack: pages on two cards, released in two phases.
+//!
+//! A second implementation, written from document 01 alone. Comments cite
+//! document 01 by the titles of its sections.
+
+#![forbid(unsafe_code)]
+
+mod answer;
+pub mod book;
+mod calls;
+mod checks;
+mod directory;
+mod layout;
+mod list;
+mod record;
+mod recovery;
+mod release;
+mod shelfrun;
+
+pub use answer::Answer;
+pub use calls::{
+    ask_desk, fail_card, fetch_all, fetch_page, format_rack, join_card, make_step, make_steps,
+    open_release, recover,
+};
+pub use directory::{Directory, Status};
+pub use layout::memory_words;
+pub use list::{check_list, make_list};
+pub use shelfrun::shelfrun;

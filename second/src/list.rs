@@ -1,0 +1,253 @@
+//! The list of changes: its rules, its prices and its maker
+//! ("The list of changes").
+
+use crate::answer::Answer;
+use crate::layout::{LIST_WORDS, PAGE_LIMITS, PAGE_WORDS};
+
+const PAGE: u32 = 1;
+const RUN: u32 = 2;
+const END: u32 = 15;
+
+/// "A word's top four bits are its kind."
+fn kind(word: u32) -> u32 {
+    word >> 28
+}
+
+fn low_bits(word: u32) -> u32 {
+    word & 0x0FFF_FFFF
+}
+
+fn run_offset(word: u32) -> u32 {
+    (word >> 16) & 0xFFF
+}
+
+fn run_count(word: u32) -> u32 {
+    word & 0xFFFF
+}
+
+fn page_word(page: u32) -> u32 {
+    PAGE << 28 | page
+}
+
+fn run_word(offset: u32, count: u32) -> u32 {
+    RUN << 28 | offset << 16 | count
+}
+
+fn end_word(index: u32) -> u32 {
+    END << 28 | index
+}
+
+/// What a list read to its end word holds.
+pub struct Extent {
+    /// The number of prices, k.
+    pub prices: u32,
+    /// The words up to and with the end word.
+    pub words: usize,
+}
+
+/// What the reader remembers between two words of a list.
+#[derive(Default)]
+struct Reader {
+    /// The page named last.
+    page: Option<u32>,
+    /// The end of that page's last run, `None` while it has no run.
+    run_end: Option<u32>,
+    prices: u32,
+}
+
+impl Reader {
+    /// Whether the page named last, if any, has its run.
+    fn page_has_run(&self) -> bool {
+        self.page.is_none() || self.run_end.is_some()
+    }
+
+    /// "Pages ascend strictly, each below the rack's pages and with at least
+    /// one run."
+    fn take_page(&mut self, page: u32, pages: u32) -> bool {
+        let ascends = self.page.is_none_or(|before| page > before);
+        let allowed = self.page_has_run() && ascends && page < pages;
+        if allowed {
+            self.page = Some(page);
+            self.run_end = None;
+        }
+        allowed
+    }
+
+    /// A run stands on a page, "has count 1 or more and offset + count at most
+    /// 32", and its "offset is greater than the end of the run before".
+    fn take_run(&mut self, offset: u32, count: u32) -> bool {
+        let apart = self.run_end.is_none_or(|end| offset > end);
+        let fits = count >= 1 && offset + count <= PAGE_WORDS as u32;
+        let allowed = self.page.is_some() && apart && fits;
+        if allowed {
+            self.run_end = Some(offset + count);
+            self.prices += count;
+        }
+        allowed
+    }
+}
+
+/// Reads a list to its end word, or gives the place of its fault. Words past
+/// the first 512 are not looked at: a list that goes on there is at fault at 512,
+/// and one that stops before its end word is at fault at its length.
+pub fn read_list(list: &[u32], pages: u32) -> Result<Extent, usize> {
+    let list = &list[..list.len().min(LIST_WORDS)];
+    let mut reader = Reader::default();
+    let mut at = 0;
+    while let Some(&word) = list.get(at) {
+        let allowed = match kind(word) {
+            PAGE => reader.take_page(low_bits(word), pages),
+            RUN => reader.take_run(run_offset(word), run_count(word)),
+            END => reader.page_has_run() && low_bits(word) as usize == at,
+            _ => false,
+        };
+        match kind(word) {
+            _ if !allowed => return Err(at),
+            END => {
+                return Ok(Extent {
+                    prices: reader.prices,
+                    words: at + 1,
+                })
+            }
+            RUN => at += 1 + run_count(word) as usize,
+            _ => at += 1,
+        }
+    }
+    Err(list.len())
+}
+
+/// Reads a list handed in: "Nothing follows the end word".
+pub fn read_handed_in(list: &[u32], pages: u32) -> Result<Extent, usize> {
+    let extent = read_list(list, pages)?;
+    if extent.words < list.len() {
+        return Err(extent.words);
+    }
+    Ok(extent)
+}
+
+/// Checks a list handed in: its number of prices, or refusal 7 and its place.
+pub fn check_list(list: &[u32], pages: u32) -> Answer {
+    match read_handed_in(list, pages) {
+        Ok(extent) => Answer::Given(u64::from(extent.prices)),
+        Err(place) => Answer::Refused(7, place as u64),
+    }
+}
+
+/// One price of a list and the page word it is for.
+pub struct Price {
+    pub page: u32,
+    pub word: u32,
+    pub price: u32,
+}
+
+/// The prices of a list, in order, up to its end word.
+pub struct Prices<'a> {
+    list: &'a [u32],
+    at: usize,
+    page: u32,
+    word: u32,
+    left: u32,
+}
+
+pub fn prices(list: &[u32]) -> Prices<'_> {
+    Prices {
+        list,
+        at: 0,
+        page: 0,
+        word: 0,
+        left: 0,
+    }
+}
+
+impl Prices<'_> {
+    fn next_word(&mut self) -> Option<u32> {
+        let word = *self.list.get(self.at)?;
+        self.at += 1;
+        Some(word)
+    }
+
+    /// Reads on to the first price of the next run; `None` at the end word.
+    fn enter_run(&mut self) -> Option<()> {
+        while self.left == 0 {
+            let word = self.next_word()?;
+            match kind(word) {
+                PAGE => self.page = low_bits(word),
+                RUN => (self.word, self.left) = (run_offset(word), run_count(word)),
+                _ => return None,
+            }
+        }
+        Some(())
+    }
+}
+
+impl Iterator for Prices<'_> {
+    type Item = Price;
+
+    fn next(&mut self) -> Option<Price> {
+        self.enter_run()?;
+        let price = self.next_word()?;
+        let word = self.word;
+        self.word += 1;
+        self.left -= 1;
+        Some(Price {
+            page: self.page,
+            word,
+            price,
+        })
+    }
+}
+
+/// The list of one price.
+pub fn one_price(page: u32, word: u32, price: u32) -> [u32; 4] {
+    [page_word(page), run_word(word, 1), price, end_word(3)]
+}
+
+/// The list maker: compares working pages with their twins and writes the list
+/// that names exactly the words that differ. Gives the list's length; words
+/// past its end in the buffer are kept.
+pub fn make_list(working: &[u32], twins: &[u32], buffer: &mut [u32]) -> Answer {
+    if working.len() != twins.len() || !are_whole_pages(working.len()) {
+        return Answer::Refused(1, 0);
+    }
+    let list = changes(working, twins);
+    if list.len() > LIST_WORDS || list.len() > buffer.len() {
+        return Answer::Refused(17, 0);
+    }
+    buffer[..list.len()].copy_from_slice(&list);
+    Answer::Given(list.len() as u64)
+}
+
+/// "32 words times 1 to 64".
+fn are_whole_pages(words: usize) -> bool {
+    let most = PAGE_WORDS * *PAGE_LIMITS.end() as usize;
+    words > 0 && words <= most && words.is_multiple_of(PAGE_WORDS)
+}
+
+fn changes(working: &[u32], twins: &[u32]) -> Vec<u32> {
+    let mut list = Vec::new();
+    let pairs = working.chunks(PAGE_WORDS).zip(twins.chunks(PAGE_WORDS));
+    for (page, (new, old)) in (0..).zip(pairs) {
+        if new != old {
+            list.push(page_word(page));
+            add_runs(&mut list, new, old);
+        }
+    }
+    list.push(end_word(list.len() as u32));
+    list
+}
+
+/// Adds the runs of one page. A run is as long as it can be, since the next one
+/// must start past its end.
+fn add_runs(list: &mut Vec<u32>, new: &[u32], old: &[u32]) {
+    let mut at = 0;
+    while at < PAGE_WORDS {
+        let count = (at..PAGE_WORDS)
+            .take_while(|&word| new[word] != old[word])
+            .count();
+        if count > 0 {
+            list.push(run_word(at as u32, count as u32));
+            list.extend_from_slice(&new[at..at + count]);
+        }
+        at += count + 1;
+    }
+}

@@ -1,0 +1,140 @@
+//! What recovery and join do ("Failure, recovery, join").
+
+use crate::directory::{Directory, Status};
+use crate::layout::{
+    area, area_at, area_mut, committed_at, put_desk, record_at, tentative_at, OWN_DESK, OWN_STAMP,
+    PAGE_WORDS, RECORD_WORDS,
+};
+use crate::record::Record;
+use crate::release::{all_steps, step, Release};
+
+/// Recovers the failed card of a checked rack: the directory after it and the
+/// card's record.
+pub fn recover_card(memory: &mut [u32], directory: Directory, failed: u32) -> (Directory, Record) {
+    let before = directory.mark_live(failed);
+    close_releases(memory, &directory, &before, failed);
+    let keeper = directory.record_keeper(failed);
+    let record = Record::read(area(memory, directory.pages, keeper), failed);
+    settle_pages(memory, &directory, second_phase(&record));
+    let after = move_homes(memory, directory, failed);
+    write_records(memory, &before, &after, failed, &record);
+    (after.with_status(Status::Running), record)
+}
+
+/// "Each open release on a live card, ascending, is run to its close." Homes and
+/// backups are those from before the failure, stores meant for the failed card
+/// are dropped.
+fn close_releases(memory: &mut [u32], now: &Directory, before: &Directory, failed: u32) {
+    for card in now.live_cards() {
+        for _ in 0..steps_left(area(memory, now.pages, card)) {
+            step(memory, before, card, Some(failed));
+        }
+    }
+}
+
+/// The steps an area's open release has yet to make, 0 with none open.
+fn steps_left(area: &[u32]) -> u32 {
+    Release::read(area).map_or(0, |release| {
+        all_steps(release.prices).saturating_sub(release.steps)
+    })
+}
+
+/// "If stamp and done mark differ": the failed card's release counts and its
+/// committed stores may be missing.
+#[cfg(not(feature = "wrong"))]
+fn second_phase(record: &Record) -> bool {
+    record.stamp != record.done_mark
+}
+
+/// The deliberate error: recovery that goes by the stamp alone.
+#[cfg(feature = "wrong")]
+fn second_phase(record: &Record) -> bool {
+    let _ = record.done_mark;
+    record.stamp != 0
+}
+
+/// "Each live home of each page copies tentative to committed. If they agree,
+/// committed to tentative."
+fn settle_pages(memory: &mut [u32], directory: &Directory, second_phase: bool) {
+    for page in 0..directory.pages {
+        let (from, to) = match second_phase {
+            true => (tentative_at(page), committed_at(page)),
+            false => (committed_at(page), tentative_at(page)),
+        };
+        let homes = directory.homes_of(page);
+        for home in homes.into_iter().filter(|&home| directory.is_live(home)) {
+            area_mut(memory, directory.pages, home).copy_within(from..from + PAGE_WORDS, to);
+        }
+    }
+}
+
+/// "A page whose primary was f takes its secondary as primary. A page that lost
+/// a home gets as secondary the next live after its primary, with both copies."
+fn move_homes(memory: &mut [u32], directory: Directory, failed: u32) -> Directory {
+    let mut after = directory;
+    for page in 0..directory.pages {
+        let [primary, secondary] = directory.homes_of(page);
+        if primary == failed {
+            after = after.move_primary(page, secondary);
+        } else if secondary == failed {
+            after = after.move_primary(page, primary);
+        } else {
+            continue;
+        }
+        copy_page(memory, &after, page);
+    }
+    after
+}
+
+/// Copies both copies of a page from its primary to its secondary.
+fn copy_page(memory: &mut [u32], directory: &Directory, page: u32) {
+    let [primary, secondary] = directory.homes_of(page);
+    let from = area_at(directory.pages, primary) + tentative_at(page);
+    let to = area_at(directory.pages, secondary) + tentative_at(page);
+    memory.copy_within(from..from + 2 * PAGE_WORDS, to);
+}
+
+/// The failed card's record goes on every live card, and the record of each live
+/// card whose backup it was goes on that card's new backup.
+fn write_records(
+    memory: &mut [u32],
+    before: &Directory,
+    after: &Directory,
+    failed: u32,
+    record: &Record,
+) {
+    for card in after.live_cards() {
+        record.write(area_mut(memory, after.pages, card), failed);
+    }
+    for card in before.backed_by(failed) {
+        let own = Record::of_live(area(memory, after.pages, card));
+        own.write(area_mut(memory, after.pages, after.backup(card)), card);
+    }
+}
+
+/// Joins a dead card of a checked rack: the directory after it.
+pub fn join(memory: &mut [u32], before: Directory, joining: u32) -> Directory {
+    let after = before.mark_live(joining);
+    let pages = before.pages;
+    let keeper = before.record_keeper(joining);
+    let record = Record::read(area(memory, pages, keeper), joining);
+    let own = area_mut(memory, pages, joining);
+    own.fill(0);
+    own[OWN_STAMP] = record.stamp;
+    put_desk(own, OWN_DESK, &record.desk);
+    for dead in after.dead_cards() {
+        copy_record(memory, pages, dead, before.record_keeper(dead), joining);
+    }
+    for card in after.backed_by(joining) {
+        let record = Record::of_live(area(memory, pages, card));
+        record.write(area_mut(memory, pages, joining), card);
+    }
+    after
+}
+
+/// Copies the whole record of a dead card from one card to another.
+fn copy_record(memory: &mut [u32], pages: u32, dead: u32, from: u32, to: u32) {
+    let start = area_at(pages, from) + record_at(dead);
+    let to = area_at(pages, to) + record_at(dead);
+    memory.copy_within(start..start + RECORD_WORDS, to);
+}

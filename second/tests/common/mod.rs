@@ -1,0 +1,200 @@
+//! What the tests share: a generator of random numbers, a rack with its memory,
+//! and lists built word by word.
+
+#![allow(dead_code)]
+
+pub mod play;
+
+use second::*;
+
+/// A xorshift generator: the same seed gives the same numbers everywhere.
+pub struct Random(u64);
+
+impl Random {
+    pub fn new(seed: u64) -> Random {
+        Random(seed.wrapping_mul(0x9E37_79B9_7F4A_7C15) | 1)
+    }
+
+    pub fn word(&mut self) -> u32 {
+        self.0 ^= self.0 << 13;
+        self.0 ^= self.0 >> 7;
+        self.0 ^= self.0 << 17;
+        (self.0 >> 16) as u32
+    }
+
+    pub fn below(&mut self, limit: u32) -> u32 {
+        self.word() % limit
+    }
+
+    pub fn within(&mut self, low: u32, high: u32) -> u32 {
+        low + self.below(high - low + 1)
+    }
+
+    pub fn one_in(&mut self, chances: u32) -> bool {
+        self.below(chances) == 0
+    }
+
+    pub fn desk(&mut self) -> [u32; 8] {
+        std::array::from_fn(|_| self.word())
+    }
+}
+
+/// Words at the edges of their meaning, small ones, and any.
+pub fn odd_word(random: &mut Random) -> u32 {
+    match random.below(6) {
+        0 => random.below(4),
+        1 => u32::MAX - random.below(2),
+        2 => 0x1000_0000 | random.below(9),
+        3 => 0x2000_0000 | random.below(40) << 16 | random.below(4),
+        4 => 0xF000_0000 | random.below(9),
+        _ => random.word(),
+    }
+}
+
+/// A rack: memory and directory.
+#[derive(Clone, PartialEq, Debug)]
+pub struct Rack {
+    pub memory: Vec<u32>,
+    pub directory: Directory,
+}
+
+impl Rack {
+    pub fn new(cards: u32, pages: u32) -> Rack {
+        let mut memory = vec![7; memory_words(cards, pages).unwrap()];
+        let (directory, answer) = format_rack(&mut memory, cards, pages);
+        assert_eq!(answer, Answer::Given(0));
+        Rack { memory, directory }
+    }
+
+    /// The place in the memory of a word of a card's area.
+    pub fn at(&self, card: u32, word: usize) -> usize {
+        card as usize * (676 + 64 * self.directory.pages as usize) + word
+    }
+
+    pub fn word(&self, card: u32, word: usize) -> u32 {
+        self.memory[self.at(card, word)]
+    }
+
+    pub fn set(&mut self, card: u32, word: usize, value: u32) {
+        let at = self.at(card, word);
+        self.memory[at] = value;
+    }
+
+    pub fn open(&mut self, card: u32, number: u32, desk: [u32; 8], list: &[u32]) -> Answer {
+        let (directory, answer) =
+            open_release(&mut self.memory, self.directory, card, number, desk, list);
+        self.directory = directory;
+        answer
+    }
+
+    pub fn step(&mut self, card: u32) -> Answer {
+        let (directory, answer) = make_step(&mut self.memory, self.directory, card);
+        self.directory = directory;
+        answer
+    }
+
+    pub fn steps(&mut self, card: u32, count: u32) -> (Answer, u32) {
+        let (directory, answer, made) = make_steps(&mut self.memory, self.directory, card, count);
+        self.directory = directory;
+        (answer, made)
+    }
+
+    pub fn fetch(&mut self, page: u32, buffer: &mut [u32]) -> Answer {
+        let (directory, answer) = fetch_page(&self.memory, self.directory, page, buffer);
+        self.directory = directory;
+        answer
+    }
+
+    pub fn fail(&mut self, card: u32) -> Answer {
+        let (directory, answer) = fail_card(&self.memory, self.directory, card);
+        self.directory = directory;
+        answer
+    }
+
+    pub fn recover(&mut self) -> (Answer, [u32; 8]) {
+        let (directory, answer, desk) = recover(&mut self.memory, self.directory);
+        self.directory = directory;
+        (answer, desk)
+    }
+
+    pub fn join(&mut self, card: u32) -> Answer {
+        let (directory, answer) = join_card(&mut self.memory, self.directory, card);
+        self.directory = directory;
+        answer
+    }
+
+    pub fn ask(&mut self, card: u32) -> (Answer, [u32; 8]) {
+        let (directory, answer, desk) = ask_desk(&self.memory, self.directory, card);
+        self.directory = directory;
+        (answer, desk)
+    }
+
+    /// A page that must be shown.
+    pub fn page(&mut self, page: u32) -> [u32; 32] {
+        let mut buffer = [5; 32];
+        assert_eq!(self.fetch(page, &mut buffer), Answer::Given(0));
+        buffer
+    }
+
+    /// Puts anything into a card's area.
+    pub fn scramble(&mut self, card: u32, random: &mut Random) {
+        let (start, end) = (self.at(card, 0), self.at(card + 1, 0));
+        match random.below(3) {
+            0 => self.memory[start..end]
+                .iter_mut()
+                .for_each(|word| *word = odd_word(random)),
+            1 => self.memory[start..end].fill(random.word()),
+            _ => {
+                let other = random.below(self.directory.cards);
+                let from = self.at(other, 0);
+                self.memory.copy_within(from..from + end - start, start);
+            }
+        }
+    }
+}
+
+pub const OK: Answer = Answer::Given(0);
+
+pub fn refused(number: u32) -> Answer {
+    Answer::Refused(number, 0)
+}
+
+pub fn refused_at(number: u32, place: u64) -> Answer {
+    Answer::Refused(number, place)
+}
+
+/// A change: page, word, price.
+pub type Change = (u32, u32, u32);
+
+/// The list of changes that ascend by page and word, each a word of its own or
+/// next to the one before. Built another way than by the list maker.
+pub fn list_of(changes: &[Change]) -> Vec<u32> {
+    let mut list: Vec<u32> = Vec::new();
+    let mut run = 0;
+    for (index, &(page, word, price)) in changes.iter().enumerate() {
+        let before = index.checked_sub(1).map(|before| changes[before]);
+        if before.is_none_or(|before| before.0 != page) {
+            list.push(0x1000_0000 + page);
+        }
+        if before.is_none_or(|before| before.0 != page || before.1 + 1 != word) {
+            run = list.len();
+            list.push(0x2000_0000 + 0x1_0000 * word);
+        }
+        list[run] += 1;
+        list.push(price);
+    }
+    list.push(0xF000_0000 + list.len() as u32);
+    list
+}
+
+/// Random changes on a few pages, ascending; one word in so many is changed.
+pub fn random_changes(random: &mut Random, pages: u32, rarity: u32) -> Vec<Change> {
+    let words = (0..pages).flat_map(|page| (0..32).map(move |word| (page, word)));
+    let mut changes = Vec::new();
+    for (page, word) in words {
+        if random.one_in(rarity) {
+            changes.push((page, word, random.word()));
+        }
+    }
+    changes
+}
