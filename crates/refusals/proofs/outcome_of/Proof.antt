@@ -1,7 +1,7 @@
 -- Rests on the match: each case has the outcome that the definition lists.
 use borrow.Author.Needs.{needs}
-use Rattle.rack.proofs.outcome_of.Statement.{statement}
-use Rattle.rack.proofs.outcome_of.Tie as tie
+use Rattle.refusals.proofs.outcome_of.Statement.{statement}
+use Rattle.refusals.proofs.outcome_of.Tie as tie
 
 enum-known-a : tie.Need-enum-known-a
 enum-known-a c = search needs
