@@ -125,8 +125,10 @@ pub fn fetch_page(memory: &[u32], directory: Directory, page: u32, buffer: &mut 
         return Reply { directory, answer };
     }
     let size = memory::area_size(directory.pages);
-    let home = directory.primary_of(page) as usize;
-    let start = memory::PAGES_START + 64 * page as usize + 32;
+    let homes = directory.primary;
+    let at = page as usize;
+    let home = homes[at] as usize;
+    let start = memory::PAGES_START + 64 * at + 32;
     memory::load_run(memory, size, home, start, buffer);
     Reply { directory, answer }
 }

@@ -36,8 +36,20 @@ area-size-requires c κs =
     let passed = fetch-facts d m (a .page) (a .buffer .now) (first .fetch .ensures) (c .if1 .left) in
     omega (arith, fitting (passed .runs .fits) .within .pages-most)
 
-primary-of-requires : tie.Need-primary-of-requires
-primary-of-requires c κs = search needs
+mul-home : tie.Need-mul-home
+mul-home c = search needs
+
+array-read-home : tie.Need-array-read-home
+array-read-home c =
+    let test = c .before .before in
+    let first = test .before .before .before in
+    let start = first .before .before .before in
+    let a = start .args in
+    let d = a .directory in
+    let m = a .memory .now in
+    let passed = fetch-facts d m (a .page) (a .buffer .now) (first .fetch .ensures) (test .if1 .left) in
+    let fit = fitting (passed .runs .fits) in
+    search needs
 
 cast-home : tie.Need-cast-home
 cast-home c = search needs
@@ -62,9 +74,9 @@ load-run-requires c κs =
     let m = a .memory .now in
     let passed = fetch-facts d m (a .page) (a .buffer .now) (first .fetch .ensures) (test .if1 .left) in
     let fit = fitting (passed .runs .fits) in
-    let area = area-in _ (fit .primary-below (a .page) (passed .page-below)) (fit .within .whole) in
-    let home = rw (← c .before .primary-of .ensures) at area in
-    rw (sized .area-size .ensures) (home, omega (arith, passed .page-below, passed .room-is))
+    let primary = area-in _ (fit .primary-below (a .page) (passed .page-below)) (fit .within .whole) in
+    let secondary = area-in _ (fit .secondary-below (a .page) (passed .page-below)) (fit .within .whole) in
+    rw (sized .area-size .ensures) (omega arith, omega arith)
 
 same-length : tie.Need-same-length
 same-length c = search needs
@@ -73,8 +85,7 @@ returns-2 : tie.Need-returns-2
 unfolding committedPage
 returns-2 c =
     let loaded = c .before .before in
-    let home-at = loaded .before .before in
-    let sized = home-at .before in
+    let sized = loaded .before .before .before in
     let test = sized .before in
     let answered = test .before .before in
     let first = answered .before in
@@ -83,9 +94,7 @@ returns-2 c =
     let d = a .directory in
     let m = a .memory .now in
     let passed = fetch-facts d m (a .page) (a .buffer .now) (first .fetch .ensures) (test .if1 .left) in
-    let words =
-    rw (sized .area-size .ensures, home-at .primary-of .ensures, passed .room-is) at (loaded .load-run .ensures)
-    in
+    let words = rw (sized .area-size .ensures, passed .room-is) at (loaded .load-run .ensures) in
     rw (fetch-accepted d m (a .page) (a .buffer .now) (first .fetch .ensures) (test .if1 .left))
     (answered .answer-of .ensures, (refl, words))
 
@@ -97,7 +106,8 @@ fetch-page-spec =
     answer-of-requires
     returns
     area-size-requires
-    primary-of-requires
+    mul-home
+    array-read-home
     cast-home
     mul-start
     add-start
