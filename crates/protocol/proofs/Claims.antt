@@ -1,6 +1,6 @@
--- The claim on page words while releases are under way: the writes that a card has still to make, laid over what memory
--- has in a word that no other card's open list names, give the book's price of it, with the prices that the book has
--- not yet.
+-- The claim on page words while releases are under way: the writes that a card has still to make, laid over what
+-- memory has in a word that no other card's open list names, give the book's price of it, with the prices that the
+-- book has not yet.
 use Prim.Native.Nat.{ℕ, _+_, _*_, _<_}
 use mathlib.Core.Path.{_≡_, refl, sym, _∙_}
 use mathlib.Core.Logic.{_≢_}

@@ -1,5 +1,5 @@
--- Open releases run to their close, one card after the other: the invariant survives, beside the book that counts those
--- that did not count yet and strikes all out.
+-- Open releases run to their close, one card after the other: the invariant survives, beside the book that counts
+-- those that did not count yet and strikes all out.
 use Prim.Native.Nat.{ℕ, zero, suc, _+_, _-_, _≤_, _<_}
 use mathlib.Core.Path.{_≡_, refl, sym, _∙_, subst}
 use mathlib.Core.Logic.{_≢_}
@@ -38,8 +38,8 @@ module _ (d : Directory) (backup : ℕ → ℕ) (old : ℕ → ℕ → ℕ) (T C
   run-core (suc n) s m b is left core =
       subst (Kept (stepTimes d (backup c) c (suc n) (stepMemory d (backup c) m c)))
       (closed-step b c r list s (omega arith))
-      (run-core n (suc s) (stepMemory d (backup c) m c) (stepBook b c (opened r list s)) (still-open b c r list s (omega arith))
-      (omega arith)
+      (run-core n (suc s) (stepMemory d (backup c) m c) (stepBook b c (opened r list s))
+      (still-open b c r list s (omega arith)) (omega arith)
       (step-core d backup old T C m b core c live r list s is))
 
 -- ---- one card

@@ -157,7 +157,8 @@ module _ (d : Directory) (x : ℕ) (m : List ℕ) (b : Book) (rack : RunningRack
       elim (ℕ-discrete c x) [
         | yes same ↦ rw (same, idle x) (after .own)
         | no other ↦
-            rw (own-words-kept (sizeOf d) m m′ c (after .same-length) (λ o less. after .others c o other (omega arith)))
+            rw
+            (own-words-kept (sizeOf d) m m′ c (after .same-length) (λ o less. after .others c o other (omega arith)))
             (rack .core .owns c (live-before c other live))
       ]
 

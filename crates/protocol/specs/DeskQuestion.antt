@@ -1,6 +1,5 @@
 -- A desk question (document 01, "Failure, recovery, join": "A desk question reads the own desk of a live card, or a
--- dead
--- card's record"; refusals 1, 2, 11, 3).
+-- dead card's record"; refusals 1, 2, 11, 3).
 -- Assumes nothing: these are definitions.
 use Prim.Native.Nat.{ℕ}
 use mathlib.Core.List.{List, [], _∷_, _++_}

@@ -33,7 +33,8 @@ use Rattle.recovery.proofs.Steps.{steps-more, step-keeps-own, step-keep
 same-own : (size : ℕ) (m : List ℕ) (c : ℕ) → SameOwn size m m c
 same-own size m c = record { same-length = refl; low = λ o small. refl; list = λ o above under. refl }
 
-pub same-then : {size : ℕ} {m m′ m″ : List ℕ} {c : ℕ} → SameOwn size m m′ c → SameOwn size m′ m″ c → SameOwn size m m″ c
+pub same-then : {size : ℕ} {m m′ m″ : List ℕ} {c : ℕ} → SameOwn size m m′ c → SameOwn size m′ m″ c
+    → SameOwn size m m″ c
 same-then first then =
     record {
       same-length = then .same-length ∙ first .same-length;
@@ -101,10 +102,11 @@ module _ (d : Directory) (backup : ℕ) (c : ℕ) (few : c < 8) where
 -- ---- a loop of steps
 
 -- how far it is: what is left of the steps gives what all of them give
-pub record StepsMade (d : Directory) (backup c : ℕ) (before : List ℕ) (total : ℕ) (m : List ℕ) (left : ℕ) : Type 0 where
-  pub same : length m ≡ length before
-  pub some : 0 < left → StepsLeft (d .pages) m c left
-  pub rest : stepTimes d backup c left m ≡ stepTimes d backup c total before
+pub record StepsMade (d : Directory) (backup c : ℕ) (before : List ℕ) (total : ℕ) (m : List ℕ) (left : ℕ) : Type 0
+  where
+    pub same : length m ≡ length before
+    pub some : 0 < left → StepsLeft (d .pages) m c left
+    pub rest : stepTimes d backup c left m ≡ stepTimes d backup c total before
 
 module _ {d : Directory} {backup c : ℕ} {before : List ℕ} {total : ℕ} where
   pub steps-none : StepsLeft (d .pages) before c total → StepsMade d backup c before total before total

@@ -41,8 +41,9 @@ copy-run-requires c κs =
     let home = kept-in (start .args .failed) (pre .1 .0) (pre .1 .1 .1) in
     let below = next-below (pre .1 .1 .0) (kept .kept-home .result) in
     let other = next-other (pre .1 .1 .0) (kept .kept-home .result) in
+    let area = area-in _ below (pre .0 .whole) in
     rw (c .area-size .ensures, next .next-live-after .ensures)
-    (rw (kept .kept-home .ensures) (home .area), (area-in _ below (pre .0 .whole), ((λ e. other (sym e)), omega arith)))
+    (rw (kept .kept-home .ensures) (home .area), (area, ((λ e. other (sym e)), omega arith)))
 
 same-length : tie.Need-same-length
 same-length c = search needs

@@ -65,11 +65,12 @@ returns c =
     let a = start .args in
     let d = rackOf (a .cards) (a .pages) (a .live .now) (a .primary .now) (a .secondary .now) in
     let told = rw (size .area-size .ensures, next .next-live-after .ensures) at (read .load-record .ensures) in
-    let forward = rw (size .area-size .ensures, next .next-live-after .ensures) at (way .under-way .ensures) in (
+    let forward = rw (size .area-size .ensures, next .next-live-after .ensures) at (way .under-way .ensures) in
+    let written = c .before .before .write-records .ensures in (
       told .0,
       (
         told .1,
-        (rw (copies .restore-copies .ensures, forward, told .0, told .1) at (c .before .before .write-records .ensures))
+        (rw (copies .restore-copies .ensures, forward, told .0, told .1) at written)
             ∙ recover-parts d (a .failed) (a .before .now) (a .memory .now),
       ),
     )
