@@ -4,7 +4,7 @@ use native.Mathlib.Omega.{arith}
 use Rattle.memory.proofs.Index.{area-in}
 use Rattle.recovery.specs.Rack.{rackOf}
 use Rattle.recovery.proofs.Kept.{rack-kept}
-use Rattle.recovery.proofs.Homes.{next-below}
+use Rattle.recovery.proofs.homes.Cards.{next-below}
 use Rattle.recovery.proofs.Recovering.{recover-parts}
 use borrow.Author.Needs.{needs}
 use Rattle.recovery.proofs.recover_closed.Statement.{statement}
