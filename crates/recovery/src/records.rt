@@ -8,7 +8,8 @@ ghost use Rattle.protocol.specs.Release.{releaseOf, ownRelease};
 ghost use Rattle.laws.specs.Search.{inTurn};
 ghost use Rattle.memory.specs.Layout.{areaSize};
 ghost use Rattle.directory.specs.Live.{nextLive};
-ghost use Rattle.protocol.specs.Record.{recordedRelease, underWay, writeRecord, writeOwnRecord};
+ghost use Rattle.protocol.specs.Record.{recordedRelease, underWay, settledRecord};
+ghost use Rattle.protocol.specs.Record.{writeRecord, writeOwnRecord};
 ghost use Rattle.protocol.specs.Recovery.{writeFailed};
 ghost use Rattle.recovery.specs.Rack.{RackIn, Covers, marksOf, backedBy};
 
@@ -29,8 +30,20 @@ pub fn load_record(memory: &[u32], size: usize, holder: usize, card: usize, desk
     number
 }
 
-// Writes the record of a card on its holder: stamp, done mark equal to it, desk by the number's
-// evenness, other desk 0.
+// The words of a record: stamp, done mark equal to it, desk by the number's evenness, other desk 0.
+fn settled_record(number: u32, desk: &[u32]) -> [u32; 18]
+    requires { ⌜ length (now desk) ≡ 8 ⌝ }
+    ensures { λ r. ⌜ r ≡ settledRecord (releaseOf number (now (desk .entry))) ⌝ }
+{
+    let mut words = [0u32; 18];
+    words[0] = number;
+    words[1] = number;
+    let start = 2 + 8 * (number % 2) as usize;
+    memory::store_run(&mut words, 18, 0, start, desk);
+    words
+}
+
+// Writes the record of a card on its holder.
 pub fn write_record(
     memory: &mut [u32],
     size: usize,
@@ -46,15 +59,8 @@ pub fn write_record(
         (releaseOf number (now (desk .entry))) ⌝ }
 {
     let record = memory::RECORDS_START + memory::RECORD_SIZE * card;
-    memory::store_word(memory, size, holder, record, number);
-    memory::store_word(memory, size, holder, record + 1, number);
-    if number % 2 == 0 {
-        memory::store_run(memory, size, holder, record + 2, desk);
-        memory::clear_run(memory, size, holder, record + 10, 8);
-        return;
-    }
-    memory::clear_run(memory, size, holder, record + 2, 8);
-    memory::store_run(memory, size, holder, record + 10, desk);
+    let words = settled_record(number, desk);
+    memory::store_run(memory, size, holder, record, &words);
 }
 
 // Whether the second phase of the release is under way: stamp and done mark differ.

@@ -1,48 +1,29 @@
--- A record is one run of 18 words: what the code stores one after the other.
-use Prim.Native.Nat.{ℕ, _+_, _*_, _%_}
-use mathlib.Core.Path.{_≡_}
-use mathlib.Core.List.{List, _∷_}
-use borrow.Author.Tests.{eq-eqb, ne-eqb}
-use mathlib.Core.Logic.{_≢_}
+-- The runs that records and own words are stored as.
+use Prim.Native.Nat.{ℕ, _+_, _*_, _%_, _<_}
+use mathlib.Core.Path.{_≡_, _∙_}
+use mathlib.Core.List.{List, _∷_, append-nil}
 use native.Mathlib.Omega.{arith}
+use native.Mathlib.Decide.{ℕ-discrete}
+use borrow.Author.Tests.{eq-eqb, ne-eqb}
 use lib.ListN.{length}
+use lib.Seq.{sets-eq}
 use Rattle.memory.specs.Layout.{ownStamp, ownDesk}
-use Rattle.memory.specs.Area.{store, storeRun, clearRun}
-use Rattle.memory.proofs.Runs.{store-run-cons, store-run-append, length-zeros}
+use Rattle.memory.specs.Area.{store, storeRun, zeros}
+use Rattle.memory.proofs.Runs.{store-run-cons}
 use Rattle.protocol.specs.Release.{releaseOf}
-use Rattle.protocol.specs.Record.{settledRecord, writeRecord}
+use Rattle.protocol.specs.Record.{settledRecord}
 
-module _ (size : ℕ) (m : List ℕ) (holder card number : ℕ) (desk : List ℕ) (long : length desk ≡ 8) where
-  -- stamp and done mark stored
-  abbrev pub stamped : List ℕ
-  stamped =
-      store size (store size m holder (20 + 18 * card) number) holder (20 + 18 * card + 1) number
-
-  pub record-even : number % 2 ≡ 0
-      → clearRun size (storeRun size stamped holder (20 + 18 * card + 2) desk) holder (20 + 18 * card + 10) 8
-      ≡ writeRecord size m holder card (releaseOf number desk)
-  unfolding writeRecord settledRecord clearRun
-  record-even even =
-      let second : 20 + 18 * card + 1 + 1 ≡ 20 + 18 * card + 2 = omega arith in
-      let third : 20 + 18 * card + 2 + 8 ≡ 20 + 18 * card + 10 = omega arith in
-      rw (eq-eqb (number % 2) 0 even, store-run-cons, store-run-cons, second, store-run-append, long, third)
-
-  pub record-odd : number % 2 ≢ 0
-      → storeRun size (clearRun size stamped holder (20 + 18 * card + 2) 8) holder (20 + 18 * card + 10) desk
-      ≡ writeRecord size m holder card (releaseOf number desk)
-  unfolding writeRecord settledRecord clearRun
-  record-odd odd =
-      let second : 20 + 18 * card + 1 + 1 ≡ 20 + 18 * card + 2 = omega arith in
-      let third : 20 + 18 * card + 2 + 8 ≡ 20 + 18 * card + 10 = omega arith in
-      rw (
-        ne-eqb (number % 2) 0 odd,
-        store-run-cons,
-        store-run-cons,
-        second,
-        store-run-append,
-        length-zeros 8,
-        third,
-      )
+-- a record: the desk laid over a run with both desks 0
+pub record-words : (number : ℕ) (desk : List ℕ) → length desk ≡ 8
+    → storeRun 18 (number ∷ number ∷ zeros 16) 0 (2 + 8 * (number % 2)) desk ≡ settledRecord (releaseOf number desk)
+unfolding storeRun zeros settledRecord
+record-words number desk long =
+    elim (ℕ-discrete (number % 2) 0) [
+      | yes even ↦ rw (eq-eqb (number % 2) 0 even, even) (sets-eq desk _ 2 (omega arith) ∙ rw long)
+      | no odd ↦
+          let one : number % 2 ≡ 1 = omega arith in
+          rw (ne-eqb (number % 2) 0 odd, one) (sets-eq desk _ 10 (omega arith) ∙ rw (long, append-nil desk))
+    ]
 
 -- own stamp and own desk are one run, of which the first is stored alone
 pub own-stores : (size : ℕ) (m : List ℕ) (card number : ℕ) (desk : List ℕ)
