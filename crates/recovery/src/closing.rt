@@ -135,9 +135,7 @@ pub(crate) fn close_releases(memory: &mut [u32], directory: Directory, failed: u
         ≡ closeReleases directory failed (now (memory .entry)) ⌝ }
 {
     let cards = directory.cards;
-    let mut card: u32 = 0;
-    while card < cards {
+    for card in 0..cards {
         run_to_close(memory, directory, failed, card);
-        card += 1;
     }
 }

@@ -85,8 +85,7 @@ pub(crate) fn copy_to_new_homes(
         (rackOf cards pages (now (live .entry)) (now (primary .entry)) (now (secondary .entry)))
         failed (now (memory .entry)) ⌝ }
 {
-    let mut page: u32 = 0;
-    while page < pages {
+    for page in 0..pages {
         copy_to_new_home(
             memory,
             cards,
@@ -97,7 +96,6 @@ pub(crate) fn copy_to_new_homes(
             failed,
             page as usize,
         );
-        page += 1;
     }
 }
 

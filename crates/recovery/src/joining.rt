@@ -70,9 +70,7 @@ pub(crate) fn copy_dead_records(
         ≡ inTurn (copyDeadRecord (marksOf cards pages (now (live .entry))) joining) cards
         (now (memory .entry)) ⌝ }
 {
-    let mut card: u32 = 0;
-    while card < cards {
+    for card in 0..cards {
         copy_dead_record(memory, cards, pages, live, joining, card);
-        card += 1;
     }
 }

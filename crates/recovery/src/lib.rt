@@ -151,10 +151,8 @@ pub fn recovered_directory(directory: Directory, failed: u32) -> Directory
     ensures { λ r. ⌜ r ≡ recoveredDirectory directory failed ⌝ }
 {
     let mut moved = directory;
-    let mut page: u32 = 0;
-    while page < directory.pages {
+    for page in 0..directory.pages {
         moved = homes::move_home(moved, directory, failed, page);
-        page += 1;
     }
     moved.set_status(Status::Running)
 }

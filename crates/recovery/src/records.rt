@@ -168,8 +168,7 @@ fn write_failed_records(
         (releaseOf number (now (desk .entry))))
         cards (now (memory .entry)) ⌝ }
 {
-    let mut holder: u32 = 0;
-    while holder < cards {
+    for holder in 0..cards {
         write_failed(
             memory,
             cards,
@@ -180,7 +179,6 @@ fn write_failed_records(
             desk,
             holder as usize,
         );
-        holder += 1;
     }
 }
 
@@ -203,10 +201,8 @@ pub(crate) fn write_own_records(
         (nextLive (now (after .entry)) cards))
         cards (now (memory .entry)) ⌝ }
 {
-    let mut card: u32 = 0;
-    while card < cards {
+    for card in 0..cards {
         write_own_record(memory, cards, pages, live, before, after, backup, card);
-        card += 1;
     }
 }
 

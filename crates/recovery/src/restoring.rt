@@ -71,8 +71,7 @@ pub(crate) fn restore_pages(
         (homesOf pages (now (live .entry)) (now (primary .entry)) (now (secondary .entry)))
         forward (now (memory .entry)) ⌝ }
 {
-    let mut page: u32 = 0;
-    while page < pages {
+    for page in 0..pages {
         restore_page(
             memory,
             pages,
@@ -82,6 +81,5 @@ pub(crate) fn restore_pages(
             forward,
             page as usize,
         );
-        page += 1;
     }
 }
