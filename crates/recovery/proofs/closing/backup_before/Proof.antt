@@ -3,14 +3,8 @@ use borrow.Author.Needs.{needs}
 use Rattle.recovery.proofs.closing.backup_before.Statement.{statement}
 use Rattle.recovery.proofs.closing.backup_before.Tie as tie
 
-mark-live-requires : tie.Need-mark-live-requires
-mark-live-requires c κs = search needs
-
-next-live-requires : tie.Need-next-live-requires
-next-live-requires c κs = search needs
-
 returns : tie.Need-returns
 returns c = rw (c .before .mark-live .ensures) at (c .next-live .ensures)
 
 pub backup-before-spec : {M : Type 1} → statement M
-backup-before-spec = tie.close (tie.spec mark-live-requires next-live-requires returns)
+backup-before-spec = tie.close (tie.spec (λ c κs. search needs) (λ c κs. search needs) returns)

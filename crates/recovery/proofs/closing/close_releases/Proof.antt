@@ -33,12 +33,6 @@ run-to-close-requires c κs =
       ),
     )
 
-add-card : tie.Need-add-card Inv-loop μ-loop
-add-card c = omega arith
-
-loop-less : tie.Need-loop-less Inv-loop μ-loop
-loop-less c = omega arith
-
 loop-again : tie.Need-loop-again Inv-loop μ-loop
 loop-again c =
     let made = c .before .before in
@@ -57,13 +51,5 @@ returns c = turn-all (c .before .loop .inv .turned) (c .loop-test .left)
 pub close-releases-spec : {M : Type 1} → statement M
 close-releases-spec =
     tie.close
-    (tie.spec
-    Inv-loop
-    μ-loop
-    loop-holds
-    run-to-close-requires
-    add-card
-    loop-less
-    loop-again
-    same-length
-    returns)
+    (tie.spec Inv-loop μ-loop loop-holds run-to-close-requires (λ c. omega arith) (λ c. omega arith) loop-again
+    same-length returns)

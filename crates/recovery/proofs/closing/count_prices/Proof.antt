@@ -4,15 +4,6 @@ use borrow.Author.Needs.{needs}
 use Rattle.recovery.proofs.closing.count_prices.Statement.{statement}
 use Rattle.recovery.proofs.closing.count_prices.Tie as tie
 
-read-stored-requires : tie.Need-read-stored-requires
-read-stored-requires c κs = search needs
-
-enum-known-k : tie.Need-enum-known-k
-enum-known-k c = search needs
-
-enum-told : tie.Need-enum-told
-enum-told c = search needs
-
 returns : tie.Need-returns
 returns c =
     let read = c .before .before .before in
@@ -32,4 +23,4 @@ returns-2 c =
 
 pub count-prices-spec : {M : Type 1} → statement M
 count-prices-spec =
-    tie.close (tie.spec read-stored-requires enum-known-k enum-told returns returns-2)
+    tie.close (tie.spec (λ c κs. search needs) (λ c. search needs) (λ c. search needs) returns returns-2)

@@ -32,12 +32,6 @@ step-release-requires c κs =
       ),
     )
 
-sub-left : tie.Need-sub-left Inv-loop μ-loop
-sub-left c = omega arith
-
-loop-less : tie.Need-loop-less Inv-loop μ-loop
-loop-less c = omega arith
-
 loop-again : tie.Need-loop-again Inv-loop μ-loop
 loop-again c =
     let made = c .before .before in
@@ -46,22 +40,11 @@ loop-again c =
     steps-one (card .eight) (card .area) (turn .before .loop .inv) (turn .loop-test .taken) (c .before .memory .given)
     (made .step-release .ensures)
 
-same-length : tie.Need-same-length Inv-loop μ-loop
-same-length c = search needs
-
 returns : tie.Need-returns Inv-loop μ-loop
 returns c = steps-all (c .before .loop .inv) (c .loop-test .left)
 
 pub make-steps-spec : {M : Type 1} → statement M
 make-steps-spec =
     tie.close
-    (tie.spec
-    Inv-loop
-    μ-loop
-    loop-holds
-    step-release-requires
-    sub-left
-    loop-less
-    loop-again
-    same-length
-    returns)
+    (tie.spec Inv-loop μ-loop loop-holds step-release-requires (λ c. omega arith) (λ c. omega arith) loop-again
+    (λ c. search needs) returns)

@@ -8,32 +8,11 @@ use borrow.Author.Needs.{needs}
 use Rattle.recovery.proofs.closing.run_to_close.Statement.{statement}
 use Rattle.recovery.proofs.closing.run_to_close.Tie as tie
 
-area-size-requires : tie.Need-area-size-requires
-area-size-requires c κs = search needs
-
-slice-aggregate-is-open : tie.Need-slice-aggregate-is-open
-slice-aggregate-is-open c = search needs
-
 is-open-requires : tie.Need-is-open-requires
 is-open-requires c κs =
     let pre = c .before .before .before .before .before .pre in
     rw (c .before .area-size .ensures)
     ((omega arith, area-in _ (pre .1 .1 .0 .1) (pre .0 .whole)), rack-card (pre .0) (pre .1 .1 .0 .1) .marked)
-
-backup-before-requires : tie.Need-backup-before-requires
-backup-before-requires c κs = search needs
-
-cast-backup : tie.Need-cast-backup
-cast-backup c = search needs
-
-slice-aggregate-run-release : tie.Need-slice-aggregate-run-release
-slice-aggregate-run-release c = search needs
-
-slice-aggregate-run-release-2 : tie.Need-slice-aggregate-run-release-2
-slice-aggregate-run-release-2 c = search needs
-
-slice-aggregate-run-release-3 : tie.Need-slice-aggregate-run-release-3
-slice-aggregate-run-release-3 c = search needs
 
 run-release-requires : tie.Need-run-release-requires
 run-release-requires c κs =
@@ -48,9 +27,6 @@ run-release-requires c κs =
     let is = c .before .before .before .before .backup-before .ensures in
     (pre .1 .0, (rack-card (pre .0) (pre .1 .1 .0 .1), (rw is backup, pre .1 .1 .1 opened)))
 
-same-length : tie.Need-same-length
-same-length c = search needs
-
 returns : tie.Need-returns
 returns c =
     let run = c .before .before in
@@ -60,9 +36,6 @@ returns c =
     let opened = (rw (size .area-size .ensures) at (sym (test .before .is-open .ensures))) ∙ test .if1 .taken in
     (rw (run .before .before .before .before .before .backup-before .ensures) at (run .run-release .ensures))
     ∙ run-opened (a .directory) (a .failed) (a .card) (a .memory .now) opened
-
-same-length-2 : tie.Need-same-length-2
-same-length-2 c = search needs
 
 returns-2 : tie.Need-returns-2
 returns-2 c =
@@ -74,17 +47,6 @@ returns-2 c =
 pub run-to-close-spec : {M : Type 1} → statement M
 run-to-close-spec =
     tie.close
-    (tie.spec
-    area-size-requires
-    slice-aggregate-is-open
-    is-open-requires
-    backup-before-requires
-    cast-backup
-    slice-aggregate-run-release
-    slice-aggregate-run-release-2
-    slice-aggregate-run-release-3
-    run-release-requires
-    same-length
-    returns
-    same-length-2
-    returns-2)
+    (tie.spec (λ c κs. search needs) (λ c. search needs) is-open-requires (λ c κs. search needs) (λ c. search needs)
+    (λ c. search needs) (λ c. search needs) (λ c. search needs) run-release-requires (λ c. search needs) returns
+    (λ c. search needs) returns-2)

@@ -5,9 +5,6 @@ use borrow.Author.Needs.{needs}
 use Rattle.recovery.proofs.closing.steps_left.Statement.{statement}
 use Rattle.recovery.proofs.closing.steps_left.Tie as tie
 
-area-size-requires : tie.Need-area-size-requires
-area-size-requires c κs = search needs
-
 count-prices-requires : tie.Need-count-prices-requires
 count-prices-requires c κs =
     let size = c .area-size .ensures in
@@ -16,12 +13,6 @@ count-prices-requires c κs =
 
 load-word-requires : tie.Need-load-word-requires
 load-word-requires c κs = rw (c .before .area-size .ensures) (c .before .before .before .pre .0 .1, omega arith)
-
-mul-result : tie.Need-mul-result
-mul-result c = search needs
-
-add-result : tie.Need-add-result
-add-result c = search needs
 
 sub-result : tie.Need-sub-result
 unfolding stepsOf
@@ -38,11 +29,5 @@ returns c =
 pub steps-left-spec : {M : Type 1} → statement M
 steps-left-spec =
     tie.close
-    (tie.spec
-    area-size-requires
-    count-prices-requires
-    load-word-requires
-    mul-result
-    add-result
-    sub-result
-    returns)
+    (tie.spec (λ c κs. search needs) count-prices-requires load-word-requires (λ c. search needs) (λ c. search needs)
+    sub-result returns)

@@ -8,30 +8,6 @@ use borrow.Author.Needs.{needs}
 use Rattle.recovery.proofs.homes.copy_to_new_home.Statement.{statement}
 use Rattle.recovery.proofs.homes.copy_to_new_home.Tie as tie
 
-lost-home-requires : tie.Need-lost-home-requires
-lost-home-requires c κs = search needs
-
-kept-home-requires : tie.Need-kept-home-requires
-kept-home-requires c κs = search needs
-
-next-live-after-requires : tie.Need-next-live-after-requires
-next-live-after-requires c κs = search needs
-
-mul-start : tie.Need-mul-start
-mul-start c = search needs
-
-add-start : tie.Need-add-start
-add-start c = search needs
-
-area-size-requires : tie.Need-area-size-requires
-area-size-requires c κs = search needs
-
-cast-copy-run : tie.Need-cast-copy-run
-cast-copy-run c = search needs
-
-cast-copy-run-2 : tie.Need-cast-copy-run-2
-cast-copy-run-2 c = search needs
-
 copy-run-requires : tie.Need-copy-run-requires
 copy-run-requires c κs =
     let next = c .before .before in
@@ -44,9 +20,6 @@ copy-run-requires c κs =
     let area = area-in _ below (pre .0 .whole) in
     rw (c .area-size .ensures, next .next-live-after .ensures)
     (rw (kept .kept-home .ensures) (home .area), (area, ((λ e. other (sym e)), omega arith)))
-
-same-length : tie.Need-same-length
-same-length c = search needs
 
 returns : tie.Need-returns
 unfolding copyToNewHome lostHome keptHome newHome
@@ -65,16 +38,6 @@ returns-2 c = rw (sym (c .before .lost-home .ensures) ∙ c .if1 .left)
 pub copy-to-new-home-spec : {M : Type 1} → statement M
 copy-to-new-home-spec =
     tie.close
-    (tie.spec
-    lost-home-requires
-    kept-home-requires
-    next-live-after-requires
-    mul-start
-    add-start
-    area-size-requires
-    cast-copy-run
-    cast-copy-run-2
-    copy-run-requires
-    same-length
-    returns
-    returns-2)
+    (tie.spec (λ c κs. search needs) (λ c κs. search needs) (λ c κs. search needs) (λ c. search needs)
+    (λ c. search needs) (λ c κs. search needs) (λ c. search needs) (λ c. search needs) copy-run-requires
+    (λ c. search needs) returns returns-2)

@@ -15,31 +15,16 @@ Inv-loop memory₀ cards pages live primary secondary failed page₀ memory page
 abbrev μ-loop : tie.MeasureT-loop
 μ-loop memory₀ cards pages live primary secondary failed page₀ memory page = pages - page
 
-loop-holds : tie.Need-loop-holds Inv-loop μ-loop
-loop-holds c = turn-none
-
-cast-copy-to-new-home : tie.Need-cast-copy-to-new-home Inv-loop μ-loop
-cast-copy-to-new-home c = omega arith
-
 copy-to-new-home-requires : tie.Need-copy-to-new-home-requires Inv-loop μ-loop
 copy-to-new-home-requires c κs =
     let pre = c .before .before .before .before .before .before .before .pre in
     rw (c .before .before .loop .inv .same) (pre .0, (pre .1 .0, (pre .1 .1, c .before .loop-test .taken)))
-
-add-page : tie.Need-add-page Inv-loop μ-loop
-add-page c = omega arith
-
-loop-less : tie.Need-loop-less Inv-loop μ-loop
-loop-less c = omega arith
 
 loop-again : tie.Need-loop-again Inv-loop μ-loop
 loop-again c =
     let made = c .before .before in
     let turn = made .before .before in
     turn-more (turn .before .loop .inv) (turn .loop-test .taken) (search needs) (made .copy-to-new-home .ensures)
-
-same-length : tie.Need-same-length Inv-loop μ-loop
-same-length c = search needs
 
 returns : tie.Need-returns Inv-loop μ-loop
 unfolding copyToNewHomes
@@ -48,14 +33,5 @@ returns c = turn-all (c .before .loop .inv) (c .loop-test .left)
 pub copy-to-new-homes-spec : {M : Type 1} → statement M
 copy-to-new-homes-spec =
     tie.close
-    (tie.spec
-    Inv-loop
-    μ-loop
-    loop-holds
-    cast-copy-to-new-home
-    copy-to-new-home-requires
-    add-page
-    loop-less
-    loop-again
-    same-length
-    returns)
+    (tie.spec Inv-loop μ-loop (λ c. turn-none) (λ c. omega arith) copy-to-new-home-requires (λ c. omega arith)
+    (λ c. omega arith) loop-again (λ c. search needs) returns)

@@ -5,21 +5,9 @@ use borrow.Author.Needs.{needs}
 use Rattle.recovery.proofs.homes.lost_home.Statement.{statement}
 use Rattle.recovery.proofs.homes.lost_home.Tie as tie
 
-mul-if1 : tie.Need-mul-if1
-mul-if1 c = search needs
-
-shared-slice-read-if1 : tie.Need-shared-slice-read-if1
-shared-slice-read-if1 c = search needs
-
 returns : tie.Need-returns
 unfolding lostHome
 returns c = rw (eq-eqb _ _ (c .if1 .taken))
-
-mul-result : tie.Need-mul-result
-mul-result c = search needs
-
-shared-slice-read-result : tie.Need-shared-slice-read-result
-shared-slice-read-result c = search needs
 
 returns-2 : tie.Need-returns-2
 unfolding lostHome
@@ -28,4 +16,4 @@ returns-2 c = rw (ne-eqb _ _ (c .before .if1 .left))
 pub lost-home-spec : {M : Type 1} → statement M
 lost-home-spec =
     tie.close
-    (tie.spec mul-if1 shared-slice-read-if1 returns mul-result shared-slice-read-result returns-2)
+    (tie.spec (λ c. search needs) (λ c. search needs) returns (λ c. search needs) (λ c. search needs) returns-2)

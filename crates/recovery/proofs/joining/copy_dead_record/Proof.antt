@@ -9,9 +9,6 @@ use borrow.Author.Needs.{needs}
 use Rattle.recovery.proofs.joining.copy_dead_record.Statement.{statement}
 use Rattle.recovery.proofs.joining.copy_dead_record.Tie as tie
 
-shared-slice-read-if1 : tie.Need-shared-slice-read-if1
-shared-slice-read-if1 c = search needs
-
 returns : tie.Need-returns
 unfolding copyDeadRecord
 returns c = rw (c .if1 .taken)
@@ -19,21 +16,6 @@ returns c = rw (c .if1 .taken)
 returns-2 : tie.Need-returns-2
 unfolding copyDeadRecord
 returns-2 c = rw (c .before .if1 .left, eq-eqb _ _ (c .if2 .taken))
-
-next-live-after-requires : tie.Need-next-live-after-requires
-next-live-after-requires c κs = search needs
-
-cast-holder : tie.Need-cast-holder
-cast-holder c = search needs
-
-mul-record : tie.Need-mul-record
-mul-record c = search needs
-
-add-record : tie.Need-add-record
-add-record c = search needs
-
-area-size-requires : tie.Need-area-size-requires
-area-size-requires c κs = search needs
 
 copy-run-requires : tie.Need-copy-run-requires
 copy-run-requires c κs =
@@ -49,9 +31,6 @@ copy-run-requires c κs =
       ),
     )
 
-same-length : tie.Need-same-length
-same-length c = search needs
-
 returns-3 : tie.Need-returns-3
 unfolding copyDeadRecord
 returns-3 c =
@@ -63,15 +42,5 @@ returns-3 c =
 pub copy-dead-record-spec : {M : Type 1} → statement M
 copy-dead-record-spec =
     tie.close
-    (tie.spec
-    shared-slice-read-if1
-    returns
-    returns-2
-    next-live-after-requires
-    cast-holder
-    mul-record
-    add-record
-    area-size-requires
-    copy-run-requires
-    same-length
-    returns-3)
+    (tie.spec (λ c. search needs) returns returns-2 (λ c κs. search needs) (λ c. search needs) (λ c. search needs)
+    (λ c. search needs) (λ c κs. search needs) copy-run-requires (λ c. search needs) returns-3)

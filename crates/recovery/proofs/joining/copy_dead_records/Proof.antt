@@ -15,20 +15,11 @@ Inv-loop memory₀ cards pages live joining card₀ memory card =
 abbrev μ-loop : tie.MeasureT-loop
 μ-loop memory₀ cards pages live joining card₀ memory card = cards - card
 
-loop-holds : tie.Need-loop-holds Inv-loop μ-loop
-loop-holds c = turn-none
-
 copy-dead-record-requires : tie.Need-copy-dead-record-requires Inv-loop μ-loop
 copy-dead-record-requires c κs =
     let pre = c .before .before .before .before .before .pre in
     let same = c .before .before .loop .inv .same in
     (rw same (pre .0), (pre .1 .0, (pre .1 .1 .0, pre .1 .1 .1, c .before .loop-test .taken)))
-
-add-card : tie.Need-add-card Inv-loop μ-loop
-add-card c = omega arith
-
-loop-less : tie.Need-loop-less Inv-loop μ-loop
-loop-less c = omega arith
 
 loop-again : tie.Need-loop-again Inv-loop μ-loop
 loop-again c =
@@ -36,22 +27,11 @@ loop-again c =
     let turn = made .before .before in
     turn-more (turn .before .loop .inv) (turn .loop-test .taken) (search needs) (made .copy-dead-record .ensures)
 
-same-length : tie.Need-same-length Inv-loop μ-loop
-same-length c = search needs
-
 returns : tie.Need-returns Inv-loop μ-loop
 returns c = turn-all (c .before .loop .inv) (c .loop-test .left)
 
 pub copy-dead-records-spec : {M : Type 1} → statement M
 copy-dead-records-spec =
     tie.close
-    (tie.spec
-    Inv-loop
-    μ-loop
-    loop-holds
-    copy-dead-record-requires
-    add-card
-    loop-less
-    loop-again
-    same-length
-    returns)
+    (tie.spec Inv-loop μ-loop (λ c. turn-none) copy-dead-record-requires (λ c. omega arith) (λ c. omega arith)
+    loop-again (λ c. search needs) returns)

@@ -8,18 +8,6 @@ use borrow.Author.Needs.{needs}
 use Rattle.recovery.proofs.joining.reset_area.Statement.{statement}
 use Rattle.recovery.proofs.joining.reset_area.Tie as tie
 
-area-size-requires : tie.Need-area-size-requires
-area-size-requires c κs = search needs
-
-next-live-after-requires : tie.Need-next-live-after-requires
-next-live-after-requires c κs = search needs
-
-cast-holder : tie.Need-cast-holder
-cast-holder c = search needs
-
-slice-aggregate-load-record : tie.Need-slice-aggregate-load-record
-slice-aggregate-load-record c = search needs
-
 load-record-requires : tie.Need-load-record-requires
 load-record-requires c κs =
     let next = c .before .before in
@@ -42,9 +30,6 @@ store-word-requires c κs =
     let area = area-in _ (pre .1 .1) (pre .0 .whole) in
     rw (size .area-size .ensures) (omega arith, omega arith)
 
-slice-aggregate-store-run : tie.Need-slice-aggregate-store-run
-slice-aggregate-store-run c = search needs
-
 store-run-requires : tie.Need-store-run-requires
 store-run-requires c κs =
     let word = c .before .before .before .before in
@@ -52,9 +37,6 @@ store-run-requires c κs =
     let pre = size .before .before .before .pre in
     let area = area-in _ (pre .1 .1) (pre .0 .whole) in
     rw (size .area-size .ensures) (omega arith, omega arith)
-
-same-length : tie.Need-same-length
-same-length c = search needs
 
 returns : tie.Need-returns
 unfolding resetArea
@@ -72,15 +54,6 @@ returns c =
 pub reset-area-spec : {M : Type 1} → statement M
 reset-area-spec =
     tie.close
-    (tie.spec
-    area-size-requires
-    next-live-after-requires
-    cast-holder
-    slice-aggregate-load-record
-    load-record-requires
-    clear-run-requires
-    store-word-requires
-    slice-aggregate-store-run
-    store-run-requires
-    same-length
-    returns)
+    (tie.spec (λ c κs. search needs) (λ c κs. search needs) (λ c. search needs) (λ c. search needs)
+    load-record-requires clear-run-requires store-word-requires (λ c. search needs) store-run-requires
+    (λ c. search needs) returns)

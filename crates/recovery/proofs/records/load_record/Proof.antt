@@ -9,33 +9,6 @@ use borrow.Author.Needs.{needs}
 use Rattle.recovery.proofs.records.load_record.Statement.{statement}
 use Rattle.recovery.proofs.records.load_record.Tie as tie
 
-mul-record : tie.Need-mul-record
-mul-record c = search needs
-
-add-record : tie.Need-add-record
-add-record c = search needs
-
-load-word-requires : tie.Need-load-word-requires
-load-word-requires c κs = search needs
-
-add-start : tie.Need-add-start
-add-start c = search needs
-
-cast-start : tie.Need-cast-start
-cast-start c = search needs
-
-mul-start : tie.Need-mul-start
-mul-start c = search needs
-
-add-start-2 : tie.Need-add-start-2
-add-start-2 c = search needs
-
-load-run-requires : tie.Need-load-run-requires
-load-run-requires c κs = search needs
-
-same-length : tie.Need-same-length
-same-length c = search needs
-
 returns : tie.Need-returns
 unfolding recordedRelease
 returns c =
@@ -49,14 +22,5 @@ returns c =
 pub load-record-spec : {M : Type 1} → statement M
 load-record-spec =
     tie.close
-    (tie.spec
-    mul-record
-    add-record
-    load-word-requires
-    add-start
-    cast-start
-    mul-start
-    add-start-2
-    load-run-requires
-    same-length
-    returns)
+    (tie.spec (λ c. search needs) (λ c. search needs) (λ c κs. search needs) (λ c. search needs) (λ c. search needs)
+    (λ c. search needs) (λ c. search needs) (λ c κs. search needs) (λ c. search needs) returns)

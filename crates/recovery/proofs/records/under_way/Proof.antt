@@ -9,21 +9,6 @@ use borrow.Author.Needs.{needs}
 use Rattle.recovery.proofs.records.under_way.Statement.{statement}
 use Rattle.recovery.proofs.records.under_way.Tie as tie
 
-mul-record : tie.Need-mul-record
-mul-record c = search needs
-
-add-record : tie.Need-add-record
-add-record c = search needs
-
-load-word-requires : tie.Need-load-word-requires
-load-word-requires c κs = search needs
-
-add-load-word : tie.Need-add-load-word
-add-load-word c = search needs
-
-load-word-requires-2 : tie.Need-load-word-requires-2
-load-word-requires-2 c κs = search needs
-
 returns : tie.Need-returns
 unfolding underWay
 returns c =
@@ -43,11 +28,5 @@ returns-2 c =
 pub under-way-spec : {M : Type 1} → statement M
 under-way-spec =
     tie.close
-    (tie.spec
-    mul-record
-    add-record
-    load-word-requires
-    add-load-word
-    load-word-requires-2
-    returns
-    returns-2)
+    (tie.spec (λ c. search needs) (λ c. search needs) (λ c κs. search needs) (λ c. search needs)
+    (λ c κs. search needs) returns returns-2)

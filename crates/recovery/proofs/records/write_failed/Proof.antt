@@ -6,20 +6,11 @@ use borrow.Author.Needs.{needs}
 use Rattle.recovery.proofs.records.write_failed.Statement.{statement}
 use Rattle.recovery.proofs.records.write_failed.Tie as tie
 
-shared-slice-read-if1 : tie.Need-shared-slice-read-if1
-shared-slice-read-if1 c = search needs
-
-area-size-requires : tie.Need-area-size-requires
-area-size-requires c κs = search needs
-
 write-record-requires : tie.Need-write-record-requires
 write-record-requires c κs =
     let start = c .before .before .before .before .before .before .before in
     rw (c .area-size .ensures)
     ((omega arith, area-in _ (start .pre .1 .1) (start .pre .0 .whole)), (start .pre .1 .0, start .pre .1 .2))
-
-same-length : tie.Need-same-length
-same-length c = search needs
 
 returns : tie.Need-returns
 unfolding writeFailed
@@ -34,10 +25,4 @@ returns-2 c = rw (c .if1 .left)
 pub write-failed-spec : {M : Type 1} → statement M
 write-failed-spec =
     tie.close
-    (tie.spec
-    shared-slice-read-if1
-    area-size-requires
-    write-record-requires
-    same-length
-    returns
-    returns-2)
+    (tie.spec (λ c. search needs) (λ c κs. search needs) write-record-requires (λ c. search needs) returns returns-2)

@@ -16,23 +16,11 @@ Inv-loop memory₀ cards pages live failed number desk holder₀ memory holder =
 abbrev μ-loop : tie.MeasureT-loop
 μ-loop memory₀ cards pages live failed number desk holder₀ memory holder = cards - holder
 
-loop-holds : tie.Need-loop-holds Inv-loop μ-loop
-loop-holds c = turn-none
-
-cast-write-failed : tie.Need-cast-write-failed Inv-loop μ-loop
-cast-write-failed c = omega arith
-
 write-failed-requires : tie.Need-write-failed-requires Inv-loop μ-loop
 write-failed-requires c κs =
     let start = c .before .before .before .before .before .before in
     let same = c .before .before .loop .inv .same in
     (rw same (start .pre .0), (start .pre .1 .0, c .before .loop-test .taken, start .pre .1 .1))
-
-add-holder : tie.Need-add-holder Inv-loop μ-loop
-add-holder c = omega arith
-
-loop-less : tie.Need-loop-less Inv-loop μ-loop
-loop-less c = omega arith
 
 loop-again : tie.Need-loop-again Inv-loop μ-loop
 loop-again c =
@@ -40,23 +28,11 @@ loop-again c =
     let turn = made .before .before in
     turn-more (turn .before .loop .inv) (turn .loop-test .taken) (search needs) (made .write-failed .ensures)
 
-same-length : tie.Need-same-length Inv-loop μ-loop
-same-length c = search needs
-
 returns : tie.Need-returns Inv-loop μ-loop
 returns c = turn-all (c .before .loop .inv) (c .loop-test .left)
 
 pub write-failed-records-spec : {M : Type 1} → statement M
 write-failed-records-spec =
     tie.close
-    (tie.spec
-    Inv-loop
-    μ-loop
-    loop-holds
-    cast-write-failed
-    write-failed-requires
-    add-holder
-    loop-less
-    loop-again
-    same-length
-    returns)
+    (tie.spec Inv-loop μ-loop (λ c. turn-none) (λ c. omega arith) write-failed-requires (λ c. omega arith)
+    (λ c. omega arith) loop-again (λ c. search needs) returns)

@@ -9,21 +9,6 @@ use borrow.Author.Needs.{needs}
 use Rattle.recovery.proofs.records.write_own_record.Statement.{statement}
 use Rattle.recovery.proofs.records.write_own_record.Tie as tie
 
-shared-slice-read-if1 : tie.Need-shared-slice-read-if1
-shared-slice-read-if1 c = search needs
-
-next-live-after-requires : tie.Need-next-live-after-requires
-next-live-after-requires c κs = search needs
-
-next-live-after-requires-2 : tie.Need-next-live-after-requires-2
-next-live-after-requires-2 c κs = search needs
-
-cast-holder : tie.Need-cast-holder
-cast-holder c = search needs
-
-area-size-requires : tie.Need-area-size-requires
-area-size-requires c κs = search needs
-
 copy-own-record-requires : tie.Need-copy-own-record-requires
 copy-own-record-requires c κs =
     let start = c .before .before .before .before .before .before .before .before .before .before .before in
@@ -34,9 +19,6 @@ copy-own-record-requires c κs =
       (omega arith, area-in _ below (start .pre .0 .whole)),
       (omega arith, area-in _ (start .pre .1 .1) (start .pre .0 .whole)),
     )
-
-same-length : tie.Need-same-length
-same-length c = search needs
 
 returns : tie.Need-returns
 unfolding writeOwnRecord
@@ -61,14 +43,5 @@ returns-3 c = rw (c .if1 .left)
 pub write-own-record-spec : {M : Type 1} → statement M
 write-own-record-spec =
     tie.close
-    (tie.spec
-    shared-slice-read-if1
-    next-live-after-requires
-    next-live-after-requires-2
-    cast-holder
-    area-size-requires
-    copy-own-record-requires
-    same-length
-    returns
-    returns-2
-    returns-3)
+    (tie.spec (λ c. search needs) (λ c κs. search needs) (λ c κs. search needs) (λ c. search needs)
+    (λ c κs. search needs) copy-own-record-requires (λ c. search needs) returns returns-2 returns-3)

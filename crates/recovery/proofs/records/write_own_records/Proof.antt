@@ -18,19 +18,10 @@ Inv-loop memory₀ cards pages live before after backup card₀ memory card =
 abbrev μ-loop : tie.MeasureT-loop
 μ-loop memory₀ cards pages live before after backup card₀ memory card = cards - card
 
-loop-holds : tie.Need-loop-holds Inv-loop μ-loop
-loop-holds c = turn-none
-
 write-own-record-requires : tie.Need-write-own-record-requires Inv-loop μ-loop
 write-own-record-requires c κs =
     let start = c .before .before .before .before .before .before .before in
     (rw (c .before .before .loop .inv .same) (start .pre .0), (start .pre .1, c .before .loop-test .taken))
-
-add-card : tie.Need-add-card Inv-loop μ-loop
-add-card c = omega arith
-
-loop-less : tie.Need-loop-less Inv-loop μ-loop
-loop-less c = omega arith
 
 loop-again : tie.Need-loop-again Inv-loop μ-loop
 loop-again c =
@@ -38,22 +29,11 @@ loop-again c =
     let turn = made .before .before in
     turn-more (turn .before .loop .inv) (turn .loop-test .taken) (search needs) (made .write-own-record .ensures)
 
-same-length : tie.Need-same-length Inv-loop μ-loop
-same-length c = search needs
-
 returns : tie.Need-returns Inv-loop μ-loop
 returns c = turn-all (c .before .loop .inv) (c .loop-test .left)
 
 pub write-own-records-spec : {M : Type 1} → statement M
 write-own-records-spec =
     tie.close
-    (tie.spec
-    Inv-loop
-    μ-loop
-    loop-holds
-    write-own-record-requires
-    add-card
-    loop-less
-    loop-again
-    same-length
-    returns)
+    (tie.spec Inv-loop μ-loop (λ c. turn-none) write-own-record-requires (λ c. omega arith) (λ c. omega arith)
+    loop-again (λ c. search needs) returns)

@@ -3,15 +3,6 @@ use borrow.Author.Needs.{needs}
 use Rattle.recovery.proofs.records.write_records.Statement.{statement}
 use Rattle.recovery.proofs.records.write_records.Tie as tie
 
-write-failed-records-requires : tie.Need-write-failed-records-requires
-write-failed-records-requires c κs = search needs
-
-write-own-records-requires : tie.Need-write-own-records-requires
-write-own-records-requires c κs = search needs
-
-same-length : tie.Need-same-length
-same-length c = search needs
-
 returns : tie.Need-returns
 returns c =
     let first = c .before .before .before .before .before .before in
@@ -20,4 +11,4 @@ returns c =
 pub write-records-spec : {M : Type 1} → statement M
 write-records-spec =
     tie.close
-    (tie.spec write-failed-records-requires write-own-records-requires same-length returns)
+    (tie.spec (λ c κs. search needs) (λ c κs. search needs) (λ c. search needs) returns)

@@ -7,26 +7,11 @@ use borrow.Author.Needs.{needs}
 use Rattle.recovery.proofs.restoring.restore_home.Statement.{statement}
 use Rattle.recovery.proofs.restoring.restore_home.Tie as tie
 
-shared-slice-read-if1 : tie.Need-shared-slice-read-if1
-shared-slice-read-if1 c = search needs
-
-area-size-requires : tie.Need-area-size-requires
-area-size-requires c κs = search needs
-
-mul-start : tie.Need-mul-start
-mul-start c = search needs
-
-add-start : tie.Need-add-start
-add-start c = search needs
-
 copy-prices-requires : tie.Need-copy-prices-requires
 copy-prices-requires c κs =
     let start = c .before .before .before .before .before .before .before in
     rw (c .before .before .area-size .ensures)
     (start .pre .0 .area, ((omega arith, omega arith, omega arith), inl (omega arith)))
-
-same-length : tie.Need-same-length
-same-length c = search needs
 
 returns : tie.Need-returns
 unfolding restoreHome
@@ -40,9 +25,6 @@ copy-prices-requires-2 c κs =
     let start = c .before .before .before .before .before .before .before in
     rw (c .before .before .area-size .ensures)
     (start .pre .0 .area, ((omega arith, omega arith, omega arith), inr (omega arith)))
-
-same-length-2 : tie.Need-same-length-2
-same-length-2 c = search needs
 
 returns-2 : tie.Need-returns-2
 unfolding restoreHome
@@ -58,15 +40,5 @@ returns-3 c = rw (c .if1 .left)
 pub restore-home-spec : {M : Type 1} → statement M
 restore-home-spec =
     tie.close
-    (tie.spec
-    shared-slice-read-if1
-    area-size-requires
-    mul-start
-    add-start
-    copy-prices-requires
-    same-length
-    returns
-    copy-prices-requires-2
-    same-length-2
-    returns-2
-    returns-3)
+    (tie.spec (λ c. search needs) (λ c κs. search needs) (λ c. search needs) (λ c. search needs) copy-prices-requires
+    (λ c. search needs) returns copy-prices-requires-2 (λ c. search needs) returns-2 returns-3)

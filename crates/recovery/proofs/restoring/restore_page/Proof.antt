@@ -5,22 +5,10 @@ use borrow.Author.Needs.{needs}
 use Rattle.recovery.proofs.restoring.restore_page.Statement.{statement}
 use Rattle.recovery.proofs.restoring.restore_page.Tie as tie
 
-mul-second : tie.Need-mul-second
-mul-second c = search needs
-
-shared-slice-read-second : tie.Need-shared-slice-read-second
-shared-slice-read-second c = search needs
-
 cast-second : tie.Need-cast-second
 cast-second c =
     let start = c .before .before .before .before .before in
     omega (arith, start .pre .0 .secondary-in (start .args .page) (start .pre .1) .eight)
-
-mul-first : tie.Need-mul-first
-mul-first c = search needs
-
-shared-slice-read-first : tie.Need-shared-slice-read-first
-shared-slice-read-first c = search needs
 
 cast-first : tie.Need-cast-first
 cast-first c =
@@ -38,9 +26,6 @@ restore-home-requires-2 c κs =
     let same = c .before .before .memory .given in
     (rw same (start .pre .0 .primary-in (start .args .page) (start .pre .1)), (start .pre .1, start .pre .0 .few))
 
-same-length : tie.Need-same-length
-same-length c = search needs
-
 returns : tie.Need-returns
 unfolding restorePage restoreHome
 returns c =
@@ -50,14 +35,5 @@ returns c =
 pub restore-page-spec : {M : Type 1} → statement M
 restore-page-spec =
     tie.close
-    (tie.spec
-    mul-second
-    shared-slice-read-second
-    cast-second
-    mul-first
-    shared-slice-read-first
-    cast-first
-    restore-home-requires
-    restore-home-requires-2
-    same-length
-    returns)
+    (tie.spec (λ c. search needs) (λ c. search needs) cast-second (λ c. search needs) (λ c. search needs) cast-first
+    restore-home-requires restore-home-requires-2 (λ c. search needs) returns)

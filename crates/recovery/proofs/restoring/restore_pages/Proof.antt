@@ -15,32 +15,17 @@ Inv-loop memory₀ pages live primary secondary forward page₀ memory page =
 abbrev μ-loop : tie.MeasureT-loop
 μ-loop memory₀ pages live primary secondary forward page₀ memory page = pages - page
 
-loop-holds : tie.Need-loop-holds Inv-loop μ-loop
-loop-holds c = turn-none
-
-cast-restore-page : tie.Need-cast-restore-page Inv-loop μ-loop
-cast-restore-page c = omega arith
-
 restore-page-requires : tie.Need-restore-page-requires Inv-loop μ-loop
 restore-page-requires c κs =
     let same = c .before .before .loop .inv .same in
     let start = c .before .before .before .before .before .before .before in
     (rw same (start .pre), c .before .loop-test .taken)
 
-add-page : tie.Need-add-page Inv-loop μ-loop
-add-page c = omega arith
-
-loop-less : tie.Need-loop-less Inv-loop μ-loop
-loop-less c = omega arith
-
 loop-again : tie.Need-loop-again Inv-loop μ-loop
 loop-again c =
     let made = c .before .before in
     let turn = made .before .before in
     turn-more (turn .before .loop .inv) (turn .loop-test .taken) (search needs) (made .restore-page .ensures)
-
-same-length : tie.Need-same-length Inv-loop μ-loop
-same-length c = search needs
 
 returns : tie.Need-returns Inv-loop μ-loop
 unfolding restorePages
@@ -49,14 +34,5 @@ returns c = turn-all (c .before .loop .inv) (c .loop-test .left)
 pub restore-pages-spec : {M : Type 1} → statement M
 restore-pages-spec =
     tie.close
-    (tie.spec
-    Inv-loop
-    μ-loop
-    loop-holds
-    cast-restore-page
-    restore-page-requires
-    add-page
-    loop-less
-    loop-again
-    same-length
-    returns)
+    (tie.spec Inv-loop μ-loop (λ c. turn-none) (λ c. omega arith) restore-page-requires (λ c. omega arith)
+    (λ c. omega arith) loop-again (λ c. search needs) returns)
