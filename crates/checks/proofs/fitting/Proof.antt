@@ -6,9 +6,6 @@ use Rattle.protocol.proofs.Limits.{within-limits}
 use Rattle.checks.proofs.fitting.Statement.{statement}
 use Rattle.checks.proofs.fitting.Tie as tie
 
-outside-limits-requires : tie.Need-outside-limits-requires
-outside-limits-requires c κs = search needs
-
 returns : tie.Need-returns
 unfolding firstRefusal
 returns c = simp (sym (c .before .outside-limits .ensures) ∙ c .if1 .taken)
@@ -36,4 +33,5 @@ returns-3 c =
 
 pub fitting-spec : {M : Type 1} → statement M
 fitting-spec =
-    tie.close (tie.spec outside-limits-requires returns unfit-rack-requires returns-2 returns-3)
+    tie.close
+    (tie.spec (λ c κs. search needs) returns unfit-rack-requires returns-2 returns-3)

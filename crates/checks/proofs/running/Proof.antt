@@ -6,17 +6,8 @@ use Rattle.checks.proofs.Order.{after-fitting, one-check}
 use Rattle.checks.proofs.running.Statement.{statement}
 use Rattle.checks.proofs.running.Tie as tie
 
-fitting-requires : tie.Need-fitting-requires
-fitting-requires c κs = search needs
-
 returns : tie.Need-returns
 returns c = rw (after-fitting _ _ _ _ (c .before .fitting .ensures)) (simp (ne-eqb _ _ (c .if1 .taken)))
-
-enum-told : tie.Need-enum-told
-enum-told c = search needs
-
-enum-told-2 : tie.Need-enum-told-2
-enum-told-2 c = search needs
 
 returns-2 : tie.Need-returns-2
 unfolding awaitsRecovery
@@ -42,4 +33,5 @@ returns-3 c =
 
 pub running-spec : {M : Type 1} → statement M
 running-spec =
-    tie.close (tie.spec fitting-requires returns enum-told enum-told-2 returns-2 returns-3)
+    tie.close
+    (tie.spec (λ c κs. search needs) returns (λ c. search needs) (λ c. search needs) returns-2 returns-3)
