@@ -9,11 +9,10 @@ use Rattle.memory.specs.Layout.{releaseOpen}
 use Rattle.memory.specs.Area.{load}
 use Rattle.directory.specs.declared.Directory.{Directory}
 use Rattle.directory.specs.declared.Status.the-variants.{Running}
-use Rattle.directory.specs.Directory.{directoryOf, isLive, primaryOf, secondaryOf, nextLiveOf, backupOf}
+use Rattle.directory.specs.Directory.{directoryOf, isLive, primaryOf, secondaryOf, backupOf}
 use Rattle.diff.proofs.Prices.{names-none}
 use Rattle.protocol.specs.Release.{sizeOf}
-use Rattle.protocol.specs.Record.{underWay}
-use Rattle.protocol.specs.Recovery.{closeReleases, restorePages, lostHome, keptHome, newHome, copyToNewHomes}
+use Rattle.protocol.specs.Recovery.{closeReleases, restoredMemory, lostHome, keptHome, newHome, copyToNewHomes}
 use Rattle.protocol.specs.Recovery.{failedRelease, writeRecords, recoveredDirectory, recoveredMemory}
 use Rattle.protocol.specs.Book.{Book, countOpen, strikeOpen}
 use Rattle.protocol.proofs.Shape.{own-words-kept}
@@ -36,7 +35,7 @@ module _ (d : Directory) (f : ℕ) (m : List ℕ) (b : Book) (rack : AwaitingRac
   m₁ = closeReleases d f m
 
   abbrev m₃ : List ℕ
-  m₃ = copyToNewHomes d f (restorePages d (underWay (sizeOf d) m₁ (nextLiveOf d f) f) m₁)
+  m₃ = copyToNewHomes d f (restoredMemory d f m)
 
   abbrev m₅ : List ℕ
   m₅ = writeRecords d f (failedRelease d f m) m₃

@@ -14,11 +14,11 @@ use Rattle.laws.proofs.Bools.{and-first, and-second}
 use Rattle.memory.specs.Layout.{pageStart}
 use Rattle.memory.specs.Area.{load}
 use Rattle.directory.specs.declared.Directory.{Directory}
-use Rattle.directory.specs.Directory.{isLive, nextLiveOf, backupOf, markedLive}
+use Rattle.directory.specs.Directory.{isLive, backupOf, markedLive}
 use Rattle.directory.proofs.Live.{next-live-kept}
 use Rattle.protocol.specs.Release.{Release, sizeOf, ownRelease}
-use Rattle.protocol.specs.Record.{underWay, writeOwnRecord}
-use Rattle.protocol.specs.Recovery.{backupBefore, closeReleases, restorePages, copyToNewHomes, failedRelease}
+use Rattle.protocol.specs.Record.{writeOwnRecord}
+use Rattle.protocol.specs.Recovery.{backupBefore, closeReleases, restoredMemory, copyToNewHomes, failedRelease}
 use Rattle.protocol.specs.Recovery.{writeFailed, backupWas, writeRecords}
 use Rattle.protocol.specs.Book.{none, Book, countOpen, strikeOpen}
 use Rattle.protocol.proofs.Shape.{Shape, area-of-live, shape-kept, own-words-kept}
@@ -47,7 +47,7 @@ module _ (d : Directory) (f : ℕ) (m : List ℕ) (b : Book) (rack : AwaitingRac
   m₁ = closeReleases d f m
 
   abbrev m₃ : List ℕ
-  m₃ = copyToNewHomes d f (restorePages d (underWay (sizeOf d) m₁ (nextLiveOf d f) f) m₁)
+  m₃ = copyToNewHomes d f (restoredMemory d f m)
 
   abbrev r : Release
   r = failedRelease d f m

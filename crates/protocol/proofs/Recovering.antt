@@ -16,7 +16,7 @@ use Rattle.directory.specs.declared.Directory.{Directory}
 use Rattle.directory.specs.Directory.{isLive, primaryOf, nextLiveOf}
 use Rattle.protocol.specs.Release.{sizeOf, countsAt}
 use Rattle.protocol.specs.Record.{underWay}
-use Rattle.protocol.specs.Recovery.{backupBefore, closeReleases, restorePages, keptHome, newHome}
+use Rattle.protocol.specs.Recovery.{backupBefore, closeReleases, restoredMemory, keptHome, newHome}
 use Rattle.protocol.specs.Recovery.{copyToNewHomes, failedRelease}
 use Rattle.protocol.specs.Book.{Opened, none, opened, listPrices, Book, count, countUncounted, countOpen}
 use Rattle.protocol.specs.Book.{strikeOpen}
@@ -128,9 +128,11 @@ module _ (d : Directory) (f : ℕ) (m : List ℕ) (b : Book) (rack : AwaitingRac
   forward = underWay (sizeOf d) m₁ (nextLiveOf d f) f
 
   abbrev m₂ : List ℕ
-  m₂ = restorePages d forward m₁
+  m₂ = restoredMemory d f m
 
+  -- the pages are restored from what stands once the releases are closed
   m₂-restored : RestoredBelow d forward (d .pages) m₁ m₂
+  unfolding restoredMemory
   m₂-restored = restored d forward m₁ (closed .shape)
 
   -- the half that is copied from is the book's, at live homes
