@@ -1,6 +1,7 @@
 -- Rests on `Passed`: the search from here on finds what the whole search finds.
 use Prim.Native.Nat.{_-_}
 use mathlib.Core.Path.{sym, _∙_}
+use native.Mathlib.Omega.{arith}
 use borrow.Author.Needs.{needs}
 use Rattle.laws.proofs.Search.{Passed, passed-none, passed-more, some-found, none-found}
 use Rattle.directory.specs.Directory.{directoryOf}
@@ -17,13 +18,13 @@ abbrev μ-loop : tie.MeasureT-loop
 
 returns : tie.Need-returns Inv-loop μ-loop
 returns c =
-    let turn = c .before .before in
-    some-found (turn .before .loop .inv) (turn .loop-test .taken) (sym (c .before .bad-page .ensures) ∙ c .if1 .taken)
+    let bad = sym (c .before .bad-page .ensures) ∙ c .if1 .taken in
+    some-found (c .before .before .before .loop .inv) (omega arith) bad
 
 loop-again : tie.Need-loop-again Inv-loop μ-loop
 loop-again c =
-    let turn = c .before .before in
-    passed-more (turn .before .loop .inv) (turn .loop-test .taken) (sym (c .before .bad-page .ensures) ∙ c .if1 .left)
+    let fine = sym (c .before .bad-page .ensures) ∙ c .if1 .left in
+    passed-more (c .before .before .before .loop .inv) (omega arith) fine
 
 returns-2 : tie.Need-returns-2 Inv-loop μ-loop
 returns-2 c = none-found (c .before .loop .inv) (c .loop-test .left)
