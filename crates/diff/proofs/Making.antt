@@ -1,6 +1,5 @@
 -- The changes between two states of the pages: they ascend, name what differs, and turn the one into the other; and
--- they
--- are the only such prices.
+-- they are the only such prices.
 use Prim.Native.Nat.{ℕ, zero, suc, _+_, _-_, _*_, _/_, _%_, _≤_, _<_}
 use mathlib.Core.Path.{_≡_, refl, sym, ap, _∙_}
 use mathlib.Core.Logic.{_≢_}

@@ -1,5 +1,5 @@
--- Demand 2 on diffs: the made diff is allowed, turns the twins into the working pages, names what differs, and is the
--- only one.
+-- Demand 2 on diffs: the made diff is allowed, turns the twins into the working pages, names what differs, and is
+-- the only one.
 use Prim.Native.Nat.{ℕ, zero, suc, _+_, _-_, _*_, _%_, _≤_, _<_}
 use mathlib.Core.Path.{_≡_, refl, sym, ap, _∙_}
 use mathlib.Core.Logic.{_≢_}

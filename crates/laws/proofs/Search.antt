@@ -1,12 +1,12 @@
 -- Laws of searches and changes over numbers below a bound.
 use Prim.Native.Nat.{ℕ, zero, suc, _+_, _-_, _<_, _≤_}
-use mathlib.Core.Path.{_≡_, refl, sym, ap, _∙_}
+use mathlib.Core.Path.{_≡_, refl, sym, _∙_}
 use mathlib.Core.Bool.{Bool, true, false, cond, true≢false}
 use native.Mathlib.Decide.{ℕ-discrete, decLt}
+use native.Mathlib.Nat.{sub-zero}
 use native.Mathlib.Numerals.{add-one}
 use native.Mathlib.Omega.{arith}
-use borrow.Author.Tests.{ltb-true, ltb-false, lt-ltb, le-ltb}
-use lib.Dec.{ltb}
+use borrow.Author.Tests.{ltb-false, lt-ltb, le-ltb}
 use Rattle.laws.specs.Search.{lowestFrom, lowest, someBelow, countBelow, inTurn}
 
 -- ---- one turn of a search from i on, below n
@@ -91,9 +91,30 @@ module _ (test : ℕ → Bool) (n : ℕ) where
         | no past ↦ absurd (true≢false (sym pass ∙ stops .missed i (omega arith) (omega arith)))
       ]
 
-  -- a search that came to its end
-  pub none-left : (i : ℕ) → n ≤ i → lowestFrom test i (n - i) ≡ lowest test n → someBelow test n ≡ false
-  none-left i past rest = le-ltb (lowest test n) n (omega (arith, lowest-end test i n past))
+-- ---- a loop that searches: it has passed the numbers below i, and finds from i on what the whole search finds
+
+pub record Passed (test : ℕ → Bool) (n i : ℕ) : Type 0 where
+  pub upto : i ≤ n
+  pub rest : lowestFrom test i (n - i) ≡ lowest test n
+
+pub passed-none : {test : ℕ → Bool} {n : ℕ} → Passed test n 0
+passed-none = record { upto = omega arith; rest = rw sub-zero }
+
+module _ {test : ℕ → Bool} {n i : ℕ} (far : Passed test n i) where
+  pub passed-more : i < n → test i ≡ false → Passed test n (i + 1)
+  passed-more below fail = record { upto = omega arith; rest = lowest-skip test i n below fail ∙ far .rest }
+
+  pub lowest-found : i < n → test i ≡ true → i ≡ lowest test n
+  lowest-found below pass = sym (lowest-hit test i n below pass) ∙ far .rest
+
+  pub lowest-none : n ≤ i → n ≡ lowest test n
+  lowest-none past = omega (arith, far .rest, lowest-end test i n past)
+
+  pub some-found : i < n → test i ≡ true → true ≡ someBelow test n
+  some-found below pass = sym (some-below test n i below pass)
+
+  pub none-found : n ≤ i → false ≡ someBelow test n
+  none-found past = sym (le-ltb (lowest test n) n (omega (arith, lowest-none past)))
 
 -- ---- how many pass
 

@@ -1,5 +1,5 @@
--- Numbers below a bound, as cards and pages are: the lowest that passes a test, how many do, and a change made for
--- each.
+-- Numbers below a bound, as cards and pages are: the lowest that passes a test, how many do, and a change
+-- made for each.
 -- Assumes nothing: these are definitions.
 use Prim.Native.Nat.{ℕ, zero, suc, _+_}
 use mathlib.Core.Bool.{Bool, cond}

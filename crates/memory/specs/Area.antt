@@ -1,6 +1,5 @@
 -- The lent memory: "one area per card, ascending" (document 01, "Cards, pages, memory"). A word is named by the size
--- of
--- an area, its card and its offset in the card's area; a run of words by its first.
+-- of an area, its card and its offset in the card's area; a run of words by its first.
 -- Assumes nothing: these are definitions.
 use Prim.Native.Nat.{ℕ, _+_, _*_, _≤_}
 use mathlib.Core.List.{List}

@@ -65,6 +65,21 @@ pub fn zero_words(words: &mut [u32])
     }
 }
 
+// Copies the n words from `from` on to the n words from `to` on.
+fn copy_within(words: &mut [u32], from: usize, to: usize, n: usize)
+    requires { ⌜ (from + n ≤ length (now words)) × (to + n ≤ length (now words)) ⌝ }
+    requires { ⌜ ((from + n ≤ to) ⊎ (to + n ≤ from)) ⌝ }
+    ensures { λ _. ⌜ now (words .exit)
+        ≡ sets (now (words .entry)) to (take n (drop from (now (words .entry)))) ⌝ }
+{
+    let mut i = 0;
+    while i < n {
+        let v = words[from + i];
+        words[to + i] = v;
+        i += 1;
+    }
+}
+
 // ---- one word of a card's area
 
 pub fn load_word(memory: &[u32], size: usize, card: usize, offset: usize) -> u32
@@ -142,14 +157,7 @@ pub fn copy_run(memory: &mut [u32], size: usize, from: usize, to: usize, offset:
     ensures { λ _. ⌜ now (memory .exit)
         ≡ copyRun size (now (memory .entry)) from offset to offset n ⌝ }
 {
-    let source = from * size + offset;
-    let target = to * size + offset;
-    let mut i = 0;
-    while i < n {
-        let v = memory[source + i];
-        memory[target + i] = v;
-        i += 1;
-    }
+    copy_within(memory, from * size + offset, to * size + offset, n);
 }
 
 // ---- a page's 64 words: the card's area is lent on as a part of the memory, and the page as a
@@ -181,21 +189,6 @@ pub fn store_price(memory: &mut [u32], size: usize, card: usize, page: usize, wo
     store_price_in(&mut memory[area..end], page, word, v);
 }
 
-// The 32 words from `from` on are copied to the 32 from `to` on.
-fn copy_in_page(page: &mut [u32], from: usize, to: usize)
-    requires { ⌜ (from + 32 ≤ length (now page)) × (to + 32 ≤ length (now page)) ⌝ }
-    requires { ⌜ ((from + 32 ≤ to) ⊎ (to + 32 ≤ from)) ⌝ }
-    ensures { λ _. ⌜ now (page .exit)
-        ≡ sets (now (page .entry)) to (take 32 (drop from (now (page .entry)))) ⌝ }
-{
-    let mut i = 0;
-    while i < 32 {
-        let v = page[from + i];
-        page[to + i] = v;
-        i += 1;
-    }
-}
-
 fn copy_prices_in(area: &mut [u32], page: usize, from: usize, to: usize)
     requires { ⌜ (page + 64 ≤ length (now area)) × (from + 32 ≤ 64) × (to + 32 ≤ 64) ⌝ }
     requires { ⌜ ((from + 32 ≤ to) ⊎ (to + 32 ≤ from)) ⌝ }
@@ -204,7 +197,7 @@ fn copy_prices_in(area: &mut [u32], page: usize, from: usize, to: usize)
         (take 32 (drop (page + from) (now (area .entry)))) ⌝ }
 {
     let end = page + 64;
-    copy_in_page(&mut area[page..end], from, to);
+    copy_within(&mut area[page..end], from, to, 32);
 }
 
 pub fn copy_prices(

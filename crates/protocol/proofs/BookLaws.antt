@@ -1,17 +1,15 @@
 -- The book at one accepted call: what is changed for one card, and what a step makes of the book.
-use Prim.Native.Nat.{ℕ, suc, _+_, _*_, _≤_, _<_}
-use mathlib.Core.Path.{_≡_, refl, sym, ap, _∙_, subst}
+use Prim.Native.Nat.{ℕ, suc, _≤_, _<_}
+use mathlib.Core.Path.{_≡_, refl, sym, _∙_, subst, fun-ext}
 use mathlib.Core.Logic.{_≢_}
 use mathlib.Core.List.{List, []}
-use mathlib.Core.Bool.{Bool, true, false, cond}
+use mathlib.Core.Bool.{cond}
 use native.Mathlib.Omega.{arith}
 use native.Mathlib.Decide.{ℕ-discrete}
 use borrow.Author.Tests.{lt-ltb, le-ltb, eq-eqb, ne-eqb}
 use lib.ListN.{length}
 use lib.Dec.{ltb}
 use Rattle.diff.specs.declared.Price.{Price}
-use Rattle.diff.specs.Prices.{names, laidAt}
-use Rattle.diff.proofs.Prices.{names-none, laid-none}
 use Rattle.protocol.specs.Release.{Release, countsAt, stepsIn}
 use Rattle.protocol.specs.Book.{Opened, none, opened, Book, update, listPrices, count, setOpen, stepBook}
 
@@ -33,6 +31,15 @@ module _ {A : Type 0} (f : ℕ → A) (c : ℕ) (a : A) where
         | yes same ↦ rw same (subst (P c) (sym update-same) here)
         | no other ↦ subst (P x) (sym (update-other x other)) (others x other)
       ]
+
+  pub update-unchanged : f c ≡ a → update f c a ≡ f
+  update-unchanged is = fun-ext (update-each (λ x v. v ≡ f x) (sym is) (λ x other. refl))
+
+pub update-update : {A : Type 0} (f : ℕ → A) (c : ℕ) (a a′ : A) → update (update f c a) c a′ ≡ update f c a′
+update-update f c a a′ =
+    fun-ext
+    (update-each (update f c a) c a′ (λ x v. v ≡ update f c a′ x) (sym (update-same f c a′))
+    (λ x other. update-other f c a x other ∙ sym (update-other f c a′ x other)))
 
 -- ---- an open release
 

@@ -1,9 +1,8 @@
 -- The claim on page words while releases are under way: the writes that a card has still to make, laid over what
--- memory has
--- in a word that no other card's open list names, give the book's price of it, with the prices that the book has not
--- yet.
-use Prim.Native.Nat.{ℕ, _+_, _*_, _≤_, _<_}
-use mathlib.Core.Path.{_≡_, refl, sym, ap, _∙_, subst}
+-- memory has in a word that no other card's open list names, give the book's price of it, with the prices that the
+-- book has not yet.
+use Prim.Native.Nat.{ℕ, _+_, _*_, _<_}
+use mathlib.Core.Path.{_≡_, refl, sym, _∙_}
 use mathlib.Core.Logic.{_≢_}
 use mathlib.Core.List.{List, []}
 use mathlib.Core.Bool.{Bool, true, false}
@@ -15,7 +14,7 @@ use Rattle.directory.specs.declared.Directory.{Directory}
 use Rattle.directory.specs.Directory.{isLive}
 use Rattle.diff.specs.declared.Price.{Price}
 use Rattle.diff.specs.Prices.{names, laidAt}
-use Rattle.diff.proofs.Prices.{laid-none}
+use Rattle.diff.proofs.Prices.{names-none, laid-none}
 use Rattle.protocol.specs.Release.{Write, sizeOf}
 use Rattle.protocol.specs.Book.{Opened, none, update}
 use Rattle.protocol.proofs.Over.{over, over-none, HomeOf}
@@ -38,8 +37,7 @@ pub record HomeWord (d : Directory) (h p w : ℕ) : Type 0 where
   pub word : w < 32
 
 -- One half of the pages, tentative or committed: where it stands, what a card's release has still to write (the half's
--- words
--- among it), and the prices that the book has not yet. Neither speaks of a label that the release does not name.
+-- words among it), and the prices that the book has not yet. Neither speaks of a label that the release does not name.
 pub record Half (d : Directory) : Type 0 where
   pub half : ℕ
   pub todo : ℕ → Opened → List Write
@@ -63,6 +61,27 @@ Agrees d H c R price h p w v =
 pub record Claim (d : Directory) (H : Half d) (release : ℕ → Opened) (price : ℕ → ℕ) (m : List ℕ) : Type 0 where
   pub agrees : (c h p w : ℕ) → c < 8 → HomeWord d h p w → Alone release c (32 * p + w)
       → Agrees d H c (release c) price h p w (wordIn d H m h p w)
+
+-- ---- with nothing open the claim says that every word is the book's
+
+module _ (d : Directory) (H : Half d) (release : ℕ → Opened) (price : ℕ → ℕ) (m : List ℕ)
+    (idle : (c : ℕ) → release c ≡ none) where
+  pub claim-idle : ((h p w : ℕ) → HomeWord d h p w → wordIn d H m h p w ≡ price (32 * p + w))
+      → Claim d H release price m
+  claim-idle right =
+      record {
+        agrees = λ c h p w few word alone.
+            rw (idle c, H .todo-none c, H .due-none)
+            (over-none h _ _ ∙ right h p w word ∙ sym (laid-none (32 * p + w) _));
+      }
+
+  pub idle-words : Claim d H release price m → (h p w : ℕ) → HomeWord d h p w
+      → wordIn d H m h p w ≡ price (32 * p + w)
+  idle-words claim h p w word =
+      sym (over-none h _ _)
+      ∙ (rw (idle 0, H .todo-none 0, H .due-none) at
+      (claim .agrees 0 h p w (omega arith) word (λ x other. rw (idle x) (names-none (32 * p + w)))))
+      ∙ laid-none (32 * p + w) _
 
 -- ---- only card c moves: its own words go from the old claim to the new, and what others claim is not touched
 

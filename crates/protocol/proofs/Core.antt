@@ -1,8 +1,6 @@
 -- The invariant between memory, directory and book that a step keeps, with the rack running or awaiting recovery.
--- `backup`
--- is each card's backup, from before the failure where one is awaited. T and C say when the claims on the tentative
--- and the
--- committed words are made. `old` is what the records of dead cards say.
+-- `backup` is each card's backup, from before the failure where one is awaited. T and C say when the claims on the
+-- tentative and the committed words are made. `old` is what the records of dead cards say.
 use Prim.Native.Nat.{ℕ, zero, suc, _+_, _*_, _≤_, _<_}
 use mathlib.Core.Path.{_≡_, refl, sym, ap, _∙_, subst}
 use mathlib.Core.Logic.{_≢_, _⊎_, inl, inr}

@@ -23,10 +23,11 @@ use Rattle.protocol.specs.Book.{none, newBook}
 use Rattle.protocol.proofs.Limits.{Within}
 use Rattle.protocol.proofs.Shape.{Shape, area-of-live}
 use Rattle.protocol.proofs.Rehoming.{Right}
+use Rattle.protocol.proofs.Claims.{claim-idle}
+use Rattle.protocol.proofs.Halves.{tentatives, committeds}
 use Rattle.protocol.proofs.Held.{Held}
 use Rattle.protocol.proofs.Core.{Core}
 use Rattle.protocol.proofs.Invariant.{RunningRack}
-use Rattle.protocol.proofs.Recovered.{tentative-right, committed-right}
 
 module _ (cards pages words : ℕ) (limits : Within words cards pages) where
   abbrev d : Directory
@@ -112,10 +113,10 @@ module _ (cards pages words : ℕ) (limits : Within words cards pages) where
         apart = λ c x label other named. names-none label;
         numbers = λ c. tt;
         owns = own;
-        tentative = λ _. tentative-right d (backupOf d) (newBook .price) (zeros words)
-            (λ h p live home page. right h p);
-        committed = λ _. committed-right d (backupOf d) (newBook .price) (zeros words)
-            (λ h p live home page. right h p);
+        tentative = λ _. claim-idle d (tentatives d (backupOf d)) (newBook .release) (newBook .price) (zeros words)
+            (λ c. refl) (λ h p w word. right h p .tentatives w (word .word));
+        committed = λ _. claim-idle d (committeds d (backupOf d)) (newBook .release) (newBook .price) (zeros words)
+            (λ c. refl) (λ h p w word. right h p .committeds w (word .word));
         held = λ c live up. settled c (backupOf d c);
         dead = λ g h o gone less live above below. refl;
       }

@@ -1,6 +1,5 @@
 -- The invariant between two calls: what a call finds is as good as what the last call left, whatever the areas of
--- cards
--- that are away hold.
+-- cards that are away hold.
 use Prim.Native.Nat.{ℕ, _+_, _*_, _≤_, _<_}
 use mathlib.Core.Path.{_≡_, refl, _∙_}
 use mathlib.Core.Logic.{_⊎_, inl, inr}

@@ -1,6 +1,5 @@
 -- What a card's record on its backup says beside the book, and that a step keeps it so. `f o` is the word at offset o
--- of
--- the backup's area.
+-- of the backup's area.
 use Prim.Native.Nat.{ℕ, zero, suc, _+_, _-_, _*_, _/_, _%_, _≤_, _<_}
 use mathlib.Core.Path.{_≡_, refl, sym, ap, _∙_}
 use mathlib.Core.Logic.{_≢_}

@@ -1,5 +1,5 @@
--- The area of a card that joins: its own stamp and desk, and the records that are copied to it. No other card's word
--- changes.
+-- The area of a card that joins: its own stamp and desk, and the records that are copied to it. No other
+-- card's word changes.
 use Prim.Native.Nat.{ℕ, zero, suc, _+_, _-_, _*_, _≤_, _<_}
 use mathlib.Core.Path.{_≡_, refl, sym, ap, _∙_}
 use mathlib.Core.Logic.{_≢_, _⊎_, inl, inr}

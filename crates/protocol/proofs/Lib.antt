@@ -11,6 +11,7 @@ pub mod StepClaims
 pub mod Held
 pub mod Core
 pub mod StepCore
+pub mod ClosedBook
 pub mod Closing
 pub mod CoreKept
 pub mod OpenCore
@@ -24,8 +25,10 @@ pub mod FailedRecord
 pub mod OwnRecords
 pub mod Moving
 pub mod Recovering
+pub mod RecoveredRecords
 pub mod Recovered
 pub mod JoinedArea
+pub mod JoinedMemory
 pub mod Joining
 pub mod Accepting
 pub mod Formatted

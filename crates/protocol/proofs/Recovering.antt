@@ -16,16 +16,15 @@ use Rattle.directory.specs.declared.Directory.{Directory}
 use Rattle.directory.specs.Directory.{isLive, primaryOf, nextLiveOf}
 use Rattle.protocol.specs.Release.{sizeOf, countsAt}
 use Rattle.protocol.specs.Record.{underWay}
-use Rattle.protocol.specs.Recovery.{backupBefore, closeReleases, restorePages, keptHome, newHome}
+use Rattle.protocol.specs.Recovery.{backupBefore, closeReleases, restoredMemory, keptHome, newHome}
 use Rattle.protocol.specs.Recovery.{copyToNewHomes, failedRelease}
 use Rattle.protocol.specs.Book.{Opened, none, opened, listPrices, Book, count, countUncounted, countOpen}
 use Rattle.protocol.specs.Book.{strikeOpen}
 use Rattle.protocol.proofs.Shape.{area-of-live, shape-kept}
-use Rattle.protocol.proofs.Over.{over-none, HomeOf}
-use Rattle.protocol.proofs.BookLaws.{update-other, uncounted-none}
-use Rattle.diff.proofs.Prices.{names-none, laid-none}
-use Rattle.protocol.proofs.Claims.{HomeWord}
-use Rattle.protocol.proofs.Halves.{tentatives, committeds, pending-none, committed-none}
+use Rattle.protocol.proofs.Over.{HomeOf}
+use Rattle.protocol.proofs.BookLaws.{update-other}
+use Rattle.protocol.proofs.Claims.{HomeWord, idle-words}
+use Rattle.protocol.proofs.Halves.{tentatives, committeds}
 use Rattle.protocol.proofs.Core.{Core}
 use Rattle.protocol.proofs.Closing.{close-core-all}
 use Rattle.protocol.proofs.Restoring.{source, halfWord, RestoredBelow, restored}
@@ -129,9 +128,11 @@ module _ (d : Directory) (f : ℕ) (m : List ℕ) (b : Book) (rack : AwaitingRac
   forward = underWay (sizeOf d) m₁ (nextLiveOf d f) f
 
   abbrev m₂ : List ℕ
-  m₂ = restorePages d forward m₁
+  m₂ = restoredMemory d f m
 
+  -- the pages are restored from what stands once the releases are closed
   m₂-restored : RestoredBelow d forward (d .pages) m₁ m₂
+  unfolding restoredMemory
   m₂-restored = restored d forward m₁ (closed .shape)
 
   -- the half that is copied from is the book's, at live homes
@@ -142,18 +143,14 @@ module _ (d : Directory) (f : ℕ) (m : List ℕ) (b : Book) (rack : AwaitingRac
       under-way-yes (sizeOf d) m₁ (nextLiveOf d f) f is
       (record-kept (recordStamp f) (omega arith) (omega arith) ∙ same
       ∙ sym (record-kept (recordDone f) (omega arith) (omega arith))) in
-      sym (over-none h _ _)
-      ∙ (rw (pending-none d (backupBefore d f) 0, uncounted-none) at
-      (closed .tentative differ .agrees 0 h p w (omega arith) word (λ x other. names-none (32 * p + w))))
-      ∙ laid-none (32 * p + w) _
+      idle-words d (tentatives d (backupBefore d f)) (b₁ .release) (b₁ .price) m₁ (λ c. refl)
+      (closed .tentative differ) h p w word
   source-right false is h p w word =
       let same : stampOf d f m ≡ doneOf d f m =
       sym (record-kept (recordStamp f) (omega arith) (omega arith))
       ∙ under-way-no (sizeOf d) m₁ (nextLiveOf d f) f is ∙ record-kept (recordDone f) (omega arith) (omega arith) in
-      sym (over-none h _ _)
-      ∙ (rw (committed-none d (backupBefore d f) 0) at
-      (closed .committed same .agrees 0 h p w (omega arith) word (λ x other. names-none (32 * p + w))))
-      ∙ laid-none (32 * p + w) _
+      idle-words d (committeds d (backupBefore d f)) (b₁ .release) (b₁ .price) m₁ (λ c. refl)
+      (closed .committed same) h p w word
 
   -- so both halves are, once restored
   pub restored-right : (h p : ℕ) → isLive d h ≡ true → HomeOf d h p → p < d .pages

@@ -24,7 +24,7 @@ pub record Right (size : ℕ) (price : ℕ → ℕ) (m : List ℕ) (h p : ℕ) :
   pub committeds : (w : ℕ) → w < 32 → load size m h (pageStart p + (committedHalf + w)) ≡ price (32 * p + w)
 
 -- a page whose words are those of a page that is right
-right-same : {size : ℕ} {price : ℕ → ℕ} {m m′ : List ℕ} {h h′ p : ℕ}
+pub right-same : {size : ℕ} {price : ℕ → ℕ} {m m′ : List ℕ} {h h′ p : ℕ}
     → ((o : ℕ) → o < 64 → load size m′ h′ (pageStart p + o) ≡ load size m h (pageStart p + o)) → Right size price m h p
     → Right size price m′ h′ p
 right-same same right =

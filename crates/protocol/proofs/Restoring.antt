@@ -1,5 +1,5 @@
--- Restoring the pages: at each live home of each page the one half becomes what the other is, and nothing else
--- changes.
+-- Restoring the pages: at each live home of each page the one half becomes what the other is, and
+-- nothing else changes.
 use Prim.Native.Nat.{ℕ, zero, suc, _+_, _*_, _≤_, _<_}
 use mathlib.Core.Path.{_≡_, refl, sym, ap, _∙_}
 use mathlib.Core.Logic.{_≢_, _⊎_, inl, inr}

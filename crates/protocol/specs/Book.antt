@@ -1,6 +1,5 @@
 -- The book (document 01, "The book of demand 3"): the reference model of the rack. It is fed each call and whether it
--- was
--- accepted; it sees neither memory nor directory nor an answer.
+-- was accepted; it sees neither memory nor directory nor an answer.
 -- Assumes nothing: these are definitions.
 use Prim.Native.Nat.{ℕ, suc, _+_, _*_}
 use mathlib.Core.List.{List, []}
@@ -61,9 +60,8 @@ listPrices list = pricesOf 64 list
 
 -- ---- what accepted calls do to it
 
--- "To count a release sets every word its list prices to that price, and its card's last number and desk to the
--- release's
--- own."
+-- "To count a release sets every word its list prices to that price, and its card's last number and desk to
+-- the release's own."
 abbrev pub count : Book → ℕ → Release → List ℕ → Book
 count b card r list =
     record {
@@ -91,8 +89,7 @@ failBook b card =
     record { price = b .price; last = b .last; release = update (b .release) card none; failed = card }
 
 -- "open releases of fewer than 2k + 9 steps are counted, cards ascending, then all open ones struck out"; a rack has
--- at
--- most 8 cards
+-- at most 8 cards
 unfoldable pub countUncounted : ℕ → Opened → Book → Book
 countUncounted card none b = b
 countUncounted card (opened r list steps) b =

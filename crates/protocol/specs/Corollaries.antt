@@ -21,8 +21,7 @@ abbrev pub AlwaysFits : Type 0
 AlwaysFits = Everywhere (λ b d v. answerTo d v .outcome .number ≢ unfit)
 
 -- the number is that of the card's open release, or at or below that of its last: the rack has the release, and no
--- recovery
--- has undone it
+-- recovery has undone it
 abbrev pub OpenUnder : Opened → ℕ → Type 0
 OpenUnder none number = ⊥
 OpenUnder (opened r list steps) number = r .number ≡ number

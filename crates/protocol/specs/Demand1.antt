@@ -1,5 +1,5 @@
--- Demand 1 over the definitions: "a refusal changes no word of what was lent", and has a number of document 01's
--- table.
+-- Demand 1 over the definitions: "a refusal changes no word of what was lent", and has a number of
+-- document 01's table.
 -- Assumes nothing: these are definitions.
 use Prim.Native.Nat.{ℕ}
 use mathlib.Core.Path.{_≡_}

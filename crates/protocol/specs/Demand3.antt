@@ -46,8 +46,7 @@ away (join-card card) out = update out card false
 away (ask-desk card) out = out
 
 -- "Nobody else writes the memory, but from its accepted failure to its accepted join a card's area may hold anything
--- at
--- each call"
+-- at each call"
 pub record Undisturbed (d : Directory) (out : ℕ → Bool) (left found : List ℕ) : Type 0 where
   pub same-length : length found ≡ length left
   pub same-words : (card offset : ℕ) → card < d .cards → offset < sizeOf d → out card ≡ false

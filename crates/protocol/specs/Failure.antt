@@ -1,5 +1,5 @@
--- The failure of a card (document 01, "Failure, recovery, join": "A failure marks the card dead"; refusals 1, 2, 11,
--- 3, 13).
+-- The failure of a card (document 01, "Failure, recovery, join": "A failure marks the card dead"; refusals 1, 2,
+-- 11, 3, 13).
 -- Assumes nothing: these are definitions.
 use Prim.Native.Nat.{ℕ}
 use mathlib.Core.List.{List, [], _∷_, _++_}

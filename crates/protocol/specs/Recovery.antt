@@ -87,8 +87,7 @@ unfoldable pub recoveredDirectory : Directory → ℕ → Directory
 recoveredDirectory d f = withStatus (inTurn (moveHome d f) (d .pages) d) Running
 
 -- ---- "f's record .. is written on every live card. Each live card whose backup was f has its record written likewise
--- on
--- its new backup, from its own stamp and desk."
+-- on its new backup, from its own stamp and desk."
 
 unfoldable pub writeFailed : Directory → ℕ → Release → ℕ → List ℕ → List ℕ
 writeFailed d f r holder m = cond (isLive d holder) (writeRecord (sizeOf d) m holder f r) m
@@ -107,11 +106,14 @@ writeRecords d f r m =
 unfoldable pub failedRelease : Directory → ℕ → List ℕ → Release
 failedRelease d f m = recordedRelease (sizeOf d) (closeReleases d f m) (nextLiveOf d f) f
 
-unfoldable pub recoveredMemory : Directory → ℕ → List ℕ → List ℕ
-recoveredMemory d f m =
+-- the pages restored by that record, the releases being closed
+unfoldable pub restoredMemory : Directory → ℕ → List ℕ → List ℕ
+restoredMemory d f m =
     let closed : List ℕ = closeReleases d f m in
-    let restored : List ℕ = restorePages d (underWay (sizeOf d) closed (nextLiveOf d f) f) closed in
-    writeRecords d f (failedRelease d f m) (copyToNewHomes d f restored)
+    restorePages d (underWay (sizeOf d) closed (nextLiveOf d f) f) closed
+
+unfoldable pub recoveredMemory : Directory → ℕ → List ℕ → List ℕ
+recoveredMemory d f m = writeRecords d f (failedRelease d f m) (copyToNewHomes d f (restoredMemory d f m))
 
 -- the card whose recovery is awaited; 0 if none
 unfoldable pub awaitedCard : Status → ℕ

@@ -100,8 +100,7 @@ stepsIn k = 4 * k + 11
 -- ---- one step
 
 -- A store meant for a dead card is dropped ("Failure, recovery, join"). On a running rack the homes and the backup of
--- a
--- live card are live.
+-- a live card are live.
 unfoldable pub makeWrite : List Bool → ℕ → List ℕ → Write → List ℕ
 makeWrite marks size m w = cond (liveAt marks (w .card)) (store size m (w .card) (w .offset) (w .value)) m
 

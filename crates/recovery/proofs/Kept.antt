@@ -1,4 +1,5 @@
--- What recovery and join rely on: each card of a rack has its mark and area, and the length of the memory alone counts.
+-- What recovery and join rely on: each card of a rack has its mark and area, and the length of the
+-- memory alone counts.
 use Prim.Native.Nat.{ℕ, _<_}
 use mathlib.Core.Path.{_≡_}
 use mathlib.Core.List.{List}

@@ -1,9 +1,5 @@
--- Laws on recovery and join.
-pub mod Closing
-pub mod Homes
+-- Laws on recovery and join that the proofs of several modules cite.
 pub mod Kept
 pub mod Marks
-pub mod Records
 pub mod Recovering
-pub mod Steps
 pub mod Turns

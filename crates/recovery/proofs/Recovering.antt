@@ -11,7 +11,7 @@ use Rattle.protocol.specs.Release.{Release, sizeOf, releaseOf}
 use Rattle.protocol.specs.Record.{recordedRelease, underWay, writeOwnRecord}
 use Rattle.protocol.specs.Recovery.{restoreHome, restorePage, restorePages, copyToNewHomes, writeFailed, writeRecords}
 use Rattle.protocol.specs.Recovery.{copyToNewHome, lostHome, keptHome, newHome}
-use Rattle.protocol.specs.Recovery.{closeReleases, failedRelease, recoveredMemory}
+use Rattle.protocol.specs.Recovery.{closeReleases, failedRelease, restoredMemory, recoveredMemory}
 use Rattle.release.proofs.Callers.{homes}
 use Rattle.recovery.specs.Rack.{marksOf, rackOf, backedBy}
 use Rattle.recovery.specs.Closing.{recoveredClosed}
@@ -74,7 +74,7 @@ module _ (d : Directory) where
 
     pub recovered-by-parts : (m : List ℕ)
         → recoveredClosed rack (set (d .live) f true) f (closeReleases d f m) ≡ recoveredMemory d f m
-    unfolding recoveredClosed recoveredMemory writeRecords failedRelease
+    unfolding recoveredClosed recoveredMemory restoredMemory writeRecords failedRelease
     recovered-by-parts m =
         ap (inTurn _ (d .cards))
         (in-turn-same _ _ (same-failed d f _ _ _) (d .cards) _

@@ -31,7 +31,8 @@ use Rattle.protocol.specs.Failure.{failure}
 use Rattle.protocol.specs.Recovery.{stepTimes, runToClose, closeReleases, restoreHome, restorePage, restorePages}
 use Rattle.protocol.specs.Recovery.{lostHome}
 use Rattle.protocol.specs.Recovery.{keptHome, newHome, copyToNewHome, copyToNewHomes, moveHome, recoveredDirectory}
-use Rattle.protocol.specs.Recovery.{writeFailed, writeRecords, failedRelease, recoveredMemory, awaitedCard, recovery}
+use Rattle.protocol.specs.Recovery.{writeFailed, writeRecords, failedRelease, restoredMemory, recoveredMemory}
+use Rattle.protocol.specs.Recovery.{awaitedCard, recovery}
 use Rattle.protocol.proofs.Accepting.{outcome-of}
 use Rattle.worked.specs.Rows.{AllHold, newRack, changedPages, changes, noChange, stepped, released}
 use Rattle.worked.specs.Rows.{recoveredFrom}
@@ -60,47 +61,17 @@ used d m card r list idle low =
 
 -- ---- releases through a recovery
 
--- the card died after its stamp
-forward : fetched (recoveredFrom 13 1) 1 ≡ pageOf 250 199
-unfolding lowestFrom countBelow inTurn load store loadRun storeRun clearRun copyRun zeros formattedDirectory
-    emptyDirectory tableFrom nextLive pricesOf pricesFrom names readFrom wordStep checkDiff ownRelease openRelease
-    openList stepsOf isOpen releaseWrites makeWrite close stepMemory recordedRelease underWay settledRecord
-    writeRecord writeOwnRecord firstRefusal outsideLimits fewLive badHome badPage badStatus badRelease badCard
-    unfitRack awaitsRecovery formatting shareWord sharesWith openMemory opening step namesPage inMotion
-    committedPage fetch failure stepTimes runToClose closeReleases restoreHome restorePage restorePages
-    lostHome keptHome newHome copyToNewHome copyToNewHomes moveHome recoveredDirectory writeFailed
-    writeRecords failedRelease recoveredMemory awaitedCard recovery newRack changedPages
-    changes noChange stepped released recoveredFrom fetched pageOf
-forward = refl
-
--- it died before
-back : fetched (recoveredFrom 12 1) 1 ≡ zeros 32
-unfolding lowestFrom countBelow inTurn load store loadRun storeRun clearRun copyRun zeros formattedDirectory
-    emptyDirectory tableFrom nextLive pricesOf pricesFrom names readFrom wordStep checkDiff ownRelease openRelease
-    openList stepsOf isOpen releaseWrites makeWrite close stepMemory recordedRelease underWay settledRecord
-    writeRecord writeOwnRecord firstRefusal outsideLimits fewLive badHome badPage badStatus badRelease badCard
-    unfitRack awaitsRecovery formatting shareWord sharesWith openMemory opening step namesPage inMotion
-    committedPage fetch failure stepTimes runToClose closeReleases restoreHome restorePage restorePages
-    lostHome keptHome newHome copyToNewHome copyToNewHomes moveHome recoveredDirectory writeFailed
-    writeRecords failedRelease recoveredMemory awaitedCard recovery newRack changedPages
-    changes noChange stepped released recoveredFrom fetched pageOf
-back = refl
-
--- another card died
-completed : fetched (recoveredFrom 5 2) 1 ≡ pageOf 250 199
-unfolding lowestFrom countBelow inTurn load store loadRun storeRun clearRun copyRun zeros formattedDirectory
-    emptyDirectory tableFrom nextLive pricesOf pricesFrom names readFrom wordStep checkDiff ownRelease openRelease
-    openList stepsOf isOpen releaseWrites makeWrite close stepMemory recordedRelease underWay settledRecord
-    writeRecord writeOwnRecord firstRefusal outsideLimits fewLive badHome badPage badStatus badRelease badCard
-    unfitRack awaitsRecovery formatting shareWord sharesWith openMemory opening step namesPage inMotion
-    committedPage fetch failure stepTimes runToClose closeReleases restoreHome restorePage restorePages
-    lostHome keptHome newHome copyToNewHome copyToNewHomes moveHome recoveredDirectory writeFailed
-    writeRecords failedRelease recoveredMemory awaitedCard recovery newRack changedPages
-    changes noChange stepped released recoveredFrom fetched pageOf
-completed = refl
-
 pub shown : Shown
-shown = record { forward = forward; back = back; completed = completed }
+unfolding lowestFrom countBelow inTurn load store loadRun storeRun clearRun copyRun zeros formattedDirectory
+    emptyDirectory tableFrom nextLive pricesOf pricesFrom names readFrom wordStep checkDiff ownRelease openRelease
+    openList stepsOf isOpen releaseWrites makeWrite close stepMemory recordedRelease underWay settledRecord
+    writeRecord writeOwnRecord firstRefusal outsideLimits fewLive badHome badPage badStatus badRelease badCard
+    unfitRack awaitsRecovery formatting shareWord sharesWith openMemory opening step namesPage inMotion
+    committedPage fetch failure stepTimes runToClose closeReleases restoreHome restorePage restorePages
+    lostHome keptHome newHome copyToNewHome copyToNewHomes moveHome recoveredDirectory writeFailed
+    writeRecords failedRelease restoredMemory recoveredMemory awaitedCard recovery newRack changedPages
+    changes noChange stepped released recoveredFrom fetched pageOf
+shown = record { forward = refl; back = refl; completed = refl }
 
 -- ---- the twelve
 
@@ -113,7 +84,7 @@ unfolding AllHold changesFrom encodeFrom madeDiff runLength header lowestFrom co
     sharesWith openMemory opening step namesPage inMotion committedPage fetch failure stepTimes
     runToClose closeReleases restoreHome restorePage restorePages lostHome keptHome newHome
     copyToNewHome copyToNewHomes moveHome recoveredDirectory writeFailed writeRecords
-    failedRelease recoveredMemory awaitedCard recovery newRack changedPages changes
+    failedRelease restoredMemory recoveredMemory awaitedCard recovery newRack changedPages changes
     noChange stepped released recoveredFrom fetched pageOf
 worked = (
   (refl, refl, refl),
@@ -124,9 +95,9 @@ worked = (
       (
         (refl, (refl, refl)),
         (
-          back,
+          shown .back,
           (
-            forward,
+            shown .forward,
             (
               (refl, refl),
               (

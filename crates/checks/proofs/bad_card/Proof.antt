@@ -7,12 +7,6 @@ use Rattle.protocol.specs.Checks.{badCard}
 use Rattle.checks.proofs.bad_card.Statement.{statement}
 use Rattle.checks.proofs.bad_card.Tie as tie
 
-shared-slice-read-if1 : tie.Need-shared-slice-read-if1
-shared-slice-read-if1 c = search needs
-
-area-size-requires : tie.Need-area-size-requires
-area-size-requires c κs = search needs
-
 load-word-requires : tie.Need-load-word-requires
 load-word-requires c κs = rw (c .area-size .ensures) (omega arith)
 
@@ -28,9 +22,6 @@ load-word-requires-2 c κs = rw (c .before .before .before .area-size .ensures) 
 
 read-stored-requires : tie.Need-read-stored-requires
 read-stored-requires c κs = rw (c .before .before .before .before .area-size .ensures) (omega arith)
-
-bad-release-requires : tie.Need-bad-release-requires
-bad-release-requires c κs = search needs
 
 returns-2 : tie.Need-returns-2
 unfolding badCard openList stepsOf
@@ -63,14 +54,5 @@ returns-4 c = rw (c .if1 .left)
 pub bad-card-spec : {M : Type 1} → statement M
 bad-card-spec =
     tie.close
-    (tie.spec
-    shared-slice-read-if1
-    area-size-requires
-    load-word-requires
-    returns
-    load-word-requires-2
-    read-stored-requires
-    bad-release-requires
-    returns-2
-    returns-3
-    returns-4)
+    (tie.spec (λ c. search needs) (λ c κs. search needs) load-word-requires returns load-word-requires-2
+    read-stored-requires (λ c κs. search needs) returns-2 returns-3 returns-4)

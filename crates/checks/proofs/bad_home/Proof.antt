@@ -11,15 +11,9 @@ returns : tie.Need-returns
 unfolding badHome
 returns c = simp (le-leb _ _ (c .if1 .taken))
 
-shared-slice-read-if2 : tie.Need-shared-slice-read-if2
-shared-slice-read-if2 c = search needs
-
 returns-2 : tie.Need-returns-2
 unfolding badHome
 returns-2 c = simp (lt-leb _ _ (c .before .before .if1 .left), c .if2 .taken)
-
-awaits-requires : tie.Need-awaits-requires
-awaits-requires c κs = search needs
 
 returns-3 : tie.Need-returns-3
 unfolding badHome
@@ -28,4 +22,5 @@ returns-3 c =
 
 pub bad-home-spec : {M : Type 1} → statement M
 bad-home-spec =
-    tie.close (tie.spec returns shared-slice-read-if2 returns-2 awaits-requires returns-3)
+    tie.close
+    (tie.spec returns (λ c. search needs) returns-2 (λ c κs. search needs) returns-3)

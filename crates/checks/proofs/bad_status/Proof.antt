@@ -5,21 +5,9 @@ use Rattle.protocol.specs.Checks.{badStatus}
 use Rattle.checks.proofs.bad_status.Statement.{statement}
 use Rattle.checks.proofs.bad_status.Tie as tie
 
-enum-told : tie.Need-enum-told
-enum-told c = search needs
-
-enum-known-status : tie.Need-enum-known-status
-enum-known-status c = search needs
-
 returns : tie.Need-returns
 unfolding badStatus
 returns c = rw (c .before .before .status .given .1) (simp (le-leb _ _ (c .if1 .taken)))
-
-cast-at : tie.Need-cast-at
-cast-at c = search needs
-
-shared-slice-read-result : tie.Need-shared-slice-read-result
-shared-slice-read-result c = search needs
 
 returns-2 : tie.Need-returns-2
 unfolding badStatus
@@ -32,11 +20,5 @@ returns-3 c = rw (c .before .before .before .status .given .1) (simp (lt-leb _ _
 pub bad-status-spec : {M : Type 1} → statement M
 bad-status-spec =
     tie.close
-    (tie.spec
-    enum-told
-    enum-known-status
-    returns
-    cast-at
-    shared-slice-read-result
-    returns-2
+    (tie.spec (λ c. search needs) (λ c. search needs) returns (λ c. search needs) (λ c. search needs) returns-2
     returns-3)

@@ -7,9 +7,6 @@ use Rattle.checks.proofs.Order.{refused-before, passed-before, last-pas
 use Rattle.checks.proofs.card.Statement.{statement}
 use Rattle.checks.proofs.card.Tie as tie
 
-running-requires : tie.Need-running-requires
-running-requires c κs = search needs
-
 returns : tie.Need-returns
 returns c =
     let a = c .before .before .before .args in
@@ -35,4 +32,5 @@ returns-3 c =
     )
 
 pub card-spec : {M : Type 1} → statement M
-card-spec = tie.close (tie.spec running-requires returns returns-2 returns-3)
+card-spec = tie.close
+    (tie.spec (λ c κs. search needs) returns returns-2 returns-3)

@@ -19,34 +19,16 @@ loop-holds : tie.Need-loop-holds Inv-loop μ-loop
 unfolding countBelow
 loop-holds c = (omega arith, refl)
 
-cast-at : tie.Need-cast-at Inv-loop μ-loop
-cast-at c = search needs
-
-shared-slice-read-if1 : tie.Need-shared-slice-read-if1 Inv-loop μ-loop
-shared-slice-read-if1 c = search needs
-
 add-count : tie.Need-add-count Inv-loop μ-loop
 add-count c =
     let turn = c .before .before .before in
     omega (arith, count-bound (liveAt (turn .before .args .live .now)) (turn .loop .card))
-
-add-card : tie.Need-add-card Inv-loop μ-loop
-add-card c = search needs
-
-loop-less : tie.Need-loop-less Inv-loop μ-loop
-loop-less c = search needs
 
 loop-again : tie.Need-loop-again Inv-loop μ-loop
 loop-again c =
     let turn = c .before .before .before in
     let more = count-more (liveAt (turn .before .args .live .now)) (turn .loop .card) in
     (omega arith, omega (arith, rw (c .if1 .taken) at more))
-
-add-card-2 : tie.Need-add-card-2 Inv-loop μ-loop
-add-card-2 c = search needs
-
-loop-less-2 : tie.Need-loop-less-2 Inv-loop μ-loop
-loop-less-2 c = search needs
 
 loop-again-2 : tie.Need-loop-again-2 Inv-loop μ-loop
 loop-again-2 c =
@@ -62,17 +44,5 @@ returns c =
 pub count-live-spec : {M : Type 1} → statement M
 count-live-spec =
     tie.close
-    (tie.spec
-    Inv-loop
-    μ-loop
-    loop-holds
-    cast-at
-    shared-slice-read-if1
-    add-count
-    add-card
-    loop-less
-    loop-again
-    add-card-2
-    loop-less-2
-    loop-again-2
-    returns)
+    (tie.spec Inv-loop μ-loop loop-holds (λ c. search needs) (λ c. search needs) add-count (λ c. search needs)
+    (λ c. search needs) loop-again (λ c. search needs) (λ c. search needs) loop-again-2 returns)

@@ -8,21 +8,9 @@ use Rattle.protocol.specs.Checks.{firstRefusal}
 use Rattle.checks.proofs.fitting.Statement.{statement}
 use Rattle.checks.proofs.fitting.Tie as tie
 
-outside-limits-requires : tie.Need-outside-limits-requires
-outside-limits-requires c κs = search needs
-
 returns : tie.Need-returns
 unfolding firstRefusal
 returns c = simp (sym (c .before .outside-limits .ensures) ∙ c .if1 .taken)
-
-slice-aggregate-unfit-rack : tie.Need-slice-aggregate-unfit-rack
-slice-aggregate-unfit-rack c = search needs
-
-slice-aggregate-unfit-rack-2 : tie.Need-slice-aggregate-unfit-rack-2
-slice-aggregate-unfit-rack-2 c = search needs
-
-slice-aggregate-unfit-rack-3 : tie.Need-slice-aggregate-unfit-rack-3
-slice-aggregate-unfit-rack-3 c = search needs
 
 unfit-rack-requires : tie.Need-unfit-rack-requires
 unfit-rack-requires c κs =
@@ -60,12 +48,5 @@ returns-3 c =
 pub fitting-spec : {M : Type 1} → statement M
 fitting-spec =
     tie.close
-    (tie.spec
-    outside-limits-requires
-    returns
-    slice-aggregate-unfit-rack
-    slice-aggregate-unfit-rack-2
-    slice-aggregate-unfit-rack-3
-    unfit-rack-requires
-    returns-2
-    returns-3)
+    (tie.spec (λ c κs. search needs) returns (λ c. search needs) (λ c. search needs) (λ c. search needs)
+    unfit-rack-requires returns-2 returns-3)

@@ -7,9 +7,6 @@ use Rattle.checks.proofs.Order.{past-cards, by-mark}
 use Rattle.checks.proofs.live_card.Statement.{statement}
 use Rattle.checks.proofs.live_card.Tie as tie
 
-running-requires : tie.Need-running-requires
-running-requires c κs = search needs
-
 returns : tie.Need-returns
 returns c =
     let start = c .before .before .before in
@@ -28,9 +25,6 @@ returns-2 c =
       passed-before _ _ checks refl (first .running .ensures) (test .if1 .left),
       first-refuses _ _ _ _ _ (past-cards (a .directory) _ (c .if2 .taken)),
     )
-
-is-live-requires : tie.Need-is-live-requires
-is-live-requires c κs = search needs
 
 returns-3 : tie.Need-returns-3
 returns-3 c =
@@ -62,4 +56,5 @@ returns-4 c =
 
 pub live-card-spec : {M : Type 1} → statement M
 live-card-spec =
-    tie.close (tie.spec running-requires returns returns-2 is-live-requires returns-3 returns-4)
+    tie.close
+    (tie.spec (λ c κs. search needs) returns returns-2 (λ c κs. search needs) returns-3 returns-4)

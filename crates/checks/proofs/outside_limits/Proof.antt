@@ -31,9 +31,6 @@ returns-4 c =
       lt-ltb _ _ (c .if4 .taken),
     )
 
-area-size-requires : tie.Need-area-size-requires
-area-size-requires c κs = search needs
-
 mul-stated : tie.Need-mul-stated
 mul-stated c =
     let few : c .before .before .before .before .before .args .cards ≤ 8 = omega arith in
@@ -54,4 +51,4 @@ returns-5 c =
 pub outside-limits-spec : {M : Type 1} → statement M
 outside-limits-spec =
     tie.close
-    (tie.spec returns returns-2 returns-3 returns-4 area-size-requires mul-stated returns-5)
+    (tie.spec returns returns-2 returns-3 returns-4 (λ c κs. search needs) mul-stated returns-5)

@@ -6,20 +6,11 @@ use Rattle.checks.proofs.Order.{refused-before, passed-before, last-pas
 use Rattle.checks.proofs.running.Statement.{statement}
 use Rattle.checks.proofs.running.Tie as tie
 
-fitting-requires : tie.Need-fitting-requires
-fitting-requires c κs = search needs
-
 returns : tie.Need-returns
 returns c =
     let a = c .before .before .before .args in
     let checks = fittingChecks (a .directory) (a .memory .now) in
     rw (refused-before _ _ checks refl (c .before .fitting .ensures) (c .if1 .taken))
-
-enum-told : tie.Need-enum-told
-enum-told c = search needs
-
-enum-told-2 : tie.Need-enum-told-2
-enum-told-2 c = search needs
 
 returns-2 : tie.Need-returns-2
 unfolding awaitsRecovery
@@ -43,4 +34,5 @@ returns-3 c =
 
 pub running-spec : {M : Type 1} → statement M
 running-spec =
-    tie.close (tie.spec fitting-requires returns enum-told enum-told-2 returns-2 returns-3)
+    tie.close
+    (tie.spec (λ c κs. search needs) returns (λ c. search needs) (λ c. search needs) returns-2 returns-3)

@@ -6,24 +6,15 @@ use Rattle.protocol.specs.Checks.{fewLive, unfitRack}
 use Rattle.checks.proofs.unfit_rack.Statement.{statement}
 use Rattle.checks.proofs.unfit_rack.Tie as tie
 
-count-live-requires : tie.Need-count-live-requires
-count-live-requires c κs = search needs
-
 returns : tie.Need-returns
 unfolding unfitRack fewLive
 returns c = rw (← c .before .count-live .ensures) (simp (lt-ltb _ _ (c .if1 .taken)))
-
-bad-pages-requires : tie.Need-bad-pages-requires
-bad-pages-requires c κs = search needs
 
 returns-2 : tie.Need-returns-2
 unfolding unfitRack fewLive
 returns-2 c =
     rw (← c .before .before .before .count-live .ensures)
     (simp (le-ltb _ _ (c .before .before .if1 .left), sym (c .before .bad-pages .ensures) ∙ c .if2 .taken))
-
-bad-status-requires : tie.Need-bad-status-requires
-bad-status-requires c κs = search needs
 
 returns-3 : tie.Need-returns-3
 unfolding unfitRack fewLive
@@ -34,9 +25,6 @@ returns-3 c =
       sym (c .before .before .before .bad-pages .ensures) ∙ c .before .before .if2 .left,
       sym (c .before .bad-status .ensures) ∙ c .if3 .taken,
     ))
-
-bad-cards-requires : tie.Need-bad-cards-requires
-bad-cards-requires c κs = search needs
 
 returns-4 : tie.Need-returns-4
 unfolding unfitRack fewLive
@@ -52,12 +40,5 @@ returns-4 c =
 pub unfit-rack-spec : {M : Type 1} → statement M
 unfit-rack-spec =
     tie.close
-    (tie.spec
-    count-live-requires
-    returns
-    bad-pages-requires
-    returns-2
-    bad-status-requires
-    returns-3
-    bad-cards-requires
-    returns-4)
+    (tie.spec (λ c κs. search needs) returns (λ c κs. search needs) returns-2 (λ c κs. search needs) returns-3
+    (λ c κs. search needs) returns-4)

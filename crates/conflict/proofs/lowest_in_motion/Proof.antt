@@ -1,21 +1,15 @@
--- Rests on the laws of a turn: the search from here on finds what the whole search finds.
-use Prim.Native.Nat.{_-_, _≤_}
-use mathlib.Core.Path.{_≡_, sym, _∙_}
-use native.Mathlib.Nat.{sub-zero}
-use native.Mathlib.Omega.{arith}
+-- Rests on `Passed`: the search from here on finds what the whole search finds.
+use Prim.Native.Nat.{_-_}
+use mathlib.Core.Path.{sym, _∙_}
 use borrow.Author.Needs.{needs}
-use Rattle.laws.specs.Search.{lowestFrom, lowest}
-use Rattle.laws.proofs.Search.{lowest-end, lowest-hit, lowest-skip}
+use Rattle.laws.proofs.Search.{Passed, passed-none, passed-more, lowest-found, lowest-none}
 use Rattle.memory.proofs.Index.{area-in}
 use Rattle.protocol.specs.Fetch.{inMotion}
 use Rattle.conflict.proofs.lowest_in_motion.Statement.{statement}
 use Rattle.conflict.proofs.lowest_in_motion.Tie as tie
 
 abbrev Inv-loop : tie.InvT-loop
-Inv-loop memory cards pages live page size card₀ card =
-    (card ≤ cards)
-    × (lowestFrom (inMotion live pages memory page) card (cards - card)
-    ≡ lowest (inMotion live pages memory page) cards)
+Inv-loop memory cards pages live page size card₀ card = Passed (inMotion live pages memory page) cards card
 
 abbrev μ-loop : tie.MeasureT-loop
 μ-loop memory cards pages live page size card₀ card = cards - card
@@ -24,7 +18,7 @@ area-size-requires : tie.Need-area-size-requires Inv-loop μ-loop
 area-size-requires c κs = search needs
 
 loop-holds : tie.Need-loop-holds Inv-loop μ-loop
-loop-holds c = (omega arith, rw sub-zero)
+loop-holds c = passed-none
 
 cast-in-motion : tie.Need-cast-in-motion Inv-loop μ-loop
 cast-in-motion c = search needs
@@ -39,7 +33,7 @@ returns : tie.Need-returns Inv-loop μ-loop
 returns c =
     let turn = c .before .before in
     let hit = sym (c .before .in-motion .ensures) ∙ c .if1 .taken in
-    sym (lowest-hit _ _ _ (turn .loop-test .taken) hit) ∙ turn .before .loop .inv .1
+    lowest-found (turn .before .loop .inv) (turn .loop-test .taken) hit
 
 add-card : tie.Need-add-card Inv-loop μ-loop
 add-card c = search needs
@@ -51,12 +45,10 @@ loop-again : tie.Need-loop-again Inv-loop μ-loop
 loop-again c =
     let turn = c .before .before in
     let miss = sym (c .before .in-motion .ensures) ∙ c .if1 .left in
-    (omega arith, lowest-skip _ _ _ (turn .loop-test .taken) miss ∙ turn .before .loop .inv .1)
+    passed-more (turn .before .loop .inv) (turn .loop-test .taken) miss
 
 returns-2 : tie.Need-returns-2 Inv-loop μ-loop
-returns-2 c =
-    let end : c .before .loop .card ≡ c .before .before .before .before .before .args .cards = omega arith in
-    sym end ∙ sym (lowest-end _ _ _ (c .loop-test .left)) ∙ c .before .loop .inv .1
+returns-2 c = lowest-none (c .before .loop .inv) (c .loop-test .left)
 
 pub lowest-in-motion-spec : {M : Type 1} → statement M
 lowest-in-motion-spec =

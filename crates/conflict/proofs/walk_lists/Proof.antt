@@ -1,12 +1,10 @@
--- Rests on the laws of a turn, over the cards and over a card's list: what is left finds what the whole finds.
-use Prim.Native.Nat.{_-_, _≤_}
+-- Rests on `Passed` over the cards, and over a card's list on the laws of a turn: what is left finds what all finds.
+use Prim.Native.Nat.{_-_}
 use mathlib.Core.Path.{_≡_, refl, sym, _∙_}
-use native.Mathlib.Nat.{sub-zero}
 use native.Mathlib.Omega.{arith}
 use borrow.Author.Needs.{needs}
 use lib.ListN.{length}
-use Rattle.laws.specs.Search.{lowestFrom, lowest}
-use Rattle.laws.proofs.Search.{lowest-end, lowest-hit, lowest-skip}
+use Rattle.laws.proofs.Search.{Passed, passed-none, passed-more, lowest-found, lowest-none}
 use Rattle.memory.proofs.Index.{area-in}
 use Rattle.diff.specs.Prices.{pricesOf}
 use Rattle.conflict.specs.Named.{anyMarked, marksWith}
@@ -25,9 +23,7 @@ abbrev μ-loop : tie.MeasureT-loop
 
 abbrev Inv-cards : tie.InvT-cards
 Inv-cards memory cards pages live card named size found₀ other₀ found other =
-    (other ≤ cards) × (found ≡ cards)
-    × (lowestFrom (marksWith live pages memory card named) other (cards - other)
-    ≡ lowest (marksWith live pages memory card named) cards)
+    Passed (marksWith live pages memory card named) cards other × (found ≡ cards)
 
 abbrev μ-cards : tie.MeasureT-cards
 μ-cards memory cards pages live card named size found₀ other₀ found other = cards - other
@@ -36,7 +32,7 @@ area-size-requires : tie.Need-area-size-requires Inv-loop μ-loop Inv-cards μ-c
 area-size-requires c κs = search needs
 
 cards-holds : tie.Need-cards-holds Inv-loop μ-loop Inv-cards μ-cards
-cards-holds c = (omega arith, refl, rw sub-zero)
+cards-holds c = (passed-none, refl)
 
 is-other-requires : tie.Need-is-other-requires Inv-loop μ-loop Inv-cards μ-cards
 is-other-requires c κs =
@@ -99,11 +95,9 @@ cards-again c =
     let size = turn .before .before .area-size .ensures in
     let other = lent .before .before .is-other .ensures in
     let list = marks-list _ _ _ size _ _ _ other (lent .before .if1 .taken) (lent .open-list .ensures .0) in
-    let miss = list ∙ sym (at .inv .2) ∙ any-end _ _ (at .at) (c .if2 .left) _ in (
-      omega arith,
-      at .inv .1 ∙ turn .before .cards .inv .1,
-      lowest-skip _ _ _ (turn .cards-test .taken) miss ∙ turn .before .cards .inv .2,
-    )
+    let miss = list ∙ sym (at .inv .2) ∙ any-end _ _ (at .at) (c .if2 .left) _ in
+    let far = turn .before .cards .inv in
+    (passed-more (far .0) (turn .cards-test .taken) miss, at .inv .1 ∙ far .1)
 
 add-other-2 : tie.Need-add-other-2 Inv-loop μ-loop Inv-cards μ-cards
 add-other-2 c = search needs
@@ -115,17 +109,11 @@ cards-again-2 : tie.Need-cards-again-2 Inv-loop μ-loop Inv-cards μ-cards
 cards-again-2 c =
     let turn = c .before .before in
     let size = turn .before .before .area-size .ensures in
-    let miss = marks-not _ _ _ size _ _ _ (c .before .is-other .ensures) (c .if1 .left) in (
-      omega arith,
-      turn .before .cards .inv .1,
-      lowest-skip _ _ _ (turn .cards-test .taken) miss ∙ turn .before .cards .inv .2,
-    )
+    let miss = marks-not _ _ _ size _ _ _ (c .before .is-other .ensures) (c .if1 .left) in
+    (passed-more (turn .before .cards .inv .0) (turn .cards-test .taken) miss, turn .before .cards .inv .1)
 
 returns : tie.Need-returns Inv-loop μ-loop Inv-cards μ-cards
-returns c =
-    let at = c .before .cards in
-    let end : at .other ≡ c .before .before .before .before .before .before .args .cards = omega arith in
-    at .inv .1 ∙ sym end ∙ sym (lowest-end _ _ _ (c .cards-test .left)) ∙ at .inv .2
+returns c = c .before .cards .inv .1 ∙ lowest-none (c .before .cards .inv .0) (c .cards-test .left)
 
 returns-2 : tie.Need-returns-2 Inv-loop μ-loop Inv-cards μ-cards
 returns-2 c =
@@ -137,7 +125,7 @@ returns-2 c =
     let list = marks-list _ _ _ size _ _ _ other (lent .before .if1 .taken) (lent .open-list .ensures .0) in
     let hit = sym (c .if3 .taken) ∙ c .before .hits .ensures in
     let some = any-turn _ _ (at .at) (c .before .before .if2 .taken) _ _ hit in
-    sym (lowest-hit _ _ _ (turn .cards-test .taken) (list ∙ sym (at .inv .2) ∙ some)) ∙ turn .before .cards .inv .2
+    lowest-found (turn .before .cards .inv .0) (turn .cards-test .taken) (list ∙ sym (at .inv .2) ∙ some)
 
 pub walk-lists-spec : {M : Type 1} → statement M
 walk-lists-spec =

@@ -6,27 +6,6 @@ use Rattle.memory.proofs.Runs.{length-zeros}
 use Rattle.memory.proofs.clear_run_in.Statement.{statement}
 use Rattle.memory.proofs.clear_run_in.Tie as tie
 
-add-end : tie.Need-add-end
-add-end c = search needs
-
-mul-zero-words : tie.Need-mul-zero-words
-mul-zero-words c = search needs
-
-sub-zero-words : tie.Need-sub-zero-words
-sub-zero-words c = search needs
-
-part-zero-words-start : tie.Need-part-zero-words-start
-part-zero-words-start c = search needs
-
-part-zero-words-end : tie.Need-part-zero-words-end
-part-zero-words-end c = search needs
-
-zero-words-requires : tie.Need-zero-words-requires
-zero-words-requires c κs = search needs
-
-same-length : tie.Need-same-length
-same-length c = search needs
-
 returns : tie.Need-returns
 returns c =
     let start = c .before .before .before .before .before in
@@ -38,12 +17,5 @@ returns c =
 pub clear-run-in-spec : {M : Type 1} → statement M
 clear-run-in-spec =
     tie.close
-    (tie.spec
-    add-end
-    mul-zero-words
-    sub-zero-words
-    part-zero-words-start
-    part-zero-words-end
-    zero-words-requires
-    same-length
-    returns)
+    (tie.spec (λ c. search needs) (λ c. search needs) (λ c. search needs) (λ c. search needs) (λ c. search needs)
+    (λ c κs. search needs) (λ c. search needs) returns)

@@ -7,30 +7,6 @@ use Rattle.memory.proofs.Parts.{copy-part}
 use Rattle.memory.proofs.copy_prices.Statement.{statement}
 use Rattle.memory.proofs.copy_prices.Tie as tie
 
-mul-area : tie.Need-mul-area
-mul-area c = search needs
-
-add-end : tie.Need-add-end
-add-end c = search needs
-
-mul-copy-prices-in : tie.Need-mul-copy-prices-in
-mul-copy-prices-in c = search needs
-
-sub-copy-prices-in : tie.Need-sub-copy-prices-in
-sub-copy-prices-in c = search needs
-
-part-copy-prices-in-start : tie.Need-part-copy-prices-in-start
-part-copy-prices-in-start c = search needs
-
-part-copy-prices-in-end : tie.Need-part-copy-prices-in-end
-part-copy-prices-in-end c = search needs
-
-copy-prices-in-requires : tie.Need-copy-prices-in-requires
-copy-prices-in-requires c κs = search needs
-
-same-length : tie.Need-same-length
-same-length c = search needs
-
 returns : tie.Need-returns
 unfolding copyRun loadRun storeRun
 returns c =
@@ -41,13 +17,5 @@ returns c =
 pub copy-prices-spec : {M : Type 1} → statement M
 copy-prices-spec =
     tie.close
-    (tie.spec
-    mul-area
-    add-end
-    mul-copy-prices-in
-    sub-copy-prices-in
-    part-copy-prices-in-start
-    part-copy-prices-in-end
-    copy-prices-in-requires
-    same-length
-    returns)
+    (tie.spec (λ c. search needs) (λ c. search needs) (λ c. search needs) (λ c. search needs) (λ c. search needs)
+    (λ c. search needs) (λ c κs. search needs) (λ c. search needs) returns)

@@ -6,27 +6,6 @@ use Rattle.memory.proofs.Parts.{sets-part}
 use Rattle.memory.proofs.store_price_in.Statement.{statement}
 use Rattle.memory.proofs.store_price_in.Tie as tie
 
-add-end : tie.Need-add-end
-add-end c = search needs
-
-mul-store-in-page : tie.Need-mul-store-in-page
-mul-store-in-page c = search needs
-
-sub-store-in-page : tie.Need-sub-store-in-page
-sub-store-in-page c = search needs
-
-part-store-in-page-start : tie.Need-part-store-in-page-start
-part-store-in-page-start c = search needs
-
-part-store-in-page-end : tie.Need-part-store-in-page-end
-part-store-in-page-end c = search needs
-
-store-in-page-requires : tie.Need-store-in-page-requires
-store-in-page-requires c κs = search needs
-
-same-length : tie.Need-same-length
-same-length c = search needs
-
 returns : tie.Need-returns
 returns c =
     let a = c .before .before .before .before .before .args in
@@ -36,12 +15,5 @@ returns c =
 pub store-price-in-spec : {M : Type 1} → statement M
 store-price-in-spec =
     tie.close
-    (tie.spec
-    add-end
-    mul-store-in-page
-    sub-store-in-page
-    part-store-in-page-start
-    part-store-in-page-end
-    store-in-page-requires
-    same-length
-    returns)
+    (tie.spec (λ c. search needs) (λ c. search needs) (λ c. search needs) (λ c. search needs) (λ c. search needs)
+    (λ c κs. search needs) (λ c. search needs) returns)

@@ -6,30 +6,6 @@ use Rattle.memory.proofs.Parts.{sets-part}
 use Rattle.memory.proofs.store_run.Statement.{statement}
 use Rattle.memory.proofs.store_run.Tie as tie
 
-mul-area : tie.Need-mul-area
-mul-area c = search needs
-
-add-end : tie.Need-add-end
-add-end c = search needs
-
-mul-store-run-in : tie.Need-mul-store-run-in
-mul-store-run-in c = search needs
-
-sub-store-run-in : tie.Need-sub-store-run-in
-sub-store-run-in c = search needs
-
-part-store-run-in-start : tie.Need-part-store-run-in-start
-part-store-run-in-start c = search needs
-
-part-store-run-in-end : tie.Need-part-store-run-in-end
-part-store-run-in-end c = search needs
-
-store-run-in-requires : tie.Need-store-run-in-requires
-store-run-in-requires c κs = search needs
-
-same-length : tie.Need-same-length
-same-length c = search needs
-
 returns : tie.Need-returns
 unfolding storeRun
 returns c =
@@ -41,13 +17,5 @@ returns c =
 pub store-run-spec : {M : Type 1} → statement M
 store-run-spec =
     tie.close
-    (tie.spec
-    mul-area
-    add-end
-    mul-store-run-in
-    sub-store-run-in
-    part-store-run-in-start
-    part-store-run-in-end
-    store-run-in-requires
-    same-length
-    returns)
+    (tie.spec (λ c. search needs) (λ c. search needs) (λ c. search needs) (λ c. search needs) (λ c. search needs)
+    (λ c. search needs) (λ c κs. search needs) (λ c. search needs) returns)

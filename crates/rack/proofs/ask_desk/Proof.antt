@@ -10,18 +10,6 @@ use Rattle.rack.proofs.Results.{desk-facts, desk-refused, desk-accepted
 use Rattle.rack.proofs.ask_desk.Statement.{statement}
 use Rattle.rack.proofs.ask_desk.Tie as tie
 
-desk-question-requires : tie.Need-desk-question-requires
-desk-question-requires c κs = search needs
-
-answer-of-requires : tie.Need-answer-of-requires
-answer-of-requires c κs = search needs
-
-slice-aggregate-load-desk : tie.Need-slice-aggregate-load-desk
-slice-aggregate-load-desk c = search needs
-
-slice-aggregate-load-desk-2 : tie.Need-slice-aggregate-load-desk-2
-slice-aggregate-load-desk-2 c = search needs
-
 load-desk-requires : tie.Need-load-desk-requires
 load-desk-requires c κs =
     let test = c .before .before .before in
@@ -66,11 +54,5 @@ returns-2 c =
 pub ask-desk-spec : {M : Type 1} → statement M
 ask-desk-spec =
     tie.close
-    (tie.spec
-    desk-question-requires
-    answer-of-requires
-    slice-aggregate-load-desk
-    slice-aggregate-load-desk-2
-    load-desk-requires
-    returns
-    returns-2)
+    (tie.spec (λ c κs. search needs) (λ c κs. search needs) (λ c. search needs) (λ c. search needs)
+    load-desk-requires returns returns-2)

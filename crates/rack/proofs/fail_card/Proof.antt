@@ -5,12 +5,6 @@ use Rattle.rack.proofs.Results.{failure-refused, failure-accepted}
 use Rattle.rack.proofs.fail_card.Statement.{statement}
 use Rattle.rack.proofs.fail_card.Tie as tie
 
-failure-requires : tie.Need-failure-requires
-failure-requires c κs = search needs
-
-answer-of-requires : tie.Need-answer-of-requires
-answer-of-requires c κs = search needs
-
 returns : tie.Need-returns
 returns c =
     let answered = c .before .before in
@@ -20,12 +14,6 @@ returns c =
     let d = a .directory in
     let m = a .memory .now in
     rw (failure-refused d m (a .card) (first .failure .ensures) (c .if1 .taken)) (answered .answer-of .ensures, refl)
-
-mark-dead-requires : tie.Need-mark-dead-requires
-mark-dead-requires c κs = search needs
-
-set-status-requires : tie.Need-set-status-requires
-set-status-requires c κs = search needs
 
 returns-2 : tie.Need-returns-2
 returns-2 c =
@@ -43,10 +31,5 @@ returns-2 c =
 pub fail-card-spec : {M : Type 1} → statement M
 fail-card-spec =
     tie.close
-    (tie.spec
-    failure-requires
-    answer-of-requires
-    returns
-    mark-dead-requires
-    set-status-requires
-    returns-2)
+    (tie.spec (λ c κs. search needs) (λ c κs. search needs) returns (λ c κs. search needs)
+    (λ c κs. search needs) returns-2)

@@ -9,12 +9,6 @@ use Rattle.rack.proofs.Results.{fetch-facts, fetch-refused, fetch-accep
 use Rattle.rack.proofs.fetch_page.Statement.{statement}
 use Rattle.rack.proofs.fetch_page.Tie as tie
 
-fetch-requires : tie.Need-fetch-requires
-fetch-requires c κs = search needs
-
-answer-of-requires : tie.Need-answer-of-requires
-answer-of-requires c κs = search needs
-
 returns : tie.Need-returns
 returns c =
     let answered = c .before .before in
@@ -36,9 +30,6 @@ area-size-requires c κs =
     let passed = fetch-facts d m (a .page) (a .buffer .now) (first .fetch .ensures) (c .if1 .left) in
     omega (arith, fitting (passed .runs .fits) .within .pages-most)
 
-mul-home : tie.Need-mul-home
-mul-home c = search needs
-
 array-read-home : tie.Need-array-read-home
 array-read-home c =
     let test = c .before .before in
@@ -50,18 +41,6 @@ array-read-home c =
     let passed = fetch-facts d m (a .page) (a .buffer .now) (first .fetch .ensures) (test .if1 .left) in
     let fit = fitting (passed .runs .fits) in
     search needs
-
-cast-home : tie.Need-cast-home
-cast-home c = search needs
-
-mul-start : tie.Need-mul-start
-mul-start c = search needs
-
-add-start : tie.Need-add-start
-add-start c = search needs
-
-add-start-2 : tie.Need-add-start-2
-add-start-2 c = search needs
 
 load-run-requires : tie.Need-load-run-requires
 load-run-requires c κs =
@@ -77,9 +56,6 @@ load-run-requires c κs =
     let primary = area-in _ (fit .primary-below (a .page) (passed .page-below)) (fit .within .whole) in
     let secondary = area-in _ (fit .secondary-below (a .page) (passed .page-below)) (fit .within .whole) in
     rw (sized .area-size .ensures) (omega arith, omega arith)
-
-same-length : tie.Need-same-length
-same-length c = search needs
 
 returns-2 : tie.Need-returns-2
 unfolding committedPage
@@ -101,17 +77,6 @@ returns-2 c =
 pub fetch-page-spec : {M : Type 1} → statement M
 fetch-page-spec =
     tie.close
-    (tie.spec
-    fetch-requires
-    answer-of-requires
-    returns
-    area-size-requires
-    mul-home
-    array-read-home
-    cast-home
-    mul-start
-    add-start
-    add-start-2
-    load-run-requires
-    same-length
-    returns-2)
+    (tie.spec (λ c κs. search needs) (λ c κs. search needs) returns area-size-requires (λ c. search needs)
+    array-read-home (λ c. search needs) (λ c. search needs) (λ c. search needs) (λ c. search needs)
+    load-run-requires (λ c. search needs) returns-2)

@@ -7,29 +7,17 @@ use Rattle.protocol.proofs.Limits.{within-limits}
 use Rattle.rack.proofs.format_rack.Statement.{statement}
 use Rattle.rack.proofs.format_rack.Tie as tie
 
-outside-limits-requires : tie.Need-outside-limits-requires
-outside-limits-requires c κs = search needs
-
-empty-requires : tie.Need-empty-requires
-empty-requires c κs = search needs
-
 returns : tie.Need-returns
 unfolding formatting firstRefusal
 returns c =
     let out = sym (c .before .before .outside-limits .ensures) ∙ c .before .if1 .taken in
     rw out (refl, (c .empty .ensures, refl))
 
-zero-words-requires : tie.Need-zero-words-requires
-zero-words-requires c κs = search needs
-
 formatted-requires : tie.Need-formatted-requires
 formatted-requires c κs =
     let test = c .before .before .before .before in
     let within = within-limits _ _ _ (sym (test .before .outside-limits .ensures) ∙ test .if1 .left) in
     search needs
-
-same-length : tie.Need-same-length
-same-length c = search needs
 
 returns-2 : tie.Need-returns-2
 unfolding formatting firstRefusal
@@ -41,11 +29,5 @@ returns-2 c =
 pub format-rack-spec : {M : Type 1} → statement M
 format-rack-spec =
     tie.close
-    (tie.spec
-    outside-limits-requires
-    empty-requires
-    returns
-    zero-words-requires
-    formatted-requires
-    same-length
-    returns-2)
+    (tie.spec (λ c κs. search needs) (λ c κs. search needs) returns (λ c κs. search needs) formatted-requires
+    (λ c. search needs) returns-2)

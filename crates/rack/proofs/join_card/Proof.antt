@@ -7,15 +7,6 @@ use Rattle.rack.proofs.Results.{join-facts, join-refused, join-accepted
 use Rattle.rack.proofs.join_card.Statement.{statement}
 use Rattle.rack.proofs.join_card.Tie as tie
 
-join-requires : tie.Need-join-requires
-join-requires c κs = search needs
-
-answer-of-requires : tie.Need-answer-of-requires
-answer-of-requires c κs = search needs
-
-same-length : tie.Need-same-length
-same-length c = search needs
-
 returns : tie.Need-returns
 returns c =
     let answered = c .before .before in
@@ -39,12 +30,6 @@ join-memory-requires c κs =
     let fit = fitting (passed .runs .fits) in
     (rack-in d m fit marks, (fit .two, (passed .below, passed .dead)))
 
-mark-live-requires : tie.Need-mark-live-requires
-mark-live-requires c κs = search needs
-
-same-length-2 : tie.Need-same-length-2
-same-length-2 c = search needs
-
 returns-2 : tie.Need-returns-2
 returns-2 c =
     let joining = c .before .before .before in
@@ -61,12 +46,5 @@ returns-2 c =
 pub join-card-spec : {M : Type 1} → statement M
 join-card-spec =
     tie.close
-    (tie.spec
-    join-requires
-    answer-of-requires
-    same-length
-    returns
-    join-memory-requires
-    mark-live-requires
-    same-length-2
-    returns-2)
+    (tie.spec (λ c κs. search needs) (λ c κs. search needs) (λ c. search needs) returns join-memory-requires
+    (λ c κs. search needs) (λ c. search needs) returns-2)

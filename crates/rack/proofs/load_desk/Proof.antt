@@ -7,20 +7,11 @@ use Rattle.protocol.specs.Release.{ownRelease}
 use Rattle.rack.proofs.load_desk.Statement.{statement}
 use Rattle.rack.proofs.load_desk.Tie as tie
 
-area-size-requires : tie.Need-area-size-requires
-area-size-requires c κs = search needs
-
-shared-slice-read-if1 : tie.Need-shared-slice-read-if1
-shared-slice-read-if1 c = search needs
-
 load-run-requires : tie.Need-load-run-requires
 load-run-requires c κs =
     let sized = c .before .before .before in
     let start = sized .before .before .before .before in
     rw (sized .area-size .ensures) (area-in _ (start .pre .1 .1 .0) (start .pre .0 .1), omega arith)
-
-same-length : tie.Need-same-length
-same-length c = search needs
 
 returns : tie.Need-returns
 unfolding deskOf ownRelease
@@ -31,21 +22,12 @@ returns c =
     let start = size .before .before .before .before in
     rw (test .if1 .taken, ← start .pre .1 .0 .2, ← size .area-size .ensures) (loaded .load-run .ensures)
 
-next-live-after-requires : tie.Need-next-live-after-requires
-next-live-after-requires c κs = search needs
-
-cast-holder : tie.Need-cast-holder
-cast-holder c = search needs
-
 load-record-requires : tie.Need-load-record-requires
 load-record-requires c κs =
     let sized = c .before .before .before .before in
     let start = sized .before .before .before .before in
     let below = rw (← c .before .next-live-after .ensures) at (start .pre .1 .1 .1) in
     rw (sized .area-size .ensures) ((omega arith, area-in _ below (start .pre .0 .1)), omega arith)
-
-same-length-2 : tie.Need-same-length-2
-same-length-2 c = search needs
 
 returns-2 : tie.Need-returns-2
 unfolding deskOf
@@ -60,14 +42,5 @@ returns-2 c =
 pub load-desk-spec : {M : Type 1} → statement M
 load-desk-spec =
     tie.close
-    (tie.spec
-    area-size-requires
-    shared-slice-read-if1
-    load-run-requires
-    same-length
-    returns
-    next-live-after-requires
-    cast-holder
-    load-record-requires
-    same-length-2
-    returns-2)
+    (tie.spec (λ c κs. search needs) (λ c. search needs) load-run-requires (λ c. search needs) returns
+    (λ c κs. search needs) (λ c. search needs) load-record-requires (λ c. search needs) returns-2)

@@ -10,15 +10,6 @@ use Rattle.rack.proofs.Results.{step-facts, step-refused, step-accepted
 use Rattle.rack.proofs.make_step.Statement.{statement}
 use Rattle.rack.proofs.make_step.Tie as tie
 
-step-requires : tie.Need-step-requires
-step-requires c κs = search needs
-
-answer-of-requires : tie.Need-answer-of-requires
-answer-of-requires c κs = search needs
-
-same-length : tie.Need-same-length
-same-length c = search needs
-
 returns : tie.Need-returns
 returns c =
     let answered = c .before .before in
@@ -28,21 +19,6 @@ returns c =
     let d = a .directory in
     let m = a .memory .now in
     rw (step-refused d m (a .card) (first .step .ensures) (c .if1 .taken)) (answered .answer-of .ensures, (refl, refl))
-
-backup-requires : tie.Need-backup-requires
-backup-requires c κs = search needs
-
-cast-backup : tie.Need-cast-backup
-cast-backup c = search needs
-
-slice-aggregate-step-release : tie.Need-slice-aggregate-step-release
-slice-aggregate-step-release c = search needs
-
-slice-aggregate-step-release-2 : tie.Need-slice-aggregate-step-release-2
-slice-aggregate-step-release-2 c = search needs
-
-slice-aggregate-step-release-3 : tie.Need-slice-aggregate-step-release-3
-slice-aggregate-step-release-3 c = search needs
 
 step-release-requires : tie.Need-step-release-requires
 step-release-requires c κs =
@@ -67,9 +43,6 @@ step-release-requires c κs =
     let homes = homes-in d m fit marks primaries secondaries in
     (homes, (own, (backup, fit .good (a .card) (passed .below) (passed .is-open))))
 
-same-length-2 : tie.Need-same-length-2
-same-length-2 c = search needs
-
 returns-2 : tie.Need-returns-2
 returns-2 c =
     let stepped = c .before .before in
@@ -88,16 +61,6 @@ returns-2 c =
 pub make-step-spec : {M : Type 1} → statement M
 make-step-spec =
     tie.close
-    (tie.spec
-    step-requires
-    answer-of-requires
-    same-length
-    returns
-    backup-requires
-    cast-backup
-    slice-aggregate-step-release
-    slice-aggregate-step-release-2
-    slice-aggregate-step-release-3
-    step-release-requires
-    same-length-2
-    returns-2)
+    (tie.spec (λ c κs. search needs) (λ c κs. search needs) (λ c. search needs) returns (λ c κs. search needs)
+    (λ c. search needs) (λ c. search needs) (λ c. search needs) (λ c. search needs) step-release-requires
+    (λ c. search needs) returns-2)

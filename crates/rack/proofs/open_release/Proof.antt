@@ -11,15 +11,6 @@ use Rattle.refusals.proofs.Passing.{allowed-few}
 use Rattle.rack.proofs.open_release.Statement.{statement}
 use Rattle.rack.proofs.open_release.Tie as tie
 
-opening-requires : tie.Need-opening-requires
-opening-requires c κs = search needs
-
-answer-of-requires : tie.Need-answer-of-requires
-answer-of-requires c κs = search needs
-
-same-length : tie.Need-same-length
-same-length c = search needs
-
 returns : tie.Need-returns
 returns c =
     let answered = c .before .before in
@@ -43,9 +34,6 @@ area-size-requires c κs =
     let passed = opening-facts d m (a .card) r (a .list .now) (first .opening .ensures) (c .if1 .left) in
     omega (arith, fitting (passed .runs .fits) .within .pages-most)
 
-slice-aggregate-open-release : tie.Need-slice-aggregate-open-release
-slice-aggregate-open-release c = search needs
-
 open-release-requires : tie.Need-open-release-requires
 open-release-requires c κs =
     let sized = c .before .before in
@@ -62,9 +50,6 @@ open-release-requires c κs =
     let good = start .good .1 .1 .1 .1 .0 in
     let eight : length (a .t5) ≡ 8 = search (good, needs) in
     rw (sized .area-size .ensures) (area, (omega arith, eight, few))
-
-same-length-2 : tie.Need-same-length-2
-same-length-2 c = search needs
 
 returns-2 : tie.Need-returns-2
 returns-2 c =
@@ -85,13 +70,5 @@ returns-2 c =
 pub open-release-spec : {M : Type 1} → statement M
 open-release-spec =
     tie.close
-    (tie.spec
-    opening-requires
-    answer-of-requires
-    same-length
-    returns
-    area-size-requires
-    slice-aggregate-open-release
-    open-release-requires
-    same-length-2
-    returns-2)
+    (tie.spec (λ c κs. search needs) (λ c κs. search needs) (λ c. search needs) returns area-size-requires
+    (λ c. search needs) open-release-requires (λ c. search needs) returns-2)

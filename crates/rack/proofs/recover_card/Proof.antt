@@ -10,12 +10,6 @@ use Rattle.rack.proofs.Results.{recovery-facts, recovery-refused, recov
 use Rattle.rack.proofs.recover_card.Statement.{statement}
 use Rattle.rack.proofs.recover_card.Tie as tie
 
-recovery-requires : tie.Need-recovery-requires
-recovery-requires c κs = search needs
-
-same-length : tie.Need-same-length
-same-length c = search needs
-
 returns : tie.Need-returns
 unfolding zeros
 returns c =
@@ -25,12 +19,6 @@ returns c =
     let m = a .memory .now in
     rw (recovery-refused d m (c .before .recovery .ensures) (c .if1 .taken), ne-eqb _ _ (c .if1 .taken))
     (refl, (refl, (refl, refl)))
-
-awaited-card-requires : tie.Need-awaited-card-requires
-awaited-card-requires c κs = search needs
-
-slice-aggregate-recover-memory : tie.Need-slice-aggregate-recover-memory
-slice-aggregate-recover-memory c = search needs
 
 recover-memory-requires : tie.Need-recover-memory-requires
 recover-memory-requires c κs =
@@ -63,12 +51,6 @@ recovered-directory-requires c κs =
     let passed = recovery-facts d m (first .recovery .ensures) (test .if1 .left) in
     fitting (passed .0) .within .pages-most
 
-cast-t19 : tie.Need-cast-t19
-cast-t19 c = search needs
-
-same-length-2 : tie.Need-same-length-2
-same-length-2 c = search needs
-
 returns-2 : tie.Need-returns-2
 returns-2 c =
     let recovering = c .before .before .before .before in
@@ -87,14 +69,5 @@ returns-2 c =
 pub recover-card-spec : {M : Type 1} → statement M
 recover-card-spec =
     tie.close
-    (tie.spec
-    recovery-requires
-    same-length
-    returns
-    awaited-card-requires
-    slice-aggregate-recover-memory
-    recover-memory-requires
-    recovered-directory-requires
-    cast-t19
-    same-length-2
-    returns-2)
+    (tie.spec (λ c κs. search needs) (λ c. search needs) returns (λ c κs. search needs) (λ c. search needs)
+    recover-memory-requires recovered-directory-requires (λ c. search needs) (λ c. search needs) returns-2)

@@ -1,6 +1,5 @@
--- `reader::nth_price` meets its contract. The loop's invariant: the price that is asked for is the one numbered `left`
--- of the
--- words that are left.
+-- `reader::nth_price` meets its contract. The loop's invariant: the price that is asked for is the one numbered
+-- `left` of the words that are left.
 use Prim.Native.Nat.{_≤_, _-_}
 use mathlib.Core.Path.{_≡_, sym, ap, _∙_}
 use lib.ListN.{length, drop}

@@ -1,6 +1,5 @@
 -- `reader::read` meets its contract. The loop's invariant: the words that are left, read from here, give the verdict
--- on the
--- whole list.
+-- on the whole list.
 use Prim.Native.Nat.{_≤_, _-_}
 use mathlib.Core.Path.{_≡_, sym, _∙_}
 use lib.ListN.{length, drop}

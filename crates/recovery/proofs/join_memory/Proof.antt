@@ -7,30 +7,6 @@ use borrow.Author.Needs.{needs}
 use Rattle.recovery.proofs.join_memory.Statement.{statement}
 use Rattle.recovery.proofs.join_memory.Tie as tie
 
-mark-live-requires : tie.Need-mark-live-requires
-mark-live-requires c κs = search needs
-
-slice-aggregate-reset-area : tie.Need-slice-aggregate-reset-area
-slice-aggregate-reset-area c = search needs
-
-reset-area-requires : tie.Need-reset-area-requires
-reset-area-requires c κs = search needs
-
-slice-aggregate-copy-dead-records : tie.Need-slice-aggregate-copy-dead-records
-slice-aggregate-copy-dead-records c = search needs
-
-copy-dead-records-requires : tie.Need-copy-dead-records-requires
-copy-dead-records-requires c κs = search needs
-
-slice-aggregate-write-own-records : tie.Need-slice-aggregate-write-own-records
-slice-aggregate-write-own-records c = search needs
-
-slice-aggregate-write-own-records-2 : tie.Need-slice-aggregate-write-own-records-2
-slice-aggregate-write-own-records-2 c = search needs
-
-slice-aggregate-write-own-records-3 : tie.Need-slice-aggregate-write-own-records-3
-slice-aggregate-write-own-records-3 c = search needs
-
 write-own-records-requires : tie.Need-write-own-records-requires
 write-own-records-requires c κs =
     let dead = c .before .before .before .before .before in
@@ -41,9 +17,6 @@ write-own-records-requires c κs =
     let a = start .args in
     let marked = covers-marked (a .directory .live) (a .joining) (omega arith) in
     (rack-kept (pre .0) (dead .memory2 .given ∙ reset .memory .given), rw (mark .mark-live .ensures) marked)
-
-same-length : tie.Need-same-length
-same-length c = search needs
 
 returns : tie.Need-returns
 returns c =
@@ -58,15 +31,6 @@ returns c =
 pub join-memory-spec : {M : Type 1} → statement M
 join-memory-spec =
     tie.close
-    (tie.spec
-    mark-live-requires
-    slice-aggregate-reset-area
-    reset-area-requires
-    slice-aggregate-copy-dead-records
-    copy-dead-records-requires
-    slice-aggregate-write-own-records
-    slice-aggregate-write-own-records-2
-    slice-aggregate-write-own-records-3
-    write-own-records-requires
-    same-length
-    returns)
+    (tie.spec (λ c κs. search needs) (λ c. search needs) (λ c κs. search needs) (λ c. search needs)
+    (λ c κs. search needs) (λ c. search needs) (λ c. search needs) (λ c. search needs) write-own-records-requires
+    (λ c. search needs) returns)

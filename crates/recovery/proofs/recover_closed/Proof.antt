@@ -4,20 +4,11 @@ use native.Mathlib.Omega.{arith}
 use Rattle.memory.proofs.Index.{area-in}
 use Rattle.recovery.specs.Rack.{rackOf}
 use Rattle.recovery.proofs.Kept.{rack-kept}
-use Rattle.recovery.proofs.Homes.{next-below}
+use Rattle.recovery.proofs.homes.Cards.{next-below}
 use Rattle.recovery.proofs.Recovering.{recover-parts}
 use borrow.Author.Needs.{needs}
 use Rattle.recovery.proofs.recover_closed.Statement.{statement}
 use Rattle.recovery.proofs.recover_closed.Tie as tie
-
-area-size-requires : tie.Need-area-size-requires
-area-size-requires c κs = search needs
-
-next-live-after-requires : tie.Need-next-live-after-requires
-next-live-after-requires c κs = search needs
-
-cast-holder : tie.Need-cast-holder
-cast-holder c = search needs
 
 load-record-requires : tie.Need-load-record-requires
 load-record-requires c κs =
@@ -37,9 +28,6 @@ under-way-requires c κs =
     rw (next .before .area-size .ensures, next .next-live-after .ensures)
     ((omega arith, area-in _ below (pre .0 .whole)), pre .1 .1 .1 .0)
 
-restore-copies-requires : tie.Need-restore-copies-requires
-restore-copies-requires c κs = search needs
-
 write-records-requires : tie.Need-write-records-requires
 write-records-requires c κs =
     let desk = c .before .before .before .before .before .before .before .before .before in
@@ -47,12 +35,6 @@ write-records-requires c κs =
     let pre = size .before .before .before .before .before .before .before .pre in
     let same = c .before .before .before .memory .given in
     (rack-kept (pre .0) same, (pre .1 .1 .1 .0, desk .desk .given ∙ pre .1 .1 .1 .1))
-
-same-length : tie.Need-same-length
-same-length c = search needs
-
-same-length-2 : tie.Need-same-length-2
-same-length-2 c = search needs
 
 returns : tie.Need-returns
 returns c =
@@ -65,11 +47,12 @@ returns c =
     let a = start .args in
     let d = rackOf (a .cards) (a .pages) (a .live .now) (a .primary .now) (a .secondary .now) in
     let told = rw (size .area-size .ensures, next .next-live-after .ensures) at (read .load-record .ensures) in
-    let forward = rw (size .area-size .ensures, next .next-live-after .ensures) at (way .under-way .ensures) in (
+    let forward = rw (size .area-size .ensures, next .next-live-after .ensures) at (way .under-way .ensures) in
+    let written = c .before .before .write-records .ensures in (
       told .0,
       (
         told .1,
-        (rw (copies .restore-copies .ensures, forward, told .0, told .1) at (c .before .before .write-records .ensures))
+        (rw (copies .restore-copies .ensures, forward, told .0, told .1) at written)
             ∙ recover-parts d (a .failed) (a .before .now) (a .memory .now),
       ),
     )
@@ -77,14 +60,5 @@ returns c =
 pub recover-closed-spec : {M : Type 1} → statement M
 recover-closed-spec =
     tie.close
-    (tie.spec
-    area-size-requires
-    next-live-after-requires
-    cast-holder
-    load-record-requires
-    under-way-requires
-    restore-copies-requires
-    write-records-requires
-    same-length
-    same-length-2
-    returns)
+    (tie.spec (λ c κs. search needs) (λ c κs. search needs) (λ c. search needs) load-record-requires
+    under-way-requires (λ c κs. search needs) write-records-requires (λ c. search needs) (λ c. search needs) returns)

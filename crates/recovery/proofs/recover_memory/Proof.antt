@@ -7,36 +7,12 @@ use borrow.Author.Needs.{needs}
 use Rattle.recovery.proofs.recover_memory.Statement.{statement}
 use Rattle.recovery.proofs.recover_memory.Tie as tie
 
-marks-before-requires : tie.Need-marks-before-requires
-marks-before-requires c κs = search needs
-
-close-releases-requires : tie.Need-close-releases-requires
-close-releases-requires c κs = search needs
-
-slice-aggregate-recover-closed : tie.Need-slice-aggregate-recover-closed
-slice-aggregate-recover-closed c = search needs
-
-slice-aggregate-recover-closed-2 : tie.Need-slice-aggregate-recover-closed-2
-slice-aggregate-recover-closed-2 c = search needs
-
-slice-aggregate-recover-closed-3 : tie.Need-slice-aggregate-recover-closed-3
-slice-aggregate-recover-closed-3 c = search needs
-
-slice-aggregate-recover-closed-4 : tie.Need-slice-aggregate-recover-closed-4
-slice-aggregate-recover-closed-4 c = search needs
-
 recover-closed-requires : tie.Need-recover-closed-requires
 recover-closed-requires c κs =
     let closed = c .before .before .before .before .before .before .before in
     let same = closed .memory .given in
     let pre = closed .before .before .before .before .before .before .before .before .before .pre in
     (rack-kept (pre .0) same, (homes-kept (pre .1 .0) same, (pre .1 .1 .0, pre .1 .1 .1 .0)))
-
-same-length : tie.Need-same-length
-same-length c = search needs
-
-same-length-2 : tie.Need-same-length-2
-same-length-2 c = search needs
 
 returns : tie.Need-returns
 unfolding failedRelease
@@ -57,14 +33,5 @@ returns c =
 pub recover-memory-spec : {M : Type 1} → statement M
 recover-memory-spec =
     tie.close
-    (tie.spec
-    marks-before-requires
-    close-releases-requires
-    slice-aggregate-recover-closed
-    slice-aggregate-recover-closed-2
-    slice-aggregate-recover-closed-3
-    slice-aggregate-recover-closed-4
-    recover-closed-requires
-    same-length
-    same-length-2
-    returns)
+    (tie.spec (λ c κs. search needs) (λ c κs. search needs) (λ c. search needs) (λ c. search needs)
+    (λ c. search needs) (λ c. search needs) recover-closed-requires (λ c. search needs) (λ c. search needs) returns)

@@ -10,49 +10,29 @@ use Rattle.recovery.proofs.recovered_directory.Statement.{statement}
 use Rattle.recovery.proofs.recovered_directory.Tie as tie
 
 abbrev Inv-loop : tie.InvT-loop
-Inv-loop directory failed moved₀ page₀ moved page =
+Inv-loop directory failed moved₀ page₀ page-end moved page =
     (page ≤ directory .pages) × (moved ≡ inTurn (moveHome directory failed) page directory)
 
 abbrev μ-loop : tie.MeasureT-loop
-μ-loop directory failed moved₀ page₀ moved page = directory .pages - page
+μ-loop directory failed moved₀ page₀ page-end moved page = directory .pages - page
 
 loop-holds : tie.Need-loop-holds Inv-loop μ-loop
 loop-holds c = (omega arith, sym (in-turn-none _ _))
 
-move-home-requires : tie.Need-move-home-requires Inv-loop μ-loop
-move-home-requires c κs = omega arith
-
-add-page : tie.Need-add-page Inv-loop μ-loop
-add-page c = omega arith
-
-loop-less : tie.Need-loop-less Inv-loop μ-loop
-loop-less c = omega arith
-
 loop-again : tie.Need-loop-again Inv-loop μ-loop
 loop-again c =
-    let inv = c .before .before .before .loop .inv in
+    let inv = c .before .before .loop .inv in
     (omega arith, c .move-home .ensures ∙ rw (in-turn-more, inv .1))
-
-set-status-requires : tie.Need-set-status-requires Inv-loop μ-loop
-set-status-requires c κs = search needs
 
 returns : tie.Need-returns Inv-loop μ-loop
 unfolding recoveredDirectory
 returns c =
-    let l = c .before .before .before .loop in
-    let end : l .page ≡ c .before .before .before .before .args .directory .pages = omega arith in
+    let l = c .before .before .loop in
+    let end : l .page ≡ c .before .before .before .args .directory .pages = omega arith in
     c .set-status .ensures ∙ rw (l .inv .1, end)
 
 pub recovered-directory-spec : {M : Type 1} → statement M
 recovered-directory-spec =
     tie.close
-    (tie.spec
-    Inv-loop
-    μ-loop
-    loop-holds
-    move-home-requires
-    add-page
-    loop-less
-    loop-again
-    set-status-requires
-    returns)
+    (tie.spec Inv-loop μ-loop loop-holds (λ c κs. omega arith) (λ c. omega arith) (λ c. omega arith) loop-again
+    (λ c κs. search needs) returns)

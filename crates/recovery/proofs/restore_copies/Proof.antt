@@ -4,17 +4,11 @@ use borrow.Author.Needs.{needs}
 use Rattle.recovery.proofs.restore_copies.Statement.{statement}
 use Rattle.recovery.proofs.restore_copies.Tie as tie
 
-restore-pages-requires : tie.Need-restore-pages-requires
-restore-pages-requires c κs = search needs
-
 copy-to-new-homes-requires : tie.Need-copy-to-new-homes-requires
 copy-to-new-homes-requires c κs =
     let same = c .before .before .memory .given in
     let pre = c .before .before .before .before .before .before .before .before .before .pre in
     (rack-kept (pre .0) same, (homes-kept (pre .1 .0) same, pre .1 .1))
-
-same-length : tie.Need-same-length
-same-length c = search needs
 
 returns : tie.Need-returns
 returns c =
@@ -23,4 +17,4 @@ returns c =
 
 pub restore-copies-spec : {M : Type 1} → statement M
 restore-copies-spec =
-    tie.close (tie.spec restore-pages-requires copy-to-new-homes-requires same-length returns)
+    tie.close (tie.spec (λ c κs. search needs) copy-to-new-homes-requires (λ c. search needs) returns)

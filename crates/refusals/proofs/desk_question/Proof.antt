@@ -6,12 +6,6 @@ use Rattle.checks.proofs.Order.{by-number}
 use Rattle.refusals.proofs.desk_question.Statement.{statement}
 use Rattle.refusals.proofs.desk_question.Tie as tie
 
-card-requires : tie.Need-card-requires
-card-requires c κs = search needs
-
-refused-requires : tie.Need-refused-requires
-refused-requires c κs = search needs
-
 returns : tie.Need-returns
 returns c =
     let a = c .before .before .before .args in
@@ -19,4 +13,5 @@ returns c =
     rw (by-number checks refl (c .before .card .ensures)) (c .refused .ensures)
 
 pub desk-question-spec : {M : Type 1} → statement M
-desk-question-spec = tie.close (tie.spec card-requires refused-requires returns)
+desk-question-spec = tie.close
+    (tie.spec (λ c κs. search needs) (λ c κs. search needs) returns)

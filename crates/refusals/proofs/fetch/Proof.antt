@@ -11,12 +11,6 @@ use Rattle.refusals.proofs.Passing.{running-within}
 use Rattle.refusals.proofs.fetch.Statement.{statement}
 use Rattle.refusals.proofs.fetch.Tie as tie
 
-running-requires : tie.Need-running-requires
-running-requires c κs = search needs
-
-refused-requires : tie.Need-refused-requires
-refused-requires c κs = search needs
-
 returns : tie.Need-returns
 returns c =
     let first = c .before .before in
@@ -24,9 +18,6 @@ returns c =
     let a = start .args in
     let checks = runningChecks (a .directory) (a .memory .now) in
     rw (refused-before _ _ checks refl (first .running .ensures) (c .before .if1 .taken)) (c .refused .ensures)
-
-refused-requires-2 : tie.Need-refused-requires-2
-refused-requires-2 c κs = search needs
 
 returns-2 : tie.Need-returns-2
 returns-2 c =
@@ -41,9 +32,6 @@ returns-2 c =
     )
     (c .refused2 .ensures)
 
-slice-aggregate-lowest-in-motion : tie.Need-slice-aggregate-lowest-in-motion
-slice-aggregate-lowest-in-motion c = search needs
-
 lowest-in-motion-requires : tie.Need-lowest-in-motion-requires
 lowest-in-motion-requires c κs =
     let test = c .before .before .before in
@@ -55,12 +43,6 @@ lowest-in-motion-requires c κs =
     let marks : length (d .live) ≡ 8 = length-unmapped _ (d .live) 8 (arrays .0 .1 .0 .1) in
     let within = running-within d (a .memory .now) (first .running .ensures) (test .if1 .left) in
     ((within .pages-most, within .whole), omega arith)
-
-cast-refused : tie.Need-cast-refused
-cast-refused c = search needs
-
-refused-requires-3 : tie.Need-refused-requires-3
-refused-requires-3 c κs = search needs
 
 returns-3 : tie.Need-returns-3
 returns-3 c =
@@ -78,9 +60,6 @@ returns-3 c =
       first-refuses _ _ _ _ _ (rw found at (lt-ltb _ _ (c .before .if3 .taken))),
     )
     (rw found at (c .refused3 .ensures))
-
-refused-requires-4 : tie.Need-refused-requires-4
-refused-requires-4 c κs = search needs
 
 returns-4 : tie.Need-returns-4
 returns-4 c =
@@ -100,9 +79,6 @@ returns-4 c =
       first-refuses _ _ _ _ _ (ap not (ne-eqb _ _ (c .before .if4 .taken))),
     )
     (c .refused4 .ensures)
-
-refused-requires-5 : tie.Need-refused-requires-5
-refused-requires-5 c κs = search needs
 
 returns-5 : tie.Need-returns-5
 returns-5 c =
@@ -126,18 +102,6 @@ returns-5 c =
 pub fetch-spec : {M : Type 1} → statement M
 fetch-spec =
     tie.close
-    (tie.spec
-    running-requires
-    refused-requires
-    returns
-    refused-requires-2
-    returns-2
-    slice-aggregate-lowest-in-motion
-    lowest-in-motion-requires
-    cast-refused
-    refused-requires-3
-    returns-3
-    refused-requires-4
-    returns-4
-    refused-requires-5
-    returns-5)
+    (tie.spec (λ c κs. search needs) (λ c κs. search needs) returns (λ c κs. search needs) returns-2
+    (λ c. search needs) lowest-in-motion-requires (λ c. search needs) (λ c κs. search needs) returns-3
+    (λ c κs. search needs) returns-4 (λ c κs. search needs) returns-5)

@@ -8,12 +8,6 @@ use Rattle.refusals.proofs.Passing.{allowed-few}
 use Rattle.refusals.proofs.list_refusal.Statement.{statement}
 use Rattle.refusals.proofs.list_refusal.Tie as tie
 
-check-list-requires : tie.Need-check-list-requires
-check-list-requires c κs = search needs
-
-refused-requires : tie.Need-refused-requires
-refused-requires c κs = search needs
-
 returns : tie.Need-returns
 returns c =
     let faulty = c .before in
@@ -27,12 +21,6 @@ lowest-sharing-requires c κs =
     let few = allowed-few (a .pages) (a .list .now) (rw (← read) (omega arith)) in
     search needs
 
-cast-refused : tie.Need-cast-refused
-cast-refused c = search needs
-
-refused-requires-2 : tie.Need-refused-requires-2
-refused-requires-2 c κs = search needs
-
 returns-2 : tie.Need-returns-2
 returns-2 c =
     let shared = c .before in
@@ -42,9 +30,6 @@ returns-2 c =
     (rw found at (c .refused2 .ensures))
     ∙ sym (first-passes _ _ _ _ _ (rw read at (le-ltb _ _ (faulty .if1 .left)))
     ∙ first-refuses _ _ _ _ _ (rw found at (lt-ltb _ _ (shared .if2 .taken))))
-
-refused-requires-3 : tie.Need-refused-requires-3
-refused-requires-3 c κs = search needs
 
 returns-3 : tie.Need-returns-3
 returns-3 c =
@@ -59,13 +44,5 @@ returns-3 c =
 pub list-refusal-spec : {M : Type 1} → statement M
 list-refusal-spec =
     tie.close
-    (tie.spec
-    check-list-requires
-    refused-requires
-    returns
-    lowest-sharing-requires
-    cast-refused
-    refused-requires-2
-    returns-2
-    refused-requires-3
-    returns-3)
+    (tie.spec (λ c κs. search needs) (λ c κs. search needs) returns lowest-sharing-requires (λ c. search needs)
+    (λ c κs. search needs) returns-2 (λ c κs. search needs) returns-3)

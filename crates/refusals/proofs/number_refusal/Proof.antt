@@ -9,17 +9,11 @@ use Rattle.checks.proofs.Order.{first-refuses, first-passes}
 use Rattle.refusals.proofs.number_refusal.Statement.{statement}
 use Rattle.refusals.proofs.number_refusal.Tie as tie
 
-area-size-requires : tie.Need-area-size-requires
-area-size-requires c κs = search needs
-
 is-open-requires : tie.Need-is-open-requires
 is-open-requires c κs =
     let start = c .before .before .before .before in
     let area = area-in _ (start .pre .1 .1) (start .pre .0 .1) in
     rw (c .area-size .ensures) ((omega arith, area), omega arith)
-
-refused-requires : tie.Need-refused-requires
-refused-requires c κs = search needs
 
 returns : tie.Need-returns
 returns c =
@@ -33,12 +27,6 @@ load-word-requires c κs =
     let start = c .before .before .before .before .before .before in
     rw (c .before .before .area-size .ensures) (area-in _ (start .pre .1 .1) (start .pre .0 .1), omega arith)
 
-cast-refused : tie.Need-cast-refused
-cast-refused c = search needs
-
-refused-requires-2 : tie.Need-refused-requires-2
-refused-requires-2 c κs = search needs
-
 returns-2 : tie.Need-returns-2
 unfolding ownRelease
 returns-2 c =
@@ -50,12 +38,6 @@ returns-2 c =
     (rw stamp at (c .refused2 .ensures))
     ∙ sym (first-passes _ _ _ _ _ opened
     ∙ first-refuses _ _ _ _ _ (rw stamp at (le-leb _ _ (used .if2 .taken))))
-
-add-if3 : tie.Need-add-if3
-add-if3 c = omega arith
-
-refused-requires-3 : tie.Need-refused-requires-3
-refused-requires-3 c κs = search needs
 
 returns-3 : tie.Need-returns-3
 unfolding ownRelease
@@ -69,9 +51,6 @@ returns-3 c =
     ∙ sym (first-passes _ _ _ _ _ opened
     ∙ first-passes _ _ _ _ _ (rw stamp at (lt-leb _ _ (used .if2 .left)))
     ∙ first-refuses _ _ _ _ _ (rw stamp at (lt-ltb _ _ (c .before .if3 .taken))))
-
-list-refusal-requires : tie.Need-list-refusal-requires
-list-refusal-requires c κs = search needs
 
 returns-4 : tie.Need-returns-4
 unfolding ownRelease
@@ -89,17 +68,6 @@ returns-4 c =
 pub number-refusal-spec : {M : Type 1} → statement M
 number-refusal-spec =
     tie.close
-    (tie.spec
-    area-size-requires
-    is-open-requires
-    refused-requires
-    returns
-    load-word-requires
-    cast-refused
-    refused-requires-2
-    returns-2
-    add-if3
-    refused-requires-3
-    returns-3
-    list-refusal-requires
-    returns-4)
+    (tie.spec (λ c κs. search needs) is-open-requires (λ c κs. search needs) returns load-word-requires
+    (λ c. search needs) (λ c κs. search needs) returns-2 (λ c. omega arith) (λ c κs. search needs) returns-3
+    (λ c κs. search needs) returns-4)

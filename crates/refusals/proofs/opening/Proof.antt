@@ -9,12 +9,6 @@ use Rattle.refusals.proofs.Passing.{live-card-within}
 use Rattle.refusals.proofs.opening.Statement.{statement}
 use Rattle.refusals.proofs.opening.Tie as tie
 
-live-card-requires : tie.Need-live-card-requires
-live-card-requires c κs = search needs
-
-refused-requires : tie.Need-refused-requires
-refused-requires c κs = search needs
-
 returns : tie.Need-returns
 returns c =
     let first = c .before .before in
@@ -22,9 +16,6 @@ returns c =
     let a = start .args in
     let checks = liveCardChecks (a .directory) (a .memory .now) (a .card) in
     rw (refused-before _ _ checks refl (first .live-card .ensures) (c .before .if1 .taken)) (c .refused .ensures)
-
-slice-aggregate-number-refusal : tie.Need-slice-aggregate-number-refusal
-slice-aggregate-number-refusal c = search needs
 
 number-refusal-requires : tie.Need-number-refusal-requires
 number-refusal-requires c κs =
@@ -51,10 +42,5 @@ returns-2 c =
 pub opening-spec : {M : Type 1} → statement M
 opening-spec =
     tie.close
-    (tie.spec
-    live-card-requires
-    refused-requires
-    returns
-    slice-aggregate-number-refusal
-    number-refusal-requires
+    (tie.spec (λ c κs. search needs) (λ c κs. search needs) returns (λ c. search needs) number-refusal-requires
     returns-2)

@@ -11,12 +11,6 @@ use Rattle.refusals.proofs.Passing.{live-card-within}
 use Rattle.refusals.proofs.step.Statement.{statement}
 use Rattle.refusals.proofs.step.Tie as tie
 
-live-card-requires : tie.Need-live-card-requires
-live-card-requires c κs = search needs
-
-refused-requires : tie.Need-refused-requires
-refused-requires c κs = search needs
-
 returns : tie.Need-returns
 returns c =
     let first = c .before .before in
@@ -34,9 +28,6 @@ area-size-requires c κs =
     let card = live-card-within d (a .memory .now) (a .card) (first .live-card .ensures) (c .before .if1 .left) in
     omega (arith, card .0 .pages-most)
 
-slice-aggregate-is-open : tie.Need-slice-aggregate-is-open
-slice-aggregate-is-open c = search needs
-
 is-open-requires : tie.Need-is-open-requires
 is-open-requires c κs =
     let test = c .before .before .before in
@@ -49,9 +40,6 @@ is-open-requires c κs =
     let card = live-card-within d (a .memory .now) (a .card) (first .live-card .ensures) (test .if1 .left) in
     let within = card .0 in
     rw (c .before .area-size .ensures) ((omega arith, area-in _ (card .1) (within .whole)), omega (arith, card .1))
-
-refused-requires-2 : tie.Need-refused-requires-2
-refused-requires-2 c κs = search needs
 
 returns-2 : tie.Need-returns-2
 returns-2 c =
@@ -68,9 +56,6 @@ returns-2 c =
       last-passes _ _ _ _ (ap not opened),
     )
     (c .refused2 .ensures)
-
-refused-requires-3 : tie.Need-refused-requires-3
-refused-requires-3 c κs = search needs
 
 returns-3 : tie.Need-returns-3
 returns-3 c =
@@ -91,14 +76,5 @@ returns-3 c =
 pub step-spec : {M : Type 1} → statement M
 step-spec =
     tie.close
-    (tie.spec
-    live-card-requires
-    refused-requires
-    returns
-    area-size-requires
-    slice-aggregate-is-open
-    is-open-requires
-    refused-requires-2
-    returns-2
-    refused-requires-3
-    returns-3)
+    (tie.spec (λ c κs. search needs) (λ c κs. search needs) returns area-size-requires (λ c. search needs)
+    is-open-requires (λ c κs. search needs) returns-2 (λ c κs. search needs) returns-3)

@@ -1,0 +1,3 @@
+-- Laws on releases run to their close.
+pub mod Steps
+pub mod Releases

@@ -1,0 +1,50 @@
+-- Rests on `StepsMade`: what is left of the steps gives what all of them give.
+use native.Mathlib.Omega.{arith}
+use borrow.Author.Needs.{needs}
+use Rattle.release.specs.Stepping.{homesOf}
+use Rattle.recovery.proofs.Kept.{homes-kept, card-kept}
+use Rattle.recovery.proofs.closing.Releases.{StepsMade, good-left, steps-none, steps-one, steps-all}
+use Rattle.recovery.proofs.closing.make_steps.Statement.{statement}
+use Rattle.recovery.proofs.closing.make_steps.Tie as tie
+
+abbrev Inv-loop : tie.InvT-loop
+Inv-loop memory₀ pages live primary secondary backup card steps left₀ memory left =
+    StepsMade (homesOf pages live primary secondary) backup card memory₀ steps memory left
+
+abbrev μ-loop : tie.MeasureT-loop
+μ-loop memory₀ pages live primary secondary backup card steps left₀ memory left = left
+
+loop-holds : tie.Need-loop-holds Inv-loop μ-loop
+loop-holds c = steps-none (c .before .before .before .before .pre .1 .1 .1)
+
+step-release-requires : tie.Need-step-release-requires Inv-loop μ-loop
+step-release-requires c κs =
+    let far = c .before .before .loop .inv in
+    let same = far .same in
+    let pre = c .before .before .before .before .before .before .before .pre in (
+      homes-kept (pre .0) same,
+      (
+        card-kept (pre .1 .0) same,
+        (
+          card-kept (pre .1 .1 .0) same,
+          good-left (far .some (c .before .loop-test .taken)) (c .before .loop-test .taken),
+        ),
+      ),
+    )
+
+loop-again : tie.Need-loop-again Inv-loop μ-loop
+loop-again c =
+    let made = c .before .before in
+    let turn = made .before .before in
+    let card = turn .before .before .before .before .before .before .pre .1 .0 in
+    steps-one (card .eight) (card .area) (turn .before .loop .inv) (turn .loop-test .taken) (c .before .memory .given)
+    (made .step-release .ensures)
+
+returns : tie.Need-returns Inv-loop μ-loop
+returns c = steps-all (c .before .loop .inv) (c .loop-test .left)
+
+pub make-steps-spec : {M : Type 1} → statement M
+make-steps-spec =
+    tie.close
+    (tie.spec Inv-loop μ-loop loop-holds step-release-requires (λ c. omega arith) (λ c. omega arith) loop-again
+    (λ c. search needs) returns)

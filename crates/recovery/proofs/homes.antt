@@ -1,0 +1,2 @@
+-- Laws on the homes of a page.
+pub mod Cards

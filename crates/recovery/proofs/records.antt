@@ -1,0 +1,2 @@
+-- Laws on the stores that make a record.
+pub mod Stores

@@ -1,0 +1,76 @@
+// The area of a card that joins: its own stamp and desk, and the records of the other dead cards.
+ghost use mathlib.Core.Path.{_≡_};
+ghost use mathlib.Core.Bool.{false};
+ghost use Prim.Native.Nat.{_<_};
+ghost use lib.ListN.{length};
+ghost use Rattle.laws.specs.Search.{inTurn};
+ghost use Rattle.directory.specs.Live.{liveAt};
+ghost use Rattle.protocol.specs.Join.{resetArea, copyDeadRecord};
+ghost use Rattle.recovery.specs.Rack.{RackIn, TwoLive, marksOf};
+use crate::records;
+
+// Zeroes a dead card's area and gives it stamp and desk from its record.
+pub(crate) fn reset_area(memory: &mut [u32], cards: u32, pages: u32, live: &[bool], card: u32)
+    requires { ⌜ RackIn (now live) cards pages (length (now memory)) ⌝ }
+    requires { ⌜ TwoLive (now live) cards ⌝ }
+    requires { ⌜ card < cards ⌝ }
+    ensures { λ _. ⌜ now (memory .exit)
+        ≡ resetArea (marksOf cards pages (now (live .entry))) card (now (memory .entry)) ⌝ }
+{
+    let size = memory::area_size(pages);
+    let at = card as usize;
+    let holder = directory::next_live_after(live, cards, card) as usize;
+    let mut desk = [0u32; 8];
+    let number = records::load_record(memory, size, holder, at, &mut desk);
+    memory::clear_run(memory, size, at, 0, size);
+    memory::store_word(memory, size, at, memory::OWN_STAMP, number);
+    memory::store_run(memory, size, at, memory::OWN_DESK, &desk);
+}
+
+// Copies the record of another dead card to the card that joins.
+fn copy_dead_record(
+    memory: &mut [u32],
+    cards: u32,
+    pages: u32,
+    live: &[bool],
+    joining: u32,
+    card: u32,
+)
+    requires { ⌜ RackIn (now live) cards pages (length (now memory)) ⌝ }
+    requires { ⌜ TwoLive (now live) cards ⌝ }
+    requires { ⌜ (joining < cards) × (liveAt (now live) joining ≡ false) × (card < cards) ⌝ }
+    ensures { λ _. ⌜ now (memory .exit)
+        ≡ copyDeadRecord (marksOf cards pages (now (live .entry))) joining card
+        (now (memory .entry)) ⌝ }
+{
+    if live[card as usize] {
+        return;
+    }
+    if card == joining {
+        return;
+    }
+    let holder = directory::next_live_after(live, cards, card) as usize;
+    let record = memory::RECORDS_START + memory::RECORD_SIZE * card as usize;
+    let size = memory::area_size(pages);
+    memory::copy_run(memory, size, holder, joining as usize, record, 18);
+}
+
+// Copies the records of all other dead cards.
+pub(crate) fn copy_dead_records(
+    memory: &mut [u32],
+    cards: u32,
+    pages: u32,
+    live: &[bool],
+    joining: u32,
+)
+    requires { ⌜ RackIn (now live) cards pages (length (now memory)) ⌝ }
+    requires { ⌜ TwoLive (now live) cards ⌝ }
+    requires { ⌜ (joining < cards) × (liveAt (now live) joining ≡ false) ⌝ }
+    ensures { λ _. ⌜ now (memory .exit)
+        ≡ inTurn (copyDeadRecord (marksOf cards pages (now (live .entry))) joining) cards
+        (now (memory .entry)) ⌝ }
+{
+    for card in 0..cards {
+        copy_dead_record(memory, cards, pages, live, joining, card);
+    }
+}
