@@ -3,7 +3,10 @@ use native.Mathlib.Omega.{arith}
 use Rattle.conflict.proofs.label_due.Statement.{statement}
 use Rattle.conflict.proofs.label_due.Tie as tie
 
+returns : tie.Need-returns
+returns c = omega arith
+
 pub label-due-spec : {M : Type 1} → statement M
 label-due-spec =
     tie.close
-    (tie.spec (λ c. omega arith) (λ c. omega arith) (λ c. omega arith) (λ c. omega arith) (λ c. omega arith))
+    (tie.spec (λ c. omega arith) (λ c. omega arith) (λ c. omega arith) (λ c. omega arith) returns)

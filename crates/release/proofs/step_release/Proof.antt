@@ -22,6 +22,9 @@ make-step-requires c κs =
     in
     (start .pre .0, (start .pre .1 .0, (start .pre .1 .1 .0, counted)))
 
+returns : tie.Need-returns
+returns c = search needs
+
 returns-2 : tie.Need-returns-2
 returns-2 c =
     let read = c .before .before in
@@ -36,4 +39,4 @@ pub step-release-spec : {M : Type 1} → statement M
 step-release-spec =
     tie.close
     (tie.spec (λ c κs. search needs) read-stored-requires (λ c. search needs) make-step-requires (λ c. search needs)
-    (λ c. search needs) (λ c. search needs) (λ c. search needs) returns-2)
+    (λ c. search needs) returns (λ c. search needs) returns-2)

@@ -5,6 +5,9 @@ use Rattle.directory.proofs.Changes.{moved-past-end}
 use Rattle.directory.proofs.Directory.move_home.Statement.{statement}
 use Rattle.directory.proofs.Directory.move_home.Tie as tie
 
+returns : tie.Need-returns
+returns c = search needs
+
 returns-2 : tie.Need-returns-2
 returns-2 c =
     let a = c .before .args in
@@ -13,5 +16,4 @@ returns-2 c =
 pub move-home-spec : {M : Type 1} → statement M
 move-home-spec =
     tie.close
-    (tie.spec (λ c. search needs) (λ c. search needs) (λ c. search needs) (λ c. search needs) (λ c. search needs)
-    returns-2)
+    (tie.spec (λ c. search needs) (λ c. search needs) (λ c. search needs) (λ c. search needs) returns returns-2)
