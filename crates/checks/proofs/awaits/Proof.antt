@@ -3,10 +3,13 @@ use borrow.Author.Needs.{needs}
 use Rattle.checks.proofs.awaits.Statement.{statement}
 use Rattle.checks.proofs.awaits.Tie as tie
 
+returns : tie.Need-returns
+returns c = search needs
+
 returns-2 : tie.Need-returns-2
 returns-2 c = rw (c .before .status .given .1)
 
 pub awaits-spec : {M : Type 1} → statement M
 awaits-spec =
     tie.close
-    (tie.spec (λ c. search needs) (λ c. search needs) (λ c. search needs) returns-2)
+    (tie.spec (λ c. search needs) (λ c. search needs) returns returns-2)

@@ -3,11 +3,10 @@ use borrow.Author.Needs.{needs}
 use Rattle.conflict.proofs.first_word.Statement.{statement}
 use Rattle.conflict.proofs.first_word.Tie as tie
 
-cursor-requires : tie.Need-cursor-requires
-cursor-requires c κs = search needs
-
 returns : tie.Need-returns
 returns c = rw (c .cursor .ensures)
 
 pub first-word-spec : {M : Type 1} → statement M
-first-word-spec = tie.close (tie.spec cursor-requires returns)
+first-word-spec =
+    tie.close
+    (tie.spec (λ c κs. search needs) returns)

@@ -4,12 +4,6 @@ use borrow.Author.Tests.{le-ltb, lt-ltb}
 use Rattle.conflict.proofs.hits.Statement.{statement}
 use Rattle.conflict.proofs.hits.Tie as tie
 
-label-due-requires : tie.Need-label-due-requires
-label-due-requires c κs = search needs
-
-shared-slice-read-result : tie.Need-shared-slice-read-result
-shared-slice-read-result c = search needs
-
 returns : tie.Need-returns
 returns c = simp (lt-ltb _ _ (c .before .before .if1 .taken), c .before .label-due .ensures)
 
@@ -17,4 +11,6 @@ returns-2 : tie.Need-returns-2
 returns-2 c = simp (le-ltb _ _ (c .if1 .left))
 
 pub hits-spec : {M : Type 1} → statement M
-hits-spec = tie.close (tie.spec label-due-requires shared-slice-read-result returns returns-2)
+hits-spec =
+    tie.close
+    (tie.spec (λ c κs. search needs) (λ c. search needs) returns returns-2)

@@ -9,30 +9,6 @@ use Rattle.conflict.proofs.Turns.{motion-not, motion-list}
 use Rattle.conflict.proofs.in_motion.Statement.{statement}
 use Rattle.conflict.proofs.in_motion.Tie as tie
 
-is-open-requires : tie.Need-is-open-requires
-is-open-requires c κs = search needs
-
-open-list-requires : tie.Need-open-list-requires
-open-list-requires c κs = search needs
-
-tally-prices-requires : tie.Need-tally-prices-requires
-tally-prices-requires c κs = search needs
-
-load-word-requires : tie.Need-load-word-requires
-load-word-requires c κs = search needs
-
-cast-if2 : tie.Need-cast-if2
-cast-if2 c = search needs
-
-mul-if2 : tie.Need-mul-if2
-mul-if2 c = search needs
-
-add-if2 : tie.Need-add-if2
-add-if2 c = search needs
-
-cast-if2-2 : tie.Need-cast-if2-2
-cast-if2-2 c = search needs
-
 returns : tie.Need-returns
 unfolding stepsOf
 returns c =
@@ -73,15 +49,5 @@ returns-3 c =
 pub in-motion-spec : {M : Type 1} → statement M
 in-motion-spec =
     tie.close
-    (tie.spec
-    is-open-requires
-    open-list-requires
-    tally-prices-requires
-    load-word-requires
-    cast-if2
-    mul-if2
-    add-if2
-    cast-if2-2
-    returns
-    returns-2
-    returns-3)
+    (tie.spec (λ c κs. search needs) (λ c κs. search needs) (λ c κs. search needs) (λ c κs. search needs)
+    (λ c. search needs) (λ c. search needs) (λ c. search needs) (λ c. search needs) returns returns-2 returns-3)

@@ -4,12 +4,6 @@ use Rattle.protocol.specs.Release.{isOpen}
 use Rattle.conflict.proofs.is_open.Statement.{statement}
 use Rattle.conflict.proofs.is_open.Tie as tie
 
-shared-slice-read-if1 : tie.Need-shared-slice-read-if1
-shared-slice-read-if1 c = search needs
-
-load-word-requires : tie.Need-load-word-requires
-load-word-requires c κs = search needs
-
 returns : tie.Need-returns
 unfolding isOpen
 returns c = simp (c .load-word .ensures, c .before .if1 .taken)
@@ -19,4 +13,6 @@ unfolding isOpen
 returns-2 c = simp (c .if1 .left)
 
 pub is-open-spec : {M : Type 1} → statement M
-is-open-spec = tie.close (tie.spec shared-slice-read-if1 load-word-requires returns returns-2)
+is-open-spec =
+    tie.close
+    (tie.spec (λ c. search needs) (λ c κs. search needs) returns returns-2)

@@ -11,12 +11,11 @@ returns c =
     let a = c .before .before .before .args in
     simp (eq-eqb (a .other) (a .card) (c .if1 .taken))
 
-is-open-requires : tie.Need-is-open-requires
-is-open-requires c κs = search needs
-
 returns-2 : tie.Need-returns-2
 unfolding isOther
 returns-2 c = simp (ne-eqb _ _ (c .before .if1 .left), c .is-open .ensures)
 
 pub is-other-spec : {M : Type 1} → statement M
-is-other-spec = tie.close (tie.spec returns is-open-requires returns-2)
+is-other-spec =
+    tie.close
+    (tie.spec returns (λ c κs. search needs) returns-2)

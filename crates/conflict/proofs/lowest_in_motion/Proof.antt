@@ -14,15 +14,6 @@ Inv-loop memory cards pages live page size card₀ card = Passed (inMotion live 
 abbrev μ-loop : tie.MeasureT-loop
 μ-loop memory cards pages live page size card₀ card = cards - card
 
-area-size-requires : tie.Need-area-size-requires Inv-loop μ-loop
-area-size-requires c κs = search needs
-
-loop-holds : tie.Need-loop-holds Inv-loop μ-loop
-loop-holds c = passed-none
-
-cast-in-motion : tie.Need-cast-in-motion Inv-loop μ-loop
-cast-in-motion c = search needs
-
 in-motion-requires : tie.Need-in-motion-requires Inv-loop μ-loop
 in-motion-requires c κs =
     let size = c .before .before .area-size .ensures in
@@ -34,12 +25,6 @@ returns c =
     let turn = c .before .before in
     let hit = sym (c .before .in-motion .ensures) ∙ c .if1 .taken in
     lowest-found (turn .before .loop .inv) (turn .loop-test .taken) hit
-
-add-card : tie.Need-add-card Inv-loop μ-loop
-add-card c = search needs
-
-loop-less : tie.Need-loop-less Inv-loop μ-loop
-loop-less c = search needs
 
 loop-again : tie.Need-loop-again Inv-loop μ-loop
 loop-again c =
@@ -53,15 +38,5 @@ returns-2 c = lowest-none (c .before .loop .inv) (c .loop-test .left)
 pub lowest-in-motion-spec : {M : Type 1} → statement M
 lowest-in-motion-spec =
     tie.close
-    (tie.spec
-    Inv-loop
-    μ-loop
-    area-size-requires
-    loop-holds
-    cast-in-motion
-    in-motion-requires
-    returns
-    add-card
-    loop-less
-    loop-again
-    returns-2)
+    (tie.spec Inv-loop μ-loop (λ c κs. search needs) (λ c. passed-none) (λ c. search needs) in-motion-requires returns
+    (λ c. search needs) (λ c. search needs) loop-again returns-2)

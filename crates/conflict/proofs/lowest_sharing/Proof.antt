@@ -6,18 +6,6 @@ use Rattle.conflict.proofs.Sharing.{marks-share}
 use Rattle.conflict.proofs.lowest_sharing.Statement.{statement}
 use Rattle.conflict.proofs.lowest_sharing.Tie as tie
 
-slice-aggregate-mark-words : tie.Need-slice-aggregate-mark-words
-slice-aggregate-mark-words c = search needs
-
-mark-words-requires : tie.Need-mark-words-requires
-mark-words-requires c κs = search needs
-
-slice-aggregate-walk-lists : tie.Need-slice-aggregate-walk-lists
-slice-aggregate-walk-lists c = search needs
-
-walk-lists-requires : tie.Need-walk-lists-requires
-walk-lists-requires c κs = search needs
-
 returns : tie.Need-returns
 returns c =
     let entry = c .before .before .before .before .before .before .before .before in
@@ -28,9 +16,4 @@ returns c =
 pub lowest-sharing-spec : {M : Type 1} → statement M
 lowest-sharing-spec =
     tie.close
-    (tie.spec
-    slice-aggregate-mark-words
-    mark-words-requires
-    slice-aggregate-walk-lists
-    walk-lists-requires
-    returns)
+    (tie.spec (λ c. search needs) (λ c κs. search needs) (λ c. search needs) (λ c κs. search needs) returns)

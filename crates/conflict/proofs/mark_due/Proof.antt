@@ -4,15 +4,6 @@ use borrow.Author.Needs.{needs}
 use Rattle.conflict.proofs.mark_due.Statement.{statement}
 use Rattle.conflict.proofs.mark_due.Tie as tie
 
-label-due-requires : tie.Need-label-due-requires
-label-due-requires c κs = search needs
-
-slice-write-named : tie.Need-slice-write-named
-slice-write-named c = search needs
-
-same-length : tie.Need-same-length
-same-length c = search needs
-
 returns : tie.Need-returns
 returns c = simp (lt-ltb _ _ (c .before .if1 .taken), c .label-due .ensures)
 
@@ -21,4 +12,5 @@ returns-2 c = simp (le-ltb _ _ (c .if1 .left))
 
 pub mark-due-spec : {M : Type 1} → statement M
 mark-due-spec =
-    tie.close (tie.spec label-due-requires slice-write-named same-length returns returns-2)
+    tie.close
+    (tie.spec (λ c κs. search needs) (λ c. search needs) (λ c. search needs) returns returns-2)

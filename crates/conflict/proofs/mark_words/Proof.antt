@@ -19,17 +19,8 @@ Inv-loop list pages named₀ at₀ named at =
 abbrev μ-loop : tie.MeasureT-loop
 μ-loop list pages named₀ at₀ named at = length list - at .index
 
-first-word-requires : tie.Need-first-word-requires Inv-loop μ-loop
-first-word-requires c κs = search needs
-
 loop-holds : tie.Need-loop-holds Inv-loop μ-loop
 loop-holds c = rw (c .first-word .ensures, left-first) (omega arith, refl, refl)
-
-mark-due-requires : tie.Need-mark-due-requires Inv-loop μ-loop
-mark-due-requires c κs = search needs
-
-next-word-requires : tie.Need-next-word-requires Inv-loop μ-loop
-next-word-requires c κs = search needs
 
 loop-less : tie.Need-loop-less Inv-loop μ-loop
 loop-less c =
@@ -49,9 +40,6 @@ loop-again c =
       rw (marks .ensures) (sym (marked-turn _ _ (at .at) (turn .if1 .taken) (at .named)) ∙ at .inv .2),
     )
 
-same-length : tie.Need-same-length Inv-loop μ-loop
-same-length c = search needs
-
 returns : tie.Need-returns Inv-loop μ-loop
 returns c =
     let at = c .before .before .loop in
@@ -60,14 +48,5 @@ returns c =
 pub mark-words-spec : {M : Type 1} → statement M
 mark-words-spec =
     tie.close
-    (tie.spec
-    Inv-loop
-    μ-loop
-    first-word-requires
-    loop-holds
-    mark-due-requires
-    next-word-requires
-    loop-less
-    loop-again
-    same-length
-    returns)
+    (tie.spec Inv-loop μ-loop (λ c κs. search needs) loop-holds (λ c κs. search needs) (λ c κs. search needs)
+    loop-less loop-again (λ c. search needs) returns)

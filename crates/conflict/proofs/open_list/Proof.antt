@@ -10,27 +10,6 @@ use Rattle.protocol.specs.Release.{openList}
 use Rattle.conflict.proofs.open_list.Statement.{statement}
 use Rattle.conflict.proofs.open_list.Tie as tie
 
-mul-from : tie.Need-mul-from
-mul-from c = search needs
-
-add-from : tie.Need-add-from
-add-from c = search needs
-
-add-end : tie.Need-add-end
-add-end c = search needs
-
-mul-result : tie.Need-mul-result
-mul-result c = search needs
-
-sub-result : tie.Need-sub-result
-sub-result c = search needs
-
-part-result-start : tie.Need-part-result-start
-part-result-start c = search needs
-
-part-result-end : tie.Need-part-result-end
-part-result-end c = search needs
-
 returns : tie.Need-returns
 unfolding openList loadRun
 returns c =
@@ -42,12 +21,5 @@ returns c =
 pub open-list-spec : {M : Type 1} → statement M
 open-list-spec =
     tie.close
-    (tie.spec
-    mul-from
-    add-from
-    add-end
-    mul-result
-    sub-result
-    part-result-start
-    part-result-end
-    returns)
+    (tie.spec (λ c. search needs) (λ c. search needs) (λ c. search needs) (λ c. search needs) (λ c. search needs)
+    (λ c. search needs) (λ c. search needs) returns)

@@ -22,17 +22,8 @@ Inv-loop list pages page at₀ named₀ at named =
 abbrev μ-loop : tie.MeasureT-loop
 μ-loop list pages page at₀ named₀ at named = length list - at .index
 
-first-word-requires : tie.Need-first-word-requires Inv-loop μ-loop
-first-word-requires c κs = search needs
-
 loop-holds : tie.Need-loop-holds Inv-loop μ-loop
 loop-holds c = rw (c .first-word .ensures, left-first) (omega arith, omega arith, refl)
-
-on-page-requires : tie.Need-on-page-requires Inv-loop μ-loop
-on-page-requires c κs = search needs
-
-next-word-requires : tie.Need-next-word-requires Inv-loop μ-loop
-next-word-requires c κs = search needs
 
 loop-less : tie.Need-loop-less Inv-loop μ-loop
 loop-less c =
@@ -62,13 +53,5 @@ returns c =
 pub tally-prices-spec : {M : Type 1} → statement M
 tally-prices-spec =
     tie.close
-    (tie.spec
-    Inv-loop
-    μ-loop
-    first-word-requires
-    loop-holds
-    on-page-requires
-    next-word-requires
-    loop-less
-    loop-again
-    returns)
+    (tie.spec Inv-loop μ-loop (λ c κs. search needs) loop-holds (λ c κs. search needs) (λ c κs. search needs)
+    loop-less loop-again returns)

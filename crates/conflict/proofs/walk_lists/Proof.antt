@@ -28,9 +28,6 @@ Inv-cards memory cards pages live card named size found₀ other₀ found other 
 abbrev μ-cards : tie.MeasureT-cards
 μ-cards memory cards pages live card named size found₀ other₀ found other = cards - other
 
-area-size-requires : tie.Need-area-size-requires Inv-loop μ-loop Inv-cards μ-cards
-area-size-requires c κs = search needs
-
 cards-holds : tie.Need-cards-holds Inv-loop μ-loop Inv-cards μ-cards
 cards-holds c = (passed-none, refl)
 
@@ -40,9 +37,6 @@ is-other-requires c κs =
     let area = area-in _ (c .cards-test .taken) (c .before .before .before .before .before .before .pre .0 .1) in
     ((omega arith, rw size area), search needs)
 
-cast-open-list : tie.Need-cast-open-list Inv-loop μ-loop Inv-cards μ-cards
-cast-open-list c = search needs
-
 open-list-requires : tie.Need-open-list-requires Inv-loop μ-loop Inv-cards μ-cards
 open-list-requires c κs =
     let turn = c .before .before in
@@ -51,17 +45,8 @@ open-list-requires c κs =
     let area = area-in _ (turn .cards-test .taken) (entry .pre .0 .1) in
     (omega arith, rw size area)
 
-first-word-requires : tie.Need-first-word-requires Inv-loop μ-loop Inv-cards μ-cards
-first-word-requires c κs = search needs
-
 loop-holds : tie.Need-loop-holds Inv-loop μ-loop Inv-cards μ-cards
 loop-holds c = rw (c .first-word .ensures, left-first) (omega arith, refl, refl)
-
-hits-requires : tie.Need-hits-requires Inv-loop μ-loop Inv-cards μ-cards
-hits-requires c κs = search needs
-
-next-word-requires : tie.Need-next-word-requires Inv-loop μ-loop Inv-cards μ-cards
-next-word-requires c κs = search needs
 
 loop-less : tie.Need-loop-less Inv-loop μ-loop Inv-cards μ-cards
 loop-less c =
@@ -81,12 +66,6 @@ loop-again c =
       sym (any-turn _ _ (at .at) (turn .if2 .taken) _ _ miss) ∙ at .inv .2,
     )
 
-add-other : tie.Need-add-other Inv-loop μ-loop Inv-cards μ-cards
-add-other c = search needs
-
-cards-less : tie.Need-cards-less Inv-loop μ-loop Inv-cards μ-cards
-cards-less c = search needs
-
 cards-again : tie.Need-cards-again Inv-loop μ-loop Inv-cards μ-cards
 cards-again c =
     let at = c .before .before .loop in
@@ -98,12 +77,6 @@ cards-again c =
     let miss = list ∙ sym (at .inv .2) ∙ any-end _ _ (at .at) (c .if2 .left) _ in
     let far = turn .before .cards .inv in
     (passed-more (far .0) (turn .cards-test .taken) miss, at .inv .1 ∙ far .1)
-
-add-other-2 : tie.Need-add-other-2 Inv-loop μ-loop Inv-cards μ-cards
-add-other-2 c = search needs
-
-cards-less-2 : tie.Need-cards-less-2 Inv-loop μ-loop Inv-cards μ-cards
-cards-less-2 c = search needs
 
 cards-again-2 : tie.Need-cards-again-2 Inv-loop μ-loop Inv-cards μ-cards
 cards-again-2 c =
@@ -130,27 +103,7 @@ returns-2 c =
 pub walk-lists-spec : {M : Type 1} → statement M
 walk-lists-spec =
     tie.close
-    (tie.spec
-    Inv-loop
-    μ-loop
-    Inv-cards
-    μ-cards
-    area-size-requires
-    cards-holds
-    is-other-requires
-    cast-open-list
-    open-list-requires
-    first-word-requires
-    loop-holds
-    hits-requires
-    next-word-requires
-    loop-less
-    loop-again
-    add-other
-    cards-less
-    cards-again
-    add-other-2
-    cards-less-2
-    cards-again-2
-    returns
-    returns-2)
+    (tie.spec Inv-loop μ-loop Inv-cards μ-cards (λ c κs. search needs) cards-holds is-other-requires
+    (λ c. search needs) open-list-requires (λ c κs. search needs) loop-holds (λ c κs. search needs)
+    (λ c κs. search needs) loop-less loop-again (λ c. search needs) (λ c. search needs) cards-again
+    (λ c. search needs) (λ c. search needs) cards-again-2 returns returns-2)

@@ -18,26 +18,14 @@ abbrev μ-loop : tie.MeasureT-loop
 loop-holds : tie.Need-loop-holds Inv-loop μ-loop
 loop-holds c = (c .pre, refl)
 
-cast-at : tie.Need-cast-at Inv-loop μ-loop
-cast-at c = omega arith
-
 returns : tie.Need-returns Inv-loop μ-loop
 returns c = sym (first-live-past-marks (c .before .before .before .args .marks .now) _ _ (c .if1 .taken) (omega arith))
     ∙ c .before .before .loop .inv .1
-
-shared-slice-read-if2 : tie.Need-shared-slice-read-if2 Inv-loop μ-loop
-shared-slice-read-if2 c = search needs
 
 returns-2 : tie.Need-returns-2 Inv-loop μ-loop
 returns-2 c =
     let turn = c .before .before .before in
     sym (lowest-hit _ _ _ (turn .loop-test .taken) (c .if2 .taken)) ∙ turn .before .loop .inv .1
-
-add-card : tie.Need-add-card Inv-loop μ-loop
-add-card c = omega arith
-
-loop-less : tie.Need-loop-less Inv-loop μ-loop
-loop-less c = omega arith
 
 loop-again : tie.Need-loop-again Inv-loop μ-loop
 loop-again c =
@@ -52,15 +40,5 @@ returns-3 c =
 pub first-live-spec : {M : Type 1} → statement M
 first-live-spec =
     tie.close
-    (tie.spec
-    Inv-loop
-    μ-loop
-    loop-holds
-    cast-at
-    returns
-    shared-slice-read-if2
-    returns-2
-    add-card
-    loop-less
-    loop-again
-    returns-3)
+    (tie.spec Inv-loop μ-loop loop-holds (λ c. omega arith) returns (λ c. search needs) returns-2 (λ c. omega arith)
+    (λ c. omega arith) loop-again returns-3)

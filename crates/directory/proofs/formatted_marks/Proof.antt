@@ -19,15 +19,6 @@ abbrev μ-loop : tie.MeasureT-loop
 loop-holds : tie.Need-loop-holds Inv-loop μ-loop
 loop-holds c = fill-none
 
-array-write-marks : tie.Need-array-write-marks Inv-loop μ-loop
-array-write-marks c = search needs
-
-add-card : tie.Need-add-card Inv-loop μ-loop
-add-card c = omega arith
-
-loop-less : tie.Need-loop-less Inv-loop μ-loop
-loop-less c = omega arith
-
 loop-again : tie.Need-loop-again Inv-loop μ-loop
 loop-again c = fill-more (c .before .loop .inv) (c .loop-test .taken) refl
 
@@ -37,4 +28,4 @@ returns c = fill-all 8 (c .before .loop .inv) refl (c .loop-test .left)
 pub formatted-marks-spec : {M : Type 1} → statement M
 formatted-marks-spec =
     tie.close
-    (tie.spec Inv-loop μ-loop loop-holds array-write-marks add-card loop-less loop-again returns)
+    (tie.spec Inv-loop μ-loop loop-holds (λ c. search needs) (λ c. omega arith) (λ c. omega arith) loop-again returns)

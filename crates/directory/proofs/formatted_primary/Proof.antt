@@ -4,9 +4,6 @@ use borrow.Author.Needs.{needs}
 use Rattle.directory.proofs.formatted_primary.Statement.{statement}
 use Rattle.directory.proofs.formatted_primary.Tie as tie
 
-rem-result : tie.Need-rem-result
-rem-result c = search needs
-
 returns : tie.Need-returns
 returns c = simp (lt-ltb _ _ (c .if1 .taken))
 
@@ -14,4 +11,6 @@ returns-2 : tie.Need-returns-2
 returns-2 c = simp (le-ltb _ _ (c .if1 .left))
 
 pub formatted-primary-spec : {M : Type 1} → statement M
-formatted-primary-spec = tie.close (tie.spec rem-result returns returns-2)
+formatted-primary-spec =
+    tie.close
+    (tie.spec (λ c. search needs) returns returns-2)

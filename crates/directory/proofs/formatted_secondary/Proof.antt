@@ -4,12 +4,6 @@ use borrow.Author.Needs.{needs}
 use Rattle.directory.proofs.formatted_secondary.Statement.{statement}
 use Rattle.directory.proofs.formatted_secondary.Tie as tie
 
-rem-next-live-after : tie.Need-rem-next-live-after
-rem-next-live-after c = search needs
-
-next-live-after-requires : tie.Need-next-live-after-requires
-next-live-after-requires c κs = search needs
-
 returns : tie.Need-returns
 returns c =
     rw (lt-ltb _ _ (c .before .if1 .taken), ← c .before .before .before .pre .1) (c .next-live-after .ensures)
@@ -19,4 +13,5 @@ returns-2 c = simp (le-ltb _ _ (c .if1 .left))
 
 pub formatted-secondary-spec : {M : Type 1} → statement M
 formatted-secondary-spec =
-    tie.close (tie.spec rem-next-live-after next-live-after-requires returns returns-2)
+    tie.close
+    (tie.spec (λ c. search needs) (λ c κs. search needs) returns returns-2)

@@ -10,18 +10,9 @@ use Rattle.laws.proofs.Search.{lowest-end}
 use Rattle.directory.proofs.next_live_after.Statement.{statement}
 use Rattle.directory.proofs.next_live_after.Tie as tie
 
-add-first-live : tie.Need-add-first-live
-add-first-live c = search needs
-
-first-live-requires : tie.Need-first-live-requires
-first-live-requires c κs = search needs
-
 returns : tie.Need-returns
 returns c = c .before .first-live .ensures
     ∙ sym (next-live-up (c .before .before .before .before .args .marks .now) _ _ (omega arith))
-
-first-live-requires-2 : tie.Need-first-live-requires-2
-first-live-requires-2 c κs = search needs
 
 returns-2 : tie.Need-returns-2
 returns-2 c =
@@ -36,4 +27,5 @@ returns-2 c =
 
 pub next-live-after-spec : {M : Type 1} → statement M
 next-live-after-spec =
-    tie.close (tie.spec add-first-live first-live-requires returns first-live-requires-2 returns-2)
+    tie.close
+    (tie.spec (λ c. search needs) (λ c κs. search needs) returns (λ c κs. search needs) returns-2)

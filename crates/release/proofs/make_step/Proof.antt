@@ -8,28 +8,16 @@ use Rattle.release.proofs.Stores.{step-stores, step-closes}
 use Rattle.release.proofs.make_step.Statement.{statement}
 use Rattle.release.proofs.make_step.Tie as tie
 
-area-size-requires : tie.Need-area-size-requires
-area-size-requires c κs = search needs
-
 load-word-requires : tie.Need-load-word-requires
 load-word-requires c κs =
     let start = c .before .before .before .before .before .before in
     rw (c .before .area-size .ensures) (start .pre .1 .0 .area, omega arith)
-
-mul-if1 : tie.Need-mul-if1
-mul-if1 c = search needs
-
-add-if1 : tie.Need-add-if1
-add-if1 c = search needs
 
 close-release-requires : tie.Need-close-release-requires
 close-release-requires c κs =
     let size = c .before .before .before .before in
     let start = size .before .before .before .before .before in
     rw (size .area-size .ensures) (omega arith, start .pre .1 .0 .area)
-
-same-length : tie.Need-same-length
-same-length c = search needs
 
 returns : tie.Need-returns
 unfolding stepsOf
@@ -67,9 +55,6 @@ store-word-requires c κs =
     let start = size .before .before .before .before .before in
     rw (size .area-size .ensures) (omega arith, omega arith)
 
-same-length-2 : tie.Need-same-length-2
-same-length-2 c = search needs
-
 returns-2 : tie.Need-returns-2
 unfolding stepsOf
 returns-2 c =
@@ -86,16 +71,5 @@ returns-2 c =
 pub make-step-spec : {M : Type 1} → statement M
 make-step-spec =
     tie.close
-    (tie.spec
-    area-size-requires
-    load-word-requires
-    mul-if1
-    add-if1
-    close-release-requires
-    same-length
-    returns
-    step-store-requires
-    add-store-word
-    store-word-requires
-    same-length-2
-    returns-2)
+    (tie.spec (λ c κs. search needs) load-word-requires (λ c. search needs) (λ c. search needs) close-release-requires
+    (λ c. search needs) returns step-store-requires add-store-word store-word-requires (λ c. search needs) returns-2)

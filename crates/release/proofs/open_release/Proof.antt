@@ -4,24 +4,6 @@ use Rattle.release.proofs.Ends.{open-stores}
 use Rattle.release.proofs.open_release.Statement.{statement}
 use Rattle.release.proofs.open_release.Tie as tie
 
-store-word-requires : tie.Need-store-word-requires
-store-word-requires c κs = search needs
-
-store-word-requires-2 : tie.Need-store-word-requires-2
-store-word-requires-2 c κs = search needs
-
-store-word-requires-3 : tie.Need-store-word-requires-3
-store-word-requires-3 c κs = search needs
-
-store-run-requires : tie.Need-store-run-requires
-store-run-requires c κs = search needs
-
-store-run-requires-2 : tie.Need-store-run-requires-2
-store-run-requires-2 c κs = search needs
-
-same-length : tie.Need-same-length
-same-length c = search needs
-
 returns : tie.Need-returns
 returns c =
     let list = c .before .before in
@@ -42,11 +24,5 @@ returns c =
 pub open-release-spec : {M : Type 1} → statement M
 open-release-spec =
     tie.close
-    (tie.spec
-    store-word-requires
-    store-word-requires-2
-    store-word-requires-3
-    store-run-requires
-    store-run-requires-2
-    same-length
-    returns)
+    (tie.spec (λ c κs. search needs) (λ c κs. search needs) (λ c κs. search needs) (λ c κs. search needs)
+    (λ c κs. search needs) (λ c. search needs) returns)

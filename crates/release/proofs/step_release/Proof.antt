@@ -5,16 +5,10 @@ use Rattle.release.proofs.Prices.{read-counts, read-not-faulty}
 use Rattle.release.proofs.step_release.Statement.{statement}
 use Rattle.release.proofs.step_release.Tie as tie
 
-area-size-requires : tie.Need-area-size-requires
-area-size-requires c κs = search needs
-
 read-stored-requires : tie.Need-read-stored-requires
 read-stored-requires c κs =
     let start = c .before .before .before .before .before .before in
     rw (c .before .area-size .ensures) (omega arith, start .pre .1 .0 .area)
-
-enum-known-k : tie.Need-enum-known-k
-enum-known-k c = search needs
 
 make-step-requires : tie.Need-make-step-requires
 make-step-requires c κs =
@@ -28,17 +22,8 @@ make-step-requires c κs =
     in
     (start .pre .0, (start .pre .1 .0, (start .pre .1 .1 .0, counted)))
 
-enum-told : tie.Need-enum-told
-enum-told c = search needs
-
-same-length : tie.Need-same-length
-same-length c = search needs
-
 returns : tie.Need-returns
 returns c = search needs
-
-same-length-2 : tie.Need-same-length-2
-same-length-2 c = search needs
 
 returns-2 : tie.Need-returns-2
 returns-2 c =
@@ -53,13 +38,5 @@ returns-2 c =
 pub step-release-spec : {M : Type 1} → statement M
 step-release-spec =
     tie.close
-    (tie.spec
-    area-size-requires
-    read-stored-requires
-    enum-known-k
-    make-step-requires
-    enum-told
-    same-length
-    returns
-    same-length-2
-    returns-2)
+    (tie.spec (λ c κs. search needs) read-stored-requires (λ c. search needs) make-step-requires (λ c. search needs)
+    (λ c. search needs) returns (λ c. search needs) returns-2)

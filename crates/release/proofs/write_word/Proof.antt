@@ -4,15 +4,6 @@ use Rattle.protocol.specs.Release.{makeWrite}
 use Rattle.release.proofs.write_word.Statement.{statement}
 use Rattle.release.proofs.write_word.Tie as tie
 
-shared-slice-read-if1 : tie.Need-shared-slice-read-if1
-shared-slice-read-if1 c = search needs
-
-store-word-requires : tie.Need-store-word-requires
-store-word-requires c κs = search needs
-
-same-length : tie.Need-same-length
-same-length c = search needs
-
 returns : tie.Need-returns
 unfolding makeWrite
 returns c = rw (c .before .before .before .before .if1 .taken) (c .before .before .store-word .ensures)
@@ -23,4 +14,5 @@ returns-2 c = rw (c .if1 .left)
 
 pub write-word-spec : {M : Type 1} → statement M
 write-word-spec =
-    tie.close (tie.spec shared-slice-read-if1 store-word-requires same-length returns returns-2)
+    tie.close
+    (tie.spec (λ c. search needs) (λ c κs. search needs) (λ c. search needs) returns returns-2)

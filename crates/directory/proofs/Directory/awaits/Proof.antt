@@ -3,12 +3,6 @@ use borrow.Author.Needs.{needs}
 use Rattle.directory.proofs.Directory.awaits.Statement.{statement}
 use Rattle.directory.proofs.Directory.awaits.Tie as tie
 
-enum-told : tie.Need-enum-told
-enum-told c = search needs
-
-enum-known-status : tie.Need-enum-known-status
-enum-known-status c = search needs
-
 returns : tie.Need-returns
 returns c = search needs
 
@@ -16,4 +10,6 @@ returns-2 : tie.Need-returns-2
 returns-2 c = rw (c .before .status .given .1)
 
 pub awaits-spec : {M : Type 1} → statement M
-awaits-spec = tie.close (tie.spec enum-told enum-known-status returns returns-2)
+awaits-spec =
+    tie.close
+    (tie.spec (λ c. search needs) (λ c. search needs) returns returns-2)

@@ -4,21 +4,6 @@ use Rattle.directory.specs.Directory.{formattedDirectory}
 use Rattle.directory.proofs.Directory.formatted.Statement.{statement}
 use Rattle.directory.proofs.Directory.formatted.Tie as tie
 
-formatted-marks-requires : tie.Need-formatted-marks-requires
-formatted-marks-requires c κs = search needs
-
-slice-aggregate-fill-homes : tie.Need-slice-aggregate-fill-homes
-slice-aggregate-fill-homes c = search needs
-
-slice-aggregate-fill-homes-2 : tie.Need-slice-aggregate-fill-homes-2
-slice-aggregate-fill-homes-2 c = search needs
-
-slice-aggregate-fill-homes-3 : tie.Need-slice-aggregate-fill-homes-3
-slice-aggregate-fill-homes-3 c = search needs
-
-fill-homes-requires : tie.Need-fill-homes-requires
-fill-homes-requires c κs = search needs
-
 returns : tie.Need-returns
 unfolding formattedDirectory
 returns c =
@@ -28,10 +13,5 @@ returns c =
 pub formatted-spec : {M : Type 1} → statement M
 formatted-spec =
     tie.close
-    (tie.spec
-    formatted-marks-requires
-    slice-aggregate-fill-homes
-    slice-aggregate-fill-homes-2
-    slice-aggregate-fill-homes-3
-    fill-homes-requires
-    returns)
+    (tie.spec (λ c κs. search needs) (λ c. search needs) (λ c. search needs) (λ c. search needs)
+    (λ c κs. search needs) returns)

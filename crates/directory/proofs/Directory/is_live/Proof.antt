@@ -5,9 +5,6 @@ use Rattle.directory.proofs.Table.{read-past-end}
 use Rattle.directory.proofs.Directory.is_live.Statement.{statement}
 use Rattle.directory.proofs.Directory.is_live.Tie as tie
 
-element-copy-out-result : tie.Need-element-copy-out-result
-element-copy-out-result c = search needs
-
 returns : tie.Need-returns
 returns c = search needs
 
@@ -15,4 +12,6 @@ returns-2 : tie.Need-returns-2
 returns-2 c = read-past-end (c .before .args .t1 .live) 8 (c .before .args .card) false (search needs) (c .if1 .left)
 
 pub is-live-spec : {M : Type 1} → statement M
-is-live-spec = tie.close (tie.spec element-copy-out-result returns returns-2)
+is-live-spec =
+    tie.close
+    (tie.spec (λ c. search needs) returns returns-2)

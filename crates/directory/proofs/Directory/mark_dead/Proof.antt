@@ -6,9 +6,6 @@ use Rattle.directory.proofs.Changes.{marked-past-end}
 use Rattle.directory.proofs.Directory.mark_dead.Statement.{statement}
 use Rattle.directory.proofs.Directory.mark_dead.Tie as tie
 
-element-write-self : tie.Need-element-write-self
-element-write-self c = search needs
-
 returns : tie.Need-returns
 returns c = search needs
 
@@ -16,4 +13,6 @@ returns-2 : tie.Need-returns-2
 returns-2 c = sym (marked-past-end (c .before .args .t1) (c .before .args .card) false (search needs) (c .if1 .left))
 
 pub mark-dead-spec : {M : Type 1} → statement M
-mark-dead-spec = tie.close (tie.spec element-write-self returns returns-2)
+mark-dead-spec =
+    tie.close
+    (tie.spec (λ c. search needs) returns returns-2)

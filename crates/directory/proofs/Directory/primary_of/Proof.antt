@@ -4,12 +4,6 @@ use Rattle.directory.proofs.Table.{read-past-end}
 use Rattle.directory.proofs.Directory.primary_of.Statement.{statement}
 use Rattle.directory.proofs.Directory.primary_of.Tie as tie
 
-mul-result : tie.Need-mul-result
-mul-result c = search needs
-
-element-copy-out-result : tie.Need-element-copy-out-result
-element-copy-out-result c = search needs
-
 returns : tie.Need-returns
 returns c = search needs
 
@@ -17,4 +11,6 @@ returns-2 : tie.Need-returns-2
 returns-2 c = read-past-end (c .before .args .t1 .primary) 64 (c .before .args .page) 0 (search needs) (c .if1 .left)
 
 pub primary-of-spec : {M : Type 1} → statement M
-primary-of-spec = tie.close (tie.spec mul-result element-copy-out-result returns returns-2)
+primary-of-spec =
+    tie.close
+    (tie.spec (λ c. search needs) (λ c. search needs) returns returns-2)
