@@ -65,3 +65,16 @@ pub fn answer_of(o: Outcome) -> Answer
         Answer::Refused(o.number, o.value)
     }
 }
+
+// The outcome that an answer tells.
+pub fn outcome_of(a: Answer) -> Outcome
+    ensures { λ r. ⌜ r ≡ outcome a ⌝ }
+{
+    match a {
+        Answer::Given(value) => Outcome { number: 0, value },
+        Answer::Refused(number, place) => Outcome {
+            number,
+            value: place,
+        },
+    }
+}

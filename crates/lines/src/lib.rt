@@ -2,8 +2,8 @@
 // by byte into a command, and the line that answers it.
 ghost use mathlib.Core.Path.{_≡_};
 ghost use Prim.Native.Nat.{_+_, _≤_, _<_};
-ghost use mathlib.Core.List.{_∷_};
-ghost use lib.ListN.{length, drop};
+ghost use mathlib.Core.List.{_∷_, _++_};
+ghost use lib.ListN.{length, take, drop};
 ghost use lib.Seq.{sets};
 ghost use Rattle.lines.specs.Line.{freshLine, unreadableLine, endedField, letterRead};
 ghost use Rattle.lines.specs.Line.{digitRead, byteRead, hasBegun};
@@ -17,8 +17,8 @@ pub enum Command {
     Open {
         card: u32,
         number: u32,
-        page: u32,
-        word: u32,
+        page: u8,
+        word: u8,
         price: u32,
     },
     // S: makes steps on a card.
@@ -28,7 +28,7 @@ pub enum Command {
     // J: a card joins again.
     Join(u32),
     // F: shows one price.
-    Fetch { page: u32, word: u32 },
+    Fetch { page: u8, word: u8 },
     Unreadable,
 }
 
@@ -157,8 +157,8 @@ fn open_form(fields: &[u32; 6], count: usize) -> Command
                 return Command::Open {
                     card: fields[1],
                     number: fields[2],
-                    page,
-                    word,
+                    page: page as u8,
+                    word: word as u8,
                     price: fields[5],
                 };
             }
@@ -205,7 +205,10 @@ fn fetch_form(fields: &[u32; 6], count: usize) -> Command
         let word = fields[2];
         if page <= 63 {
             if word <= 31 {
-                return Command::Fetch { page, word };
+                return Command::Fetch {
+                    page: page as u8,
+                    word: word as u8,
+                };
             }
         }
     }
@@ -298,8 +301,9 @@ fn put_decimal(text: &mut [u8], end: usize, n: u64) -> usize
     at
 }
 
-// Writes the answer to a line at the end of a text, and says where it starts.
-pub fn put_answer(text: &mut [u8; 80], number: u64, letter: u8, refusal: u32, value: u64) -> usize
+// Writes an answer at the end of a text, and says where it starts.
+fn put_answer(text: &mut [u8], number: u64, letter: u8, refusal: u32, value: u64) -> usize
+    requires { ⌜ length (now text) ≡ 80 ⌝ }
     ensures { λ r. ⌜ r ≤ 80 ⌝ }
     ensures { λ r. ⌜ drop r (now (text .exit)) ≡ answerLine number letter refusal value ⌝ }
 {
@@ -314,7 +318,7 @@ pub fn put_answer(text: &mut [u8; 80], number: u64, letter: u8, refusal: u32, va
 }
 
 // Copies bytes to a place in a text.
-pub fn copy_bytes(bytes: &[u8], text: &mut [u8], at: usize)
+fn copy_bytes(bytes: &[u8], text: &mut [u8], at: usize)
     requires { ⌜ at + length (now bytes) ≤ length (now text) ⌝ }
     ensures { λ _. ⌜ now (text .exit) ≡ sets (now (text .entry)) at (now (bytes .entry)) ⌝ }
 {
@@ -323,4 +327,24 @@ pub fn copy_bytes(bytes: &[u8], text: &mut [u8], at: usize)
         text[at + i] = bytes[i];
         i += 1;
     }
+}
+
+// Puts an answer at the end of the output, which has room for it, and says where that ends now.
+pub fn append_answer(
+    output: &mut [u8],
+    written: usize,
+    number: u64,
+    letter: u8,
+    refusal: u32,
+    value: u64,
+) -> usize
+    requires { ⌜ written + 80 ≤ length (now output) ⌝ }
+    ensures room { λ r. ⌜ r ≤ length (now (output .entry)) ⌝ }
+    ensures answer { λ r. ⌜ take r (now (output .exit))
+        ≡ take written (now (output .entry)) ++ answerLine number letter refusal value ⌝ }
+{
+    let mut text = [0u8; 80];
+    let start = put_answer(&mut text, number, letter, refusal, value);
+    copy_bytes(&text[start..], output, written);
+    written + (80 - start)
 }

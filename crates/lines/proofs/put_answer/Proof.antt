@@ -1,4 +1,6 @@
-use lib.ListN.{drop-of-length-le}
+use Prim.Native.Nat.{_≤_}
+use native.Mathlib.Omega.{arith}
+use lib.ListN.{length, drop-of-length-le}
 use Rattle.lines.specs.Answer.{answerLine}
 use borrow.Author.Needs.{needs}
 use Rattle.lines.proofs.put_answer.Statement.{statement}
@@ -8,55 +10,68 @@ use Rattle.lines.proofs.put_answer.Lts as lts
 use Rattle.lines.proofs.put_byte.Reads as put-byte-reads
 use Rattle.lines.proofs.put_decimal.Reads as put-decimal-reads
 
--- src/lib.rt:306:9
+-- src/lib.rt:310:9
 put-byte-requires : tie.Need-put-byte-requires
 put-byte-requires c κs = search needs
 
--- src/lib.rt:307:9
+-- src/lib.rt:311:9
 put-decimal-requires : tie.Need-put-decimal-requires
 put-decimal-requires c κs = search needs
 
--- src/lib.rt:308:9
+-- src/lib.rt:312:9
 put-byte-requires-2 : tie.Need-put-byte-requires-2
 put-byte-requires-2 c κs = search needs
 
--- src/lib.rt:309:9
+-- src/lib.rt:313:9
 put-decimal-requires-2 : tie.Need-put-decimal-requires-2
 put-decimal-requires-2 c κs = search needs
 
--- src/lib.rt:310:9
+-- src/lib.rt:314:9
 put-byte-requires-3 : tie.Need-put-byte-requires-3
 put-byte-requires-3 c κs = search needs
 
--- src/lib.rt:311:9
+-- src/lib.rt:315:9
 put-byte-requires-4 : tie.Need-put-byte-requires-4
 put-byte-requires-4 c κs = search needs
 
--- src/lib.rt:312:9
+-- src/lib.rt:316:9
 put-byte-requires-5 : tie.Need-put-byte-requires-5
 put-byte-requires-5 c κs = search needs
 
--- src/lib.rt:313:5
+-- src/lib.rt:317:5
 put-decimal-requires-3 : tie.Need-put-decimal-requires-3
 put-decimal-requires-3 c κs = search needs
 
--- src/lib.rt:302:1
+-- src/lib.rt:305:1
+same-length : tie.Need-same-length
+same-length c = search needs
+
+-- src/lib.rt:305:1
 returns : tie.Need-returns
 unfolding answerLine
 returns c =
-    let text = c .before .before .before .before .before .before .before .before .before .before .before .before .before .before .before .before .args .text .now in
+    let at8 = c .before .before in
+    let at7 = at8 .before .before .before .before in
+    let at6 = at7 .before .before .before .before in
+    let at5 = at6 .before .before .before .before in
+    let at4 = at5 .before .before .before .before in
+    let at3 = at4 .before .before .before .before in
+    let at2 = at3 .before .before .before .before in
+    let at1 = at2 .before .before .before .before in
+    let text = at1 .before .before .before .args .text .now in
+    let end : length text ≤ 80 = omega (arith, at1 .before .before .before .pre) in
     (
       search needs,
       rw (
-        c .put-decimal3 .ensures .1,
-        c .before .before .put-byte5 .ensures .1,
-        c .before .before .before .before .put-byte4 .ensures .1,
-        c .before .before .before .before .before .before .put-byte3 .ensures .1,
-        c .before .before .before .before .before .before .before .before .put-decimal2 .ensures .1,
-        c .before .before .before .before .before .before .before .before .before .before .put-byte2 .ensures .1,
-        c .before .before .before .before .before .before .before .before .before .before .before .before .put-decimal .ensures .1,
-        c .before .before .before .before .before .before .before .before .before .before .before .before .before .before .put-byte .ensures .1,
-        drop-of-length-le text {i = 80} (search needs),
+        at8 .put-decimal3 .ensures .1,
+        at7 .put-byte5 .ensures .1,
+        at6 .put-byte4 .ensures .1,
+        at5 .put-byte3 .ensures .1,
+        at4 .put-decimal2 .ensures .1,
+        at3 .put-byte2 .ensures .1,
+        at2 .put-decimal .ensures .1,
+        at1 .put-byte .ensures .1,
+        drop-of-length-le text {i = 80} end,
       ),
     )
 
@@ -72,4 +87,5 @@ put-answer-spec =
     put-byte-requires-4
     put-byte-requires-5
     put-decimal-requires-3
+    same-length
     returns)
