@@ -1,7 +1,7 @@
 -- A part of the input up to a line feed: what it leaves to print, and where it ends.
 use Prim.Native.Nat.{ℕ, zero, suc, _+_, _-_, _≤_, _<_}
 use mathlib.Core.Path.{_≡_, refl, sym, ap, _∙_}
-use mathlib.Core.List.{List, [], _∷_, _++_}
+use mathlib.Core.List.{List, [], _∷_, _++_, append-assoc}
 use mathlib.Core.Bool.{Bool, true, false}
 use native.Mathlib.Omega.{arith}
 use borrow.Author.Tests.{eqb-true}
@@ -11,7 +11,8 @@ use lib.Seq.{drop-cons, drop-drop, getD-drop}
 use native.Mathlib.Numerals.{add-one}
 use Rattle.lines.specs.declared.Line.{Line}
 use Rattle.lines.specs.Line.{byteRead}
-use Rattle.lines.specs.Command.{Part, partFrom}
+use Rattle.lines.specs.declared.Part.{Part}
+use Rattle.lines.specs.Command.{partFrom}
 use Rattle.interpreter.specs.Transcript.{Session, sessionOf, executed, answered, nextLine, replies}
 
 -- the session with this much of its line read
@@ -83,18 +84,29 @@ module _ (s : Session) (m input : List ℕ) (from : ℕ) (p : Part) (part : p �
       let whole : from + (p .at - from) ≡ p .at = omega (arith, ends .after) in
       ends .leaves rest ∙ rw (drop-drop, whole)
 
-  pub part-left : length input ≤ p .at → (rest : List ℕ)
-      → replies s m (drop from input ++ rest) ≡ replies (withLine s (p .line)) m (drop (p .at) input ++ rest)
-  part-left end = leaves-from
+  -- after what is written already: the part alone, and a line that ends in the part
+  pub part-left : (front rest : List ℕ)
+      → front ++ replies s m (drop from input ++ rest)
+      ≡ front ++ replies (withLine s (p .line)) m (drop (p .at) input ++ rest)
+  part-left front rest = ap (λ l. front ++ l) (leaves-from rest)
 
-  pub part-fed : p .at < length input → (rest : List ℕ)
-      → replies s m (drop from input ++ rest)
-      ≡ answered (withLine s (p .line)) m
+  pub part-fed : p .at < length input → (front rest : List ℕ)
+      → front ++ replies s m (drop from input ++ rest)
+      ≡ front ++ answered (withLine s (p .line)) m
       ++ replies (nextLine (withLine s (p .line)) m) (executed (withLine s (p .line)) m .memory)
       (drop (p .at + 1) input ++ rest)
-  part-fed within rest =
+  part-fed within front rest =
+      let read = withLine s (p .line) in
+      let left = drop (p .at + 1) input ++ rest in
       let whole : from + (p .at - from) ≡ p .at = omega (arith, ends .after) in
       let feed : getD input (p .at) 0 ≡ 10 =
         rw (getD-drop, whole) at (ends .feed (omega (arith, length-drop from input)))
       in
-      leaves-from rest ∙ rw (drop-cons input (p .at) 0 within, feed, add-one) (replies-feed m (withLine s (p .line)) _)
+      let next : drop (p .at) input ≡ 10 ∷ drop (p .at + 1) input =
+        rw (drop-cons input (p .at) 0 within, feed, add-one)
+      in
+      let fed : replies s m (drop from input ++ rest)
+        ≡ answered read m ++ replies (nextLine read m) (executed read m .memory) left
+      = leaves-from rest ∙ rw next (replies-feed m read left) in
+      ap (λ l. front ++ l) fed
+      ∙ sym (append-assoc front (answered read m) (replies (nextLine read m) (executed read m .memory) left))

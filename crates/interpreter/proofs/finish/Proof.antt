@@ -1,3 +1,5 @@
+use mathlib.Core.Path.{refl, sym, _∙_}
+use Rattle.interpreter.specs.Transcript.{replies}
 use borrow.Author.Needs.{needs}
 use Rattle.interpreter.proofs.finish.Statement.{statement}
 use Rattle.interpreter.proofs.finish.Tie as tie
@@ -20,11 +22,18 @@ same-length c = search needs
 
 -- src/lib.rt:156:9
 returns : tie.Need-returns
-returns c = ?
+unfolding replies
+returns c =
+    let ended = c .before .before .end-line .ensures in
+    let begun = sym (c .before .before .before .before .before .before .has-begun .ensures) ∙ c .before .before .before .before .before .if1 .taken in
+    (search needs, (rw begun (ended .1 .0), rw begun (ended .1 .1 .1)))
 
 -- src/lib.rt:147:1
 returns-2 : tie.Need-returns-2
-returns-2 c = ?
+unfolding replies
+returns-2 c =
+    let begun = sym (c .before .has-begun .ensures) ∙ c .if1 .left in
+    (search needs, (rw begun, rw begun))
 
 pub finish-spec : {M : Type 1} → statement M
 finish-spec =
