@@ -1,6 +1,8 @@
 -- What a call comes to, in document 01's numbers ("What the rack refuses, by who caused it").
 -- Assumes nothing: these are definitions.
 use Prim.Native.Nat.{ℕ}
+use mathlib.Core.Bool.{cond}
+use lib.Dec.{eqb}
 use Rattle.answer.specs.declared.Outcome.{Outcome}
 use Rattle.answer.specs.declared.Answer.{Answer}
 use Rattle.answer.specs.declared.Answer.the-variants.{Given, Refused}
@@ -9,6 +11,10 @@ use Rattle.answer.specs.declared.Answer.the-variants.{Given, Refused}
 abbrev pub outcome : Answer → Outcome
 outcome (Given value) = record { number = 0; value = value }
 outcome (Refused number place) = record { number = number; value = place }
+
+-- The one answer that tells an outcome: a refusal only if its number is not 0.
+abbrev pub answerOf : Outcome → Answer
+answerOf o = cond (eqb (o .number) 0) (Given (o .value)) (Refused (o .number) (o .value))
 
 -- an accepted call that gives this value
 abbrev pub given : ℕ → Outcome

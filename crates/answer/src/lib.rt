@@ -1,6 +1,6 @@
 // What a call answers, and document 01's numbers for what it refuses.
 ghost use mathlib.Core.Path.{_≡_};
-ghost use Rattle.answer.specs.Outcome.{outcome};
+ghost use Rattle.answer.specs.Outcome.{outcome, answerOf};
 
 // Document 01, "What the rack refuses, by who caused it". specs/Outcome.antt has the same table.
 pub const LIMITS: u32 = 1;
@@ -55,9 +55,9 @@ pub enum Answer {
     Refused(u32, u64),
 }
 
-// The answer that has this outcome.
+// The answer that tells this outcome.
 pub fn answer_of(o: Outcome) -> Answer
-    ensures { λ r. ⌜ outcome r ≡ o ⌝ }
+    ensures { λ r. ⌜ r ≡ answerOf o ⌝ }
 {
     if o.number == 0 {
         Answer::Given(o.value)

@@ -1,55 +1,95 @@
 -- Checks in order: of two lists of checks the first decides, and where none of it refuses the second.
-use Prim.Native.Nat.{ℕ}
-use mathlib.Core.Path.{_≡_, refl}
+use Prim.Native.Nat.{ℕ, _<_, _≤_}
+use mathlib.Core.Path.{_≡_, refl, ap, _∙_}
 use mathlib.Core.Logic.{_≢_}
 use mathlib.Core.List.{List, [], _∷_, _++_}
-use mathlib.Core.Bool.{Bool, true, false, cond}
-use native.Mathlib.Omega.{arith}
-use borrow.Author.Tests.{ne-eqb}
+use mathlib.Core.Bool.{Bool, true, false, cond, not, _&&_}
+use borrow.Author.Tests.{ne-eqb, eqb-true, not-true, le-leb, lt-leb}
 use lib.Dec.{eqb}
+use Rattle.laws.proofs.Bools.{by-cond, and-first, and-second}
 use Rattle.answer.specs.declared.Outcome.{Outcome}
 use Rattle.answer.specs.Outcome.{given, refused, refusedAt}
 use Rattle.directory.specs.declared.Directory.{Directory}
-use Rattle.protocol.specs.Checks.{Check, firstRefusal, fittingChecks, runningChecks}
+use Rattle.directory.specs.Directory.{isLive}
+use Rattle.protocol.specs.Checks.{Check, checkAt, firstRefusal, noLiveCard}
+
+-- ---- one check before others, and none
+
+pub no-check : (value : ℕ) → firstRefusal [] value ≡ given value
+unfolding firstRefusal
+no-check value = refl
+
+module _ (refuses : Bool) (number place : ℕ) where
+  pub first-refuses : (more : List Check) (value : ℕ) → refuses ≡ true
+      → firstRefusal (checkAt refuses number place ∷ more) value ≡ refusedAt number place
+  unfolding firstRefusal
+  first-refuses more value hit = rw hit
+
+  pub first-passes : (more : List Check) (value : ℕ) → refuses ≡ false
+      → firstRefusal (checkAt refuses number place ∷ more) value ≡ firstRefusal more value
+  unfolding firstRefusal
+  first-passes more value miss = rw miss
+
+  pub last-passes : (value : ℕ) → refuses ≡ false
+      → firstRefusal (checkAt refuses number place ∷ []) value ≡ given value
+  unfolding firstRefusal
+  last-passes value miss = rw miss
+
+-- ---- checks that come to a number, before others
 
 -- the checks refuse by a number other than 0, and name no place
-abbrev pub Plain : List Check → Type 0
-Plain [] = Unit {0}
-Plain (c ∷ cs) = (c .number ≢ 0) × (c .place ≡ 0) × Plain cs
+abbrev pub plain : List Check → Bool
+plain [] = true
+plain (c ∷ cs) = not (eqb (c .number) 0) && (eqb (c .place) 0 && plain cs)
 
 -- the outcome where the first checks come to `number` and those after them to `rest`
-abbrev pub afterwards : ℕ → Outcome → Outcome
+abbrev afterwards : ℕ → Outcome → Outcome
 afterwards number rest = cond (eqb number 0) rest (refused number)
 
-pub one-check : (c : Check) (value : ℕ)
-    → firstRefusal (c ∷ []) value ≡ cond (c .refuses) (refusedAt (c .number) (c .place)) (given value)
-unfolding firstRefusal
-one-check c value = refl
-
 one-more : (refuses : Bool) (number : ℕ) (first whole rest : Outcome)
-    → number ≢ 0 → whole ≡ afterwards (first .number) rest
+    → eqb number 0 ≡ false → whole ≡ afterwards (first .number) rest
     → cond refuses (refused number) whole ≡ afterwards (cond refuses (refused number) first .number) rest
-one-more true number first whole rest other e = simp (ne-eqb _ _ other)
+one-more true number first whole rest other e = simp other
 one-more false number first whole rest other e = e
 
 module _ (more : List Check) (value : ℕ) where
-  pub later-checks : (cs : List Check) → Plain cs
+  later-checks : (cs : List Check) → plain cs ≡ true
       → firstRefusal (cs ++ more) value ≡ afterwards (firstRefusal cs 0 .number) (firstRefusal more value)
   unfolding firstRefusal
-  later-checks [] plain = refl
-  later-checks (c ∷ cs) plain =
-      rw (plain .1) (one-more (c .refuses) (c .number) _ _ _ (plain .0) (later-checks cs (plain .2)))
+  later-checks [] all = refl
+  later-checks (c ∷ cs) all =
+      let named = not-true (eqb (c .number) 0) (and-first (not (eqb (c .number) 0)) _ all) in
+      let rest = and-second (not (eqb (c .number) 0)) _ all in
+      let at-0 = eqb-true (c .place) 0 (and-first (eqb (c .place) 0) _ rest) in
+      let later = later-checks cs (and-second (eqb (c .place) 0) _ rest) in
+      rw at-0 (one-more (c .refuses) (c .number) _ _ _ named later)
 
-  module _ (d : Directory) (m : List ℕ) {number : ℕ} where
-    pub after-fitting : number ≡ firstRefusal (fittingChecks d m) 0 .number
-        → firstRefusal (fittingChecks d m ++ more) value ≡ afterwards number (firstRefusal more value)
-    after-fitting reached =
-        rw reached
-        (later-checks (fittingChecks d m) (λ e. omega arith, refl, (λ e. omega arith, refl, tt)))
+  module _ (cs : List Check) (all : plain cs ≡ true) {number : ℕ} (reached : number ≡ firstRefusal cs 0 .number) where
+    pub refused-before : number ≢ 0 → firstRefusal (cs ++ more) value ≡ refused number
+    refused-before some = later-checks cs all ∙ rw (← reached) (rw (ne-eqb _ _ some))
 
-    pub after-running : number ≡ firstRefusal (runningChecks d m) 0 .number
-        → firstRefusal (runningChecks d m ++ more) value ≡ afterwards number (firstRefusal more value)
-    after-running reached =
-        rw reached
-        (later-checks (runningChecks d m)
-        (λ e. omega arith, refl, (λ e. omega arith, refl, (λ e. omega arith, refl, tt))))
+    pub passed-before : number ≡ 0 → firstRefusal (cs ++ more) value ≡ firstRefusal more value
+    passed-before none = later-checks cs all ∙ rw (← reached) (rw none)
+
+no-place : (cs : List Check) → plain cs ≡ true → firstRefusal cs 0 .value ≡ 0
+unfolding firstRefusal
+no-place [] all = refl
+no-place (c ∷ cs) all =
+    let rest = and-second (not (eqb (c .number) 0)) _ all in
+    by-cond (λ (o : Outcome). o .value ≡ 0) (c .refuses) _ _
+    (λ hit. eqb-true (c .place) 0 (and-first (eqb (c .place) 0) _ rest))
+    (λ miss. no-place cs (and-second (eqb (c .place) 0) _ rest))
+
+-- the number that such checks come to tells their outcome
+pub by-number : (cs : List Check) → plain cs ≡ true → {number : ℕ} → number ≡ firstRefusal cs 0 .number
+    → firstRefusal cs 0 ≡ refused number
+by-number cs all reached = rw reached (ap (refusedAt (firstRefusal cs 0 .number)) (no-place cs all))
+
+-- ---- 3: no such card, or dead
+
+module _ (d : Directory) (c : ℕ) where
+  pub past-cards : d .cards ≤ c → noLiveCard d c ≡ true
+  past-cards past = rw (le-leb _ _ past)
+
+  pub by-mark : (mark : Bool) → c < d .cards → isLive d c ≡ mark → noLiveCard d c ≡ not mark
+  by-mark mark below is = rw (lt-leb _ _ below, is)

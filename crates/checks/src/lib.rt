@@ -1,6 +1,6 @@
-// Whether a memory and a directory fit each other, and whether the rack runs: refusals 1, 2 and
-// 11. Each check is true where it refuses. A directory's arrays are lent one by one: a directory
-// handed on by value would be copied in each loop.
+// Whether a memory and a directory fit each other, whether the rack runs, and whether there is such
+// a card: refusals 1, 2, 11 and 3. Each check is true where it refuses. The loops are lent a
+// directory's arrays one by one: a directory handed on by value would be copied in each turn.
 ghost use mathlib.Core.Path.{_≡_};
 ghost use Prim.Native.Nat.{_*_, _<_, _≤_};
 ghost use lib.ListN.{length};
@@ -11,8 +11,9 @@ ghost use Rattle.directory.specs.Live.{liveAt};
 ghost use Rattle.directory.specs.Directory.{directoryOf, awaitsCard};
 ghost use Rattle.protocol.specs.Checks.{outsideLimits, badHome, badPage, badStatus, badRelease};
 ghost use Rattle.protocol.specs.Checks.{badCard, unfitRack, firstRefusal, fittingChecks};
-ghost use Rattle.protocol.specs.Checks.{runningChecks};
+ghost use Rattle.protocol.specs.Checks.{runningChecks, cardChecks, liveCardChecks};
 use diff::Verdict;
+use directory::Directory;
 use directory::Status;
 
 // 1: cards or pages outside their limits, or a memory not of the stated length.
@@ -230,60 +231,70 @@ fn unfit_rack(
 // ---- the checks in order
 
 // Refusal 1 or 2, or 0 where the two fit.
-pub fn fitting(
-    memory: &[u32],
-    cards: u32,
-    pages: u32,
-    live: &[bool],
-    primary: &[u32],
-    secondary: &[u32],
-    status: Status,
-) -> u32
-    requires { ⌜ length (now live) ≡ 8 ⌝ }
-    requires { ⌜ (length (now primary) ≡ 64) × (length (now secondary) ≡ 64) ⌝ }
+pub fn fitting(memory: &[u32], directory: Directory) -> u32
     ensures { λ r. ⌜ r
-        ≡ firstRefusal
-        (fittingChecks
-        (directoryOf cards pages (now (live .entry)) (now (primary .entry))
-        (now (secondary .entry)) status)
-        (now (memory .entry)))
-        0 .number ⌝ }
+        ≡ firstRefusal (fittingChecks directory (now (memory .entry))) 0 .number ⌝ }
 {
+    let cards = directory.cards;
+    let pages = directory.pages;
     if outside_limits(memory.len(), cards, pages) {
         return answer::LIMITS;
     }
-    if unfit_rack(memory, cards, pages, live, primary, secondary, status) {
+    let live = directory.live;
+    let primary = directory.primary;
+    let secondary = directory.secondary;
+    let status = directory.status;
+    if unfit_rack(memory, cards, pages, &live, &primary, &secondary, status) {
         return answer::UNFIT;
     }
     0
 }
 
 // Refusal 1, 2 or 11, or 0.
-pub fn running(
-    memory: &[u32],
-    cards: u32,
-    pages: u32,
-    live: &[bool],
-    primary: &[u32],
-    secondary: &[u32],
-    status: Status,
-) -> u32
-    requires { ⌜ length (now live) ≡ 8 ⌝ }
-    requires { ⌜ (length (now primary) ≡ 64) × (length (now secondary) ≡ 64) ⌝ }
+pub fn running(memory: &[u32], directory: Directory) -> u32
     ensures { λ r. ⌜ r
-        ≡ firstRefusal
-        (runningChecks
-        (directoryOf cards pages (now (live .entry)) (now (primary .entry))
-        (now (secondary .entry)) status)
-        (now (memory .entry)))
-        0 .number ⌝ }
+        ≡ firstRefusal (runningChecks directory (now (memory .entry))) 0 .number ⌝ }
 {
-    let refused = fitting(memory, cards, pages, live, primary, secondary, status);
+    let refused = fitting(memory, directory);
     if refused != 0 {
         return refused;
     }
+    let status = directory.status;
     match status {
         Status::Running => 0,
         Status::Awaiting(_) => answer::RECOVERY_AWAITED,
     }
+}
+
+// Refusal 1, 2, 11 or 3, or 0: there is such a card, live or dead.
+pub fn card(memory: &[u32], directory: Directory, card: u32) -> u32
+    ensures { λ r. ⌜ r
+        ≡ firstRefusal (cardChecks directory (now (memory .entry)) card) 0 .number ⌝ }
+{
+    let refused = running(memory, directory);
+    if refused != 0 {
+        return refused;
+    }
+    if directory.cards <= card {
+        return answer::NO_CARD;
+    }
+    0
+}
+
+// Refusal 1, 2, 11 or 3, or 0: there is such a card, and it is live.
+pub fn live_card(memory: &[u32], directory: Directory, card: u32) -> u32
+    ensures { λ r. ⌜ r
+        ≡ firstRefusal (liveCardChecks directory (now (memory .entry)) card) 0 .number ⌝ }
+{
+    let refused = running(memory, directory);
+    if refused != 0 {
+        return refused;
+    }
+    if directory.cards <= card {
+        return answer::NO_CARD;
+    }
+    if directory.is_live(card) {
+        return 0;
+    }
+    answer::NO_CARD
 }

@@ -58,8 +58,8 @@ fetchWord page word d m =
 unfoldable pub execute : Command → Directory → List ℕ → Result
 execute (Open card number page word price) d m = openOne card number page word price d m
 execute (Step card count) d m = stepsFrom card count 0 d m
-execute (Fail card) d m = failure d m card
-execute (Join card) d m = failure d m card
+execute (Fail card) d m = failAndRecover card d m
+execute (Join card) d m = join d m card
 execute (Fetch page word) d m = fetchWord page word d m
 execute Unreadable d m = shown (refused unreadable) d m
 

@@ -1,7 +1,7 @@
 // The commands of shelfrun (document 01, "Numbers to hold it against"), executed on a rack.
 ghost use mathlib.Core.Path.{_≡_};
 ghost use lib.ListN.{getD};
-ghost use Rattle.protocol.specs.Failure.{failure};
+ghost use Rattle.protocol.specs.Join.{join};
 ghost use Rattle.commands.specs.Execute.{openOne, stepsFrom, failAndRecover, fetchWord};
 ghost use Rattle.commands.specs.Execute.{execute, letterOf};
 use answer::Outcome;
@@ -112,30 +112,37 @@ fn fetch_word(memory: &[u32], directory: Directory, page: u8, word: u8) -> Shown
 // X: a card fails and is recovered.
 fn fail_and_recover(memory: &mut [u32], directory: Directory, card: u32) -> Shown
     ensures outcome { λ r. ⌜ r .outcome
-        ≡ failure directory (now (memory .entry)) card .outcome ⌝ }
+        ≡ failAndRecover card directory (now (memory .entry)) .outcome ⌝ }
     ensures directory { λ r. ⌜ r .directory
-        ≡ failure directory (now (memory .entry)) card .directory ⌝ }
+        ≡ failAndRecover card directory (now (memory .entry)) .directory ⌝ }
     ensures memory { λ _. ⌜ now (memory .exit)
-        ≡ failure directory (now (memory .entry)) card .memory ⌝ }
+        ≡ failAndRecover card directory (now (memory .entry)) .memory ⌝ }
 {
     let failed = rack::fail_card(memory, directory, card);
     let directory = failed.directory;
     let answer = failed.answer;
+    let outcome = answer::outcome_of(answer);
+    if outcome.number != 0 {
+        return Shown { directory, outcome };
+    }
+    let recovered = rack::recover_card(memory, directory);
+    let directory = recovered.directory;
+    let answer = recovered.answer;
     let outcome = answer::outcome_of(answer);
     Shown { directory, outcome }
 }
 
 // J: a dead card joins again.
 fn join_card(memory: &mut [u32], directory: Directory, card: u32) -> Shown
-    ensures outcome { λ r. ⌜ r .outcome ≡ failure directory (now (memory .entry)) card .outcome ⌝ }
+    ensures outcome { λ r. ⌜ r .outcome ≡ join directory (now (memory .entry)) card .outcome ⌝ }
     ensures directory { λ r. ⌜ r .directory
-        ≡ failure directory (now (memory .entry)) card .directory ⌝ }
+        ≡ join directory (now (memory .entry)) card .directory ⌝ }
     ensures memory { λ _. ⌜ now (memory .exit)
-        ≡ failure directory (now (memory .entry)) card .memory ⌝ }
+        ≡ join directory (now (memory .entry)) card .memory ⌝ }
 {
-    let failed = rack::fail_card(memory, directory, card);
-    let directory = failed.directory;
-    let answer = failed.answer;
+    let reply = rack::join_card(memory, directory, card);
+    let directory = reply.directory;
+    let answer = reply.answer;
     let outcome = answer::outcome_of(answer);
     Shown { directory, outcome }
 }

@@ -1,11 +1,11 @@
-// Open releases that stand in the way of a call: one that prices a word of a list handed in
-// (refusal 8), and one that counts already and names a page asked for (refusal 10). Each search
-// answers the lowest such card, or the number of cards.
+// Open releases that stand in the way of a call: any (refusal 15), one that prices a word of a list
+// handed in (refusal 8), and one that counts already and names a page asked for (refusal 10). The
+// searches for 8 and 10 answer the lowest such card, or the number of cards.
 ghost use mathlib.Core.Path.{_≡_};
 ghost use Prim.Native.Nat.{_*_, _<_, _≤_};
 ghost use mathlib.Core.Bool.{_||_};
 ghost use lib.ListN.{length};
-ghost use Rattle.laws.specs.Search.{lowest};
+ghost use Rattle.laws.specs.Search.{lowest, someBelow};
 ghost use Rattle.memory.specs.Layout.{areaSize};
 ghost use Rattle.memory.specs.Area.{AreaIn};
 ghost use Rattle.diff.specs.Prices.{pricesOf};
@@ -27,6 +27,24 @@ pub fn is_open(memory: &[u32], size: usize, live: &[bool], card: usize) -> bool
 {
     if live[card] {
         return memory::load_word(memory, size, card, memory::RELEASE_OPEN) == 1;
+    }
+    false
+}
+
+// Whether a release is open on any card.
+pub fn any_open(memory: &[u32], cards: u32, pages: u32, live: &[bool]) -> bool
+    requires { ⌜ (pages ≤ 64) × (length (now memory) ≡ cards * areaSize pages) ⌝ }
+    requires { ⌜ cards ≤ length (now live) ⌝ }
+    ensures { λ r. ⌜ r
+        ≡ someBelow (isOpen (now (live .entry)) (areaSize pages) (now (memory .entry))) cards ⌝ }
+{
+    let size = memory::area_size(pages);
+    let mut card: u32 = 0;
+    while card < cards {
+        if is_open(memory, size, live, card as usize) {
+            return true;
+        }
+        card += 1;
     }
     false
 }

@@ -4,7 +4,7 @@ ghost use Prim.Native.Nat.{ℕ, _+_, _%_, _<_, _≤_};
 ghost use mathlib.Core.List.{List};
 ghost use lib.ListN.{length};
 ghost use lib.Seq.{sets};
-ghost use Rattle.answer.specs.Outcome.{outcome};
+ghost use Rattle.answer.specs.Outcome.{answerOf};
 ghost use Rattle.diff.specs.Format.{runWord};
 ghost use Rattle.diff.specs.Making.{madeDiff, lentPages, makeDiff, bufferAfter};
 ghost use Rattle.maker.specs.AtLabel.{Lent, runAt, headerAt};
@@ -150,8 +150,9 @@ fn lent_pages(working: usize, twins: usize) -> bool
 // Makes the diff from the twins to the working pages: gives its length, or refusal 1 or 17. The
 // words of the buffer past it are kept, and all of them if it is refused.
 pub fn make(working: &[u32], twins: &[u32], buffer: &mut [u32]) -> Answer
-    ensures answer { λ r. ⌜ outcome r
-        ≡ makeDiff (now (working .entry)) (now (twins .entry)) (length (now (buffer .entry))) ⌝ }
+    ensures answer { λ r. ⌜ r
+        ≡ answerOf
+        (makeDiff (now (working .entry)) (now (twins .entry)) (length (now (buffer .entry)))) ⌝ }
     ensures written { λ _. ⌜ now (buffer .exit)
         ≡ bufferAfter (now (working .entry)) (now (twins .entry)) (now (buffer .entry)) ⌝ }
 {

@@ -19,7 +19,7 @@ pub record Highest (test : ℕ → Bool) (k n : ℕ) : Type 0 where
   pub passes : test index ≡ true
   pub others : k ≤ countBelow test index
 
-highest : (test : ℕ → Bool) (k n : ℕ) → suc k ≤ countBelow test n → Highest test k n
+pub highest : (test : ℕ → Bool) (k n : ℕ) → suc k ≤ countBelow test n → Highest test k n
 unfolding countBelow
 highest test k zero many = absurd (omega arith)
 highest test k (suc n) many = go (test n) refl many (highest test k n)

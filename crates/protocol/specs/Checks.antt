@@ -107,3 +107,10 @@ noSuchCard d c = leb (d .cards) c
 
 abbrev pub noLiveCard : Directory → ℕ → Bool
 noLiveCard d c = noSuchCard d c || not (isLive d c)
+
+-- 1, 2, 11 and 3
+abbrev pub cardChecks : Directory → List ℕ → ℕ → List Check
+cardChecks d m c = runningChecks d m ++ check (noSuchCard d c) noCard ∷ []
+
+abbrev pub liveCardChecks : Directory → List ℕ → ℕ → List Check
+liveCardChecks d m c = runningChecks d m ++ check (noLiveCard d c) noCard ∷ []

@@ -1,23 +1,21 @@
 -- A desk question (document 01, "Failure, recovery, join": "A desk question reads the own desk of a live card, or a
--- dead
--- card's record"; refusals 1, 2, 11, 3).
+-- dead card's record"; refusals 1, 2, 11, 3).
 -- Assumes nothing: these are definitions.
 use Prim.Native.Nat.{ℕ}
 use mathlib.Core.List.{List, [], _∷_, _++_}
 use mathlib.Core.Bool.{cond}
 use Rattle.answer.specs.declared.Outcome.{Outcome}
-use Rattle.answer.specs.Outcome.{noCard}
 use Rattle.memory.specs.Layout.{deskSize}
 use Rattle.memory.specs.Area.{zeros}
 use Rattle.directory.specs.declared.Directory.{Directory}
 use Rattle.directory.specs.Directory.{isLive, nextLiveOf}
 use Rattle.protocol.specs.Release.{Release, sizeOf, ownRelease}
 use Rattle.protocol.specs.Record.{recordedRelease}
-use Rattle.protocol.specs.Checks.{Check, check, firstRefusal, runningChecks, noSuchCard}
+use Rattle.protocol.specs.Checks.{Check, firstRefusal, cardChecks}
 use Rattle.protocol.specs.Result.{Result, resultOf}
 
 abbrev pub deskChecks : Directory → List ℕ → ℕ → List Check
-deskChecks d m c = runningChecks d m ++ check (noSuchCard d c) noCard ∷ []
+deskChecks d m c = cardChecks d m c
 
 -- "A dead card's record is the one on the next live after it."
 unfoldable pub deskOf : Directory → List ℕ → ℕ → List ℕ

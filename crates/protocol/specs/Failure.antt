@@ -6,16 +6,15 @@ use mathlib.Core.List.{List, [], _∷_, _++_}
 use lib.Dec.{leb}
 use Rattle.laws.specs.Search.{countBelow}
 use Rattle.answer.specs.declared.Outcome.{Outcome}
-use Rattle.answer.specs.Outcome.{noCard, twoLive}
+use Rattle.answer.specs.Outcome.{twoLive}
 use Rattle.directory.specs.declared.Directory.{Directory}
 use Rattle.directory.specs.declared.Status.the-variants.{Awaiting}
 use Rattle.directory.specs.Directory.{isLive, markedDead, withStatus}
-use Rattle.protocol.specs.Checks.{Check, check, firstRefusal, runningChecks, noLiveCard}
+use Rattle.protocol.specs.Checks.{Check, check, firstRefusal, liveCardChecks}
 use Rattle.protocol.specs.Result.{Result, resultOf}
 
 abbrev pub failureChecks : Directory → List ℕ → ℕ → List Check
-failureChecks d m c =
-    runningChecks d m ++ check (noLiveCard d c) noCard ∷ check (leb (countBelow (isLive d) (d .cards)) 2) twoLive ∷ []
+failureChecks d m c = liveCardChecks d m c ++ check (leb (countBelow (isLive d) (d .cards)) 2) twoLive ∷ []
 
 -- the card is dead, and its recovery awaited
 abbrev pub failedDirectory : Directory → ℕ → Directory

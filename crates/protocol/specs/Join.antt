@@ -6,21 +6,20 @@ use mathlib.Core.Bool.{Bool, cond, not, _&&_}
 use lib.Dec.{eqb}
 use Rattle.laws.specs.Search.{someBelow, inTurn}
 use Rattle.answer.specs.declared.Outcome.{Outcome}
-use Rattle.answer.specs.Outcome.{noCard, cardLive, joinWhileOpen}
+use Rattle.answer.specs.Outcome.{cardLive, joinWhileOpen}
 use Rattle.memory.specs.Layout.{ownStamp, recordStamp, recordSize}
 use Rattle.memory.specs.Area.{storeRun, clearRun, copyRun}
 use Rattle.directory.specs.declared.Directory.{Directory}
 use Rattle.directory.specs.Directory.{isLive, nextLiveOf, backupOf, markedLive}
 use Rattle.protocol.specs.Release.{Release, sizeOf, isOpen}
 use Rattle.protocol.specs.Record.{recordedRelease, writeOwnRecord}
-use Rattle.protocol.specs.Checks.{Check, check, firstRefusal, runningChecks, noSuchCard}
+use Rattle.protocol.specs.Checks.{Check, check, firstRefusal, cardChecks}
 use Rattle.protocol.specs.Result.{Result, resultOf}
 
 abbrev pub joinChecks : Directory → List ℕ → ℕ → List Check
 joinChecks d m x =
-    runningChecks d m
-    ++ check (noSuchCard d x) noCard
-    ∷ check (isLive d x) cardLive
+    cardChecks d m x
+    ++ check (isLive d x) cardLive
     ∷ check (someBelow (isOpen (d .live) (sizeOf d) m) (d .cards)) joinWhileOpen
     ∷ []
 

@@ -6,7 +6,7 @@ use mathlib.Core.Bool.{Bool, true, false, cond, not, _&&_}
 use lib.Dec.{ltb, leb, eqb}
 use Rattle.laws.specs.Search.{lowest, someBelow}
 use Rattle.answer.specs.declared.Outcome.{Outcome}
-use Rattle.answer.specs.Outcome.{noCard, releaseOpen, numberUsed, numberAhead, faultyList, wordInUse}
+use Rattle.answer.specs.Outcome.{releaseOpen, numberUsed, numberAhead, faultyList, wordInUse}
 use Rattle.memory.specs.Layout.{areaSize, listStart}
 use Rattle.memory.specs.Layout as layout
 use Rattle.memory.specs.Area.{storeRun}
@@ -15,7 +15,7 @@ use Rattle.diff.specs.declared.Price.{Price}
 use Rattle.diff.specs.Prices.{labelOf, pricesOf, names}
 use Rattle.diff.specs.Reading.{checkDiff}
 use Rattle.protocol.specs.Release.{Release, sizeOf, ownRelease, openPrices, isOpen}
-use Rattle.protocol.specs.Checks.{Check, check, checkAt, firstRefusal, runningChecks, noLiveCard}
+use Rattle.protocol.specs.Checks.{Check, check, checkAt, firstRefusal, liveCardChecks}
 use Rattle.protocol.specs.Result.{Result, resultOf}
 
 -- a page word that both lists price
@@ -31,9 +31,8 @@ sharesWith marks pages m c list other =
 
 abbrev pub openingChecks : Directory → List ℕ → ℕ → ℕ → List ℕ → List Check
 openingChecks d m c number list =
-    runningChecks d m
-    ++ check (noLiveCard d c) noCard
-    ∷ check (isOpen (d .live) (sizeOf d) m c) releaseOpen
+    liveCardChecks d m c
+    ++ check (isOpen (d .live) (sizeOf d) m c) releaseOpen
     ∷ checkAt (leb number (ownRelease (sizeOf d) m c .number)) numberUsed (ownRelease (sizeOf d) m c .number)
     ∷ check (ltb (ownRelease (sizeOf d) m c .number + 1) number) numberAhead
     ∷ checkAt (ltb 0 (checkDiff (d .pages) list .number)) faultyList (checkDiff (d .pages) list .value)

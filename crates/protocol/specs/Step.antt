@@ -4,16 +4,15 @@ use Prim.Native.Nat.{ℕ}
 use mathlib.Core.List.{List, [], _∷_, _++_}
 use mathlib.Core.Bool.{not}
 use Rattle.answer.specs.declared.Outcome.{Outcome}
-use Rattle.answer.specs.Outcome.{noCard, noneOpen}
+use Rattle.answer.specs.Outcome.{noneOpen}
 use Rattle.directory.specs.declared.Directory.{Directory}
 use Rattle.directory.specs.Directory.{backupOf}
 use Rattle.protocol.specs.Release.{sizeOf, isOpen, stepMemory}
-use Rattle.protocol.specs.Checks.{Check, check, firstRefusal, runningChecks, noLiveCard}
+use Rattle.protocol.specs.Checks.{Check, check, firstRefusal, liveCardChecks}
 use Rattle.protocol.specs.Result.{Result, resultOf}
 
 abbrev pub stepChecks : Directory → List ℕ → ℕ → List Check
-stepChecks d m c = runningChecks d m ++ check (noLiveCard d c) noCard ∷ check (not (isOpen (d .live) (sizeOf d) m c))
-    noneOpen ∷ []
+stepChecks d m c = liveCardChecks d m c ++ check (not (isOpen (d .live) (sizeOf d) m c)) noneOpen ∷ []
 
 unfoldable pub step : Directory → List ℕ → ℕ → Result
 step d m c =

@@ -1,10 +1,10 @@
 -- A rack that passed checks 1 and 2: within its limits, with homes that are cards and open releases that read well.
-use Prim.Native.Nat.{ℕ, zero, suc, _+_, _<_, _≤_}
-use mathlib.Core.Path.{_≡_, refl, sym, _∙_}
+use Prim.Native.Nat.{ℕ, _<_}
+use mathlib.Core.Path.{_≡_}
 use mathlib.Core.List.{List}
-use mathlib.Core.Bool.{Bool, true, false, cond}
+use mathlib.Core.Bool.{Bool, true, false, false≢true}
 use native.Mathlib.Omega.{arith}
-use borrow.Author.Tests.{eq-eqb, leb-false, ltb-false}
+use borrow.Author.Tests.{leb-false, ltb-false}
 use lib.ListN.{length}
 use lib.Dec.{ltb, leb, eqb}
 use Rattle.laws.specs.Search.{someBelow, countBelow}
@@ -14,25 +14,27 @@ use Rattle.memory.specs.Layout.{areaSize, releaseOpen}
 use Rattle.memory.specs.Area.{load}
 use Rattle.directory.specs.declared.Directory.{Directory}
 use Rattle.directory.specs.declared.Status.{Status}
-use Rattle.directory.specs.Live.{liveAt, nextLive}
+use Rattle.directory.specs.declared.Status.the-variants.{Running, Awaiting}
+use Rattle.directory.specs.Live.{liveAt}
 use Rattle.directory.specs.Directory.{primaryOf, secondaryOf, nextLiveOf}
 use Rattle.directory.proofs.Live.{next-live-below}
-use Rattle.diff.specs.Reading.{start}
-use Rattle.diff.specs.OnlyDiff.{Allowed}
-use Rattle.diff.proofs.OnlyDiff.{allowed-whole}
-use Rattle.diff.proofs.Stored.{good-few}
 use Rattle.protocol.specs.Release.{sizeOf, isOpen}
-use Rattle.protocol.specs.Checks.{firstRefusal, runningChecks, fewLive, badHome, badPage, badStatus, badCard, unfitRack}
-use Rattle.protocol.proofs.Accepting.{Fits, all-passed}
+use Rattle.protocol.specs.Checks.{fewLive, badHome, badPage, badStatus, badCard, unfitRack, awaitsRecovery}
+use Rattle.protocol.specs.Recovery.{awaitedCard}
+use Rattle.protocol.proofs.Accepting.{Fits}
+use Rattle.protocol.proofs.Counting.{highest}
 use Rattle.protocol.proofs.Limits.{Within, within-limits}
 use Rattle.release.specs.Stepping.{CardIn, HomesIn, GoodRelease}
 use Rattle.release.proofs.Callers.{card-in, good-release}
+use Rattle.recovery.specs.Rack.{RackIn, TwoLive}
 
 pub record Fitting (d : Directory) (m : List ℕ) : Type 0 where
   pub within : Within (length m) (d .cards) (d .pages)
   pub primary-below : (p : ℕ) → p < d .pages → primaryOf d p < d .cards
   pub secondary-below : (p : ℕ) → p < d .pages → secondaryOf d p < d .cards
+  pub two : TwoLive (d .live) (d .cards)
   pub next-below : (c : ℕ) → nextLiveOf d c < d .cards
+  pub awaited : awaitsRecovery (d .status) ≡ true → awaitedCard (d .status) < d .cards
   pub good : (c : ℕ) → c < d .cards → isOpen (d .live) (sizeOf d) m c ≡ true → GoodRelease (d .pages) m c
 
 -- ---- each part of check 2
@@ -58,23 +60,26 @@ open-good marks pages m c passed opened =
     let release = neither (ltb 1 (load (areaSize pages) m c releaseOpen)) _ (rw live at passed) in
     good-release pages m c (rw one at (release .1))
 
--- one of the numbers that were counted
-counted : (test : ℕ → Bool) (n : ℕ) → 0 < countBelow test n → (i : ℕ) × ((i < n) × (test i ≡ true))
-unfolding countBelow
-counted test zero some = absurd (omega arith)
-counted test (suc n) some = go (test n) refl some (counted test n)
-  where
-    go : (pass : Bool) → test n ≡ pass → 0 < countBelow test n + cond pass 1 0
-        → (0 < countBelow test n → (i : ℕ) × ((i < n) × (test i ≡ true))) → (i : ℕ) × ((i < suc n) × (test i ≡ true))
-    go true hit some below = (n, (omega arith, hit))
-    go false miss some below = let rest = below (omega arith) in (rest .0, (omega (arith, rest .1 .0), rest .1 .1))
-
-next-in : (marks : List Bool) (cards c : ℕ) → fewLive marks cards ≡ false → nextLive marks cards c < cards
+two-live : (marks : List Bool) (cards : ℕ) → fewLive marks cards ≡ false → TwoLive marks cards
 unfolding fewLive
-next-in marks cards c passed =
-    let two = ltb-false (countBelow (liveAt marks) cards) 2 passed in
-    let one = counted (liveAt marks) cards (omega arith) in
-    next-live-below marks cards c (one .0) (one .1 .0) (one .1 .1)
+two-live marks cards passed =
+    let x = highest (liveAt marks) 1 cards (ltb-false (countBelow (liveAt marks) cards) 2 passed) in
+    let y = highest (liveAt marks) 0 (x .index) (x .others) in
+    record {
+      one = x .index;
+      two = y .index;
+      apart = omega (arith, y .below);
+      one-below = x .below;
+      two-below = omega (arith, x .below, y .below);
+      one-live = x .passes;
+      two-live = y .passes;
+    }
+
+awaited-below : (cards : ℕ) (marks : List Bool) (status : Status) → badStatus cards marks status ≡ false
+    → awaitsRecovery status ≡ true → awaitedCard status < cards
+unfolding badStatus awaitsRecovery awaitedCard
+awaited-below cards marks Running passed awaits = absurd (false≢true awaits)
+awaited-below cards marks (Awaiting f) passed awaits = leb-false cards f (neither (leb cards f) _ passed .0)
 
 -- ---- the whole
 
@@ -87,24 +92,19 @@ fitting {d} {m} fits =
     let homes : (p : ℕ) → p < d .pages → (primaryOf d p < d .cards) × (secondaryOf d p < d .cards)
     = λ p below. homes-below d p (none-below (badPage d) _ (pages .0) p below)
     in
+    let two = two-live (d .live) (d .cards) (live .0) in
     record {
       within = within-limits _ _ _ (fits .limits);
       primary-below = λ p below. homes p below .0;
       secondary-below = λ p below. homes p below .1;
-      next-below = λ c. next-in (d .live) (d .cards) c (live .0);
+      two = two;
+      next-below = λ c. next-live-below (d .live) (d .cards) c (two .one) (two .one-below) (two .one-live);
+      awaited = awaited-below (d .cards) (d .live) (d .status) (cards .0);
       good = λ c below.
           open-good (d .live) (d .pages) m c (none-below (badCard (d .live) (d .pages) m) _ (cards .1) c below);
     }
 
 module _ (d : Directory) (m : List ℕ) where
-  -- where 1, 2 and 11 do not refuse
-  pub running-fits : {number : ℕ} → number ≡ firstRefusal (runningChecks d m) 0 .number → number ≡ 0 → Fitting d m
-  running-fits reached none =
-      let passed =
-      all-passed (runningChecks d m) 0 refl (eq-eqb _ 0 (sym reached ∙ none))
-      in
-      fitting (record { limits = passed .0; fit = passed .1 .0 })
-
   -- what a step relies on
   pub homes-in : Fitting d m → length (d .live) ≡ 8 → length (d .primary) ≡ 64 → length (d .secondary) ≡ 64
       → HomesIn (d .live) (d .pages) (d .primary) (d .secondary) (length m)
@@ -121,9 +121,8 @@ module _ (d : Directory) (m : List ℕ) where
         secondary-in = λ p below. in-card _ (fit .secondary-below p below);
       }
 
--- a list that is allowed has at most 512 words
-pub allowed-few : (pages : ℕ) (list : List ℕ) → Allowed pages list → length list ≤ 512
-allowed-few pages list allowed =
-    let whole = allowed-whole pages list allowed in
-    let few = good-few pages (whole .0) (0 + length list) list start 0 (whole .1) (omega arith) (omega arith) in
-    omega arith
+  -- what recovery and join rely on
+  pub rack-in : Fitting d m → length (d .live) ≡ 8 → RackIn (d .live) (d .cards) (d .pages) (length m)
+  rack-in fit marks =
+      let w = fit .within in
+      record { few = w .pages-most; eight = w .cards-most; marks = marks; whole = w .whole }

@@ -1,5 +1,4 @@
--- What the proofs of the calls cite: what passed checks leave of a rack, which check refuses first, and what a call
--- leaves that is refused or accepted.
+-- What the proofs of the calls cite: what passed checks leave of a rack, and what a call leaves that is refused or
+-- accepted.
 pub mod Fitting
-pub mod Refusing
 pub mod Results

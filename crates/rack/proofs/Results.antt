@@ -1,26 +1,32 @@
 -- What a call leaves, by the outcome that its checks reach: a refusal leaves all as it was.
 use Prim.Native.Nat.{ℕ, _<_}
-use mathlib.Core.Path.{_≡_, refl}
+use mathlib.Core.Path.{_≡_, refl, sym, _∙_}
 use mathlib.Core.Logic.{_≢_}
 use mathlib.Core.List.{List, []}
 use mathlib.Core.Bool.{true}
-use borrow.Author.Tests.{eq-eqb, ne-eqb}
+use borrow.Author.Tests.{eq-eqb, ne-eqb, not-false}
 use lib.ListN.{length}
 use Rattle.answer.specs.declared.Outcome.{Outcome}
+use Rattle.answer.specs.Outcome.{given, refused}
 use Rattle.memory.specs.Layout.{deskSize}
 use Rattle.memory.specs.Area.{zeros}
 use Rattle.directory.specs.declared.Directory.{Directory}
-use Rattle.directory.specs.Directory.{backupOf}
+use Rattle.directory.specs.Directory.{backupOf, markedLive}
 use Rattle.protocol.specs.Release.{Release, sizeOf, stepMemory}
-use Rattle.protocol.specs.Checks.{Check, firstRefusal}
+use Rattle.protocol.specs.Checks.{Check, firstRefusal, awaitsRecovery}
 use Rattle.protocol.specs.Result.{Result, resultOf}
 use Rattle.protocol.specs.Opening.{opening, openingChecks, openMemory}
 use Rattle.protocol.specs.Step.{step, stepChecks}
 use Rattle.protocol.specs.Fetch.{fetch, fetchChecks, committedPage}
 use Rattle.protocol.specs.Failure.{failure, failureChecks, failedDirectory}
+use Rattle.protocol.specs.Recovery.{recovery, recoveryChecks, recoveredDirectory, recoveredMemory, failedRelease}
+use Rattle.protocol.specs.Recovery.{awaitedCard}
+use Rattle.protocol.specs.Join.{join, joinChecks, joinedMemory}
 use Rattle.protocol.specs.DeskQuestion.{deskQuestion, deskChecks, deskOf}
 use Rattle.protocol.proofs.Accepting.{Passed, numbered, all-passed, Runs, OpeningPassed, StepPassed, FetchPassed}
+use Rattle.protocol.proofs.Accepting.{Fits, JoinPassed, join-passed}
 use Rattle.protocol.proofs.Accepting.{opening-passed, step-passed, fetch-passed, desk-passed}
+use Rattle.checks.proofs.Order.{refused-before, passed-before, no-check}
 
 -- ---- any call
 
@@ -102,3 +108,43 @@ module _ (d : Directory) (m : List ℕ) where
 
     pub desk-facts : first .number ≡ 0 → Runs d m × (c < d .cards)
     desk-facts none = desk-passed d m c (all-pass (deskChecks d m c) refl reached none)
+
+  module _ (x : ℕ) {first : Outcome} (reached : first ≡ firstRefusal (joinChecks d m x) 0) where
+    pub join-refused : first .number ≢ 0 → join d m x ≡ resultIs first d m []
+    unfolding join
+    join-refused = refused-keeps reached (λ o. resultIs o (markedLive d x) (joinedMemory d x m) []) d m []
+
+    pub join-accepted : first .number ≡ 0 → join d m x ≡ resultIs first (markedLive d x) (joinedMemory d x m) []
+    unfolding join
+    join-accepted = accepted-does reached (λ o. resultIs o (markedLive d x) (joinedMemory d x m) []) d m []
+
+    pub join-facts : first .number ≡ 0 → JoinPassed d m x
+    join-facts none = join-passed d m x (all-pass (joinChecks d m x) refl reached none)
+
+  -- recovery's checks come to a number alone, since the stamp that it answers is not known to them
+  module _ {number : ℕ} (reached : number ≡ firstRefusal (recoveryChecks d m) 0 .number) where
+    abbrev failed : ℕ
+    failed = awaitedCard (d .status)
+
+    abbrev done : Outcome → Result
+    done o = resultIs o (recoveredDirectory d failed) (recoveredMemory d failed m) (failedRelease d failed m .desk)
+
+    abbrev stamp : ℕ
+    stamp = failedRelease d failed m .number
+
+    pub recovery-refused : number ≢ 0 → recovery d m ≡ resultIs (refused number) d m (zeros deskSize)
+    unfolding recovery
+    recovery-refused some =
+        let first = refused-before [] stamp (recoveryChecks d m) refl reached some in
+        refused-keeps (sym first) done d m (zeros deskSize) some
+
+    pub recovery-accepted : number ≡ 0 → recovery d m ≡ done (given stamp)
+    unfolding recovery
+    recovery-accepted none =
+        let first = passed-before [] stamp (recoveryChecks d m) refl reached none ∙ no-check stamp in
+        accepted-does (sym first) done d m (zeros deskSize) refl
+
+    pub recovery-facts : number ≡ 0 → Fits d m × (awaitsRecovery (d .status) ≡ true)
+    recovery-facts none =
+        let p = all-passed (recoveryChecks d m) 0 refl (eq-eqb _ 0 (sym reached ∙ none)) in
+        (record { limits = p .0; fit = p .1 .0 }, not-false (awaitsRecovery (d .status)) (p .1 .1 .0))

@@ -3,7 +3,7 @@
 ghost use mathlib.Core.Path.{_≡_};
 ghost use Prim.Native.Nat.{_+_, _<_, _≤_};
 ghost use lib.ListN.{length};
-ghost use Rattle.answer.specs.Outcome.{outcome};
+ghost use Rattle.answer.specs.Outcome.{answerOf};
 ghost use Rattle.memory.specs.Layout.{listStart, listSize};
 ghost use Rattle.memory.specs.Area.{AreaIn, loadRun};
 ghost use Rattle.diff.specs.Reading.{start, pastPrice, pageStep, runStep, endStep, wordStep, readDiff, checkDiff};
@@ -160,7 +160,7 @@ pub fn read_stored(memory: &[u32], size: usize, card: usize, pages: u32) -> Verd
 
 // Checks a list handed in: gives the number of its prices, or refusal 7 with its place.
 pub fn check(list: &[u32], pages: u32) -> Answer
-    ensures { λ r. ⌜ outcome r ≡ checkDiff pages (now (list .entry)) ⌝ }
+    ensures { λ r. ⌜ r ≡ answerOf (checkDiff pages (now (list .entry))) ⌝ }
 {
     match read(list, pages) {
         Verdict::Good(prices, words) => {

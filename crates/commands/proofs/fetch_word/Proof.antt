@@ -1,5 +1,8 @@
+use Rattle.answer.proofs.Told.{told}
 use mathlib.Core.Path.{_∙_}
 use borrow.Author.Tests.{eq-eqb, ne-eqb}
+use Rattle.memory.specs.Layout.{pageSize}
+use Rattle.protocol.specs.Fetch.{fetch}
 use Rattle.memory.specs.Area.{zeros}
 use Rattle.commands.specs.Execute.{fetchWord}
 use borrow.Author.Needs.{needs}
@@ -28,7 +31,9 @@ returns : tie.Need-returns
 unfolding fetchWord zeros
 returns c =
     let fetched = c .before .before .before .before .before .fetch-page .ensures in
-    let comes = c .before .before .outcome-of .ensures ∙ fetched .0 in
+    let a = c .before .before .before .before .before .before .before .before .args in
+    let came = fetch (a .directory) (a .memory .now) (a .page) (zeros pageSize) .outcome in
+    let comes = c .before .before .outcome-of .ensures ∙ told came (fetched .0) in
     (rw (← comes) (simp (ne-eqb _ _ (c .if1 .taken))), fetched .1 .0)
 
 -- src/lib.rt:107:25
@@ -48,7 +53,9 @@ returns-2 : tie.Need-returns-2
 unfolding fetchWord zeros
 returns-2 c =
     let fetched = c .before .before .before .before .before .before .before .fetch-page .ensures in
-    let comes = c .before .before .before .before .outcome-of .ensures ∙ fetched .0 in
+    let a = c .before .before .before .before .before .before .before .before .before .before .args in
+    let came = fetch (a .directory) (a .memory .now) (a .page) (zeros pageSize) .outcome in
+    let comes = c .before .before .before .before .outcome-of .ensures ∙ told came (fetched .0) in
     (rw (← comes, ← fetched .1 .1, ← c .price-in .ensures) (simp (eq-eqb _ _ (c .before .before .if1 .left))), fetched .1 .0)
 
 pub fetch-word-spec : {M : Type 1} → statement M

@@ -1,3 +1,4 @@
+use Rattle.answer.proofs.Told.{told}
 use Prim.Native.Nat.{_-_, _≤_}
 use mathlib.Core.Path.{_≡_, sym, _∙_}
 use native.Mathlib.Omega.{arith}
@@ -49,7 +50,7 @@ returns : tie.Need-returns Inv-loop μ-loop
 returns c =
     let at = c .before .before .before .before .before .before .before .before .before .loop in
     let stepped = c .before .before .before .before .before .before .make-step .ensures in
-    let comes = c .before .before .outcome-of .ensures ∙ stepped .0 in
+    let comes = c .before .before .outcome-of .ensures ∙ told _ (stepped .0) in
     let some = c .before .before .before .before .before .before .before .before .loop-test .taken in
     let whole = sym (step-refused _ _ _ _ _ some comes (stepped .1 .0) (stepped .1 .1) (c .if1 .taken)) ∙ at .inv .2 in
     all-parts whole
@@ -67,7 +68,7 @@ loop-again : tie.Need-loop-again Inv-loop μ-loop
 loop-again c =
     let at = c .before .before .before .before .before .before .before .before .before .loop in
     let stepped = c .before .before .before .before .before .before .make-step .ensures in
-    let comes = c .before .before .outcome-of .ensures ∙ stepped .0 in
+    let comes = c .before .before .outcome-of .ensures ∙ told _ (stepped .0) in
     let some = c .before .before .before .before .before .before .before .before .loop-test .taken in
     (
       search needs,

@@ -1,4 +1,5 @@
 use mathlib.Core.Path.{_∙_}
+use Rattle.answer.proofs.Told.{told}
 use Rattle.memory.specs.Area.{zeros}
 use Rattle.commands.specs.Execute.{openOne}
 use borrow.Author.Needs.{needs}
@@ -46,7 +47,7 @@ returns : tie.Need-returns
 unfolding openOne zeros
 returns c =
     let opened = c .before .before .before .before .open-release .ensures in
-    (c .outcome-of .ensures ∙ opened .0, opened .1)
+    (c .outcome-of .ensures ∙ told _ (opened .0), opened .1)
 
 pub open-one-spec : {M : Type 1} → statement M
 open-one-spec =

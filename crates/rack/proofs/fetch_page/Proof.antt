@@ -9,71 +9,38 @@ use Rattle.rack.proofs.Results.{fetch-facts, fetch-refused, fetch-accep
 use Rattle.rack.proofs.fetch_page.Statement.{statement}
 use Rattle.rack.proofs.fetch_page.Tie as tie
 
-slice-aggregate-fetch-refusal : tie.Need-slice-aggregate-fetch-refusal
-slice-aggregate-fetch-refusal c = search needs
-
-slice-aggregate-fetch-refusal-2 : tie.Need-slice-aggregate-fetch-refusal-2
-slice-aggregate-fetch-refusal-2 c = search needs
-
-slice-aggregate-fetch-refusal-3 : tie.Need-slice-aggregate-fetch-refusal-3
-slice-aggregate-fetch-refusal-3 c = search needs
-
-fetch-refusal-requires : tie.Need-fetch-refusal-requires
-fetch-refusal-requires c κs = search needs
+fetch-requires : tie.Need-fetch-requires
+fetch-requires c κs = search needs
 
 answer-of-requires : tie.Need-answer-of-requires
 answer-of-requires c κs = search needs
 
 returns : tie.Need-returns
 returns c =
-    let first = c .before .before .before in
-    let start = first .before .before .before .before .before .before .before .before .before in
+    let answered = c .before .before in
+    let first = answered .before in
+    let start = first .before .before .before in
     let a = start .args in
     let d = a .directory in
     let m = a .memory .now in
-    rw (fetch-refused d m (a .page) (a .buffer .now) (first .fetch-refusal .ensures) (c .if1 .taken))
-    (c .before .before .answer-of .ensures, (refl, refl))
+    rw (fetch-refused d m (a .page) (a .buffer .now) (first .fetch .ensures) (c .if1 .taken))
+    (answered .answer-of .ensures, (refl, refl))
 
 area-size-requires : tie.Need-area-size-requires
 area-size-requires c κs =
     let first = c .before .before .before in
-    let start = first .before .before .before .before .before .before .before .before .before in
+    let start = first .before .before .before in
     let a = start .args in
     let d = a .directory in
     let m = a .memory .now in
-    let passed = fetch-facts d m (a .page) (a .buffer .now) (first .fetch-refusal .ensures) (c .if1 .left) in
-    let fit = fitting (passed .runs .fits) in
-    search needs
+    let passed = fetch-facts d m (a .page) (a .buffer .now) (first .fetch .ensures) (c .if1 .left) in
+    omega (arith, fitting (passed .runs .fits) .within .pages-most)
 
-mul-home : tie.Need-mul-home
-mul-home c = search needs
-
-array-read-home : tie.Need-array-read-home
-array-read-home c =
-    let test = c .before in
-    let first = test .before .before .before in
-    let start = first .before .before .before .before .before .before .before .before .before in
-    let a = start .args in
-    let d = a .directory in
-    let m = a .memory .now in
-    let passed = fetch-facts d m (a .page) (a .buffer .now) (first .fetch-refusal .ensures) (test .if1 .left) in
-    let fit = fitting (passed .runs .fits) in
-    search needs
+primary-of-requires : tie.Need-primary-of-requires
+primary-of-requires c κs = search needs
 
 cast-home : tie.Need-cast-home
-cast-home c =
-    let test = c .before in
-    let first = test .before .before .before in
-    let start = first .before .before .before .before .before .before .before .before .before in
-    let a = start .args in
-    let d = a .directory in
-    let m = a .memory .now in
-    let passed = fetch-facts d m (a .page) (a .buffer .now) (first .fetch-refusal .ensures) (test .if1 .left) in
-    let fit = fitting (passed .runs .fits) in
-    let within = fit .within in
-    let primary = fit .primary-below (a .page) (passed .page-below) in
-    let secondary = fit .secondary-below (a .page) (passed .page-below) in
-    omega arith
+cast-home c = search needs
 
 mul-start : tie.Need-mul-start
 mul-start c = search needs
@@ -86,18 +53,18 @@ add-start-2 c = search needs
 
 load-run-requires : tie.Need-load-run-requires
 load-run-requires c κs =
-    let test = c .before .before in
+    let sized = c .before .before in
+    let test = sized .before in
     let first = test .before .before .before in
-    let start = first .before .before .before .before .before .before .before .before .before in
+    let start = first .before .before .before in
     let a = start .args in
     let d = a .directory in
     let m = a .memory .now in
-    let passed = fetch-facts d m (a .page) (a .buffer .now) (first .fetch-refusal .ensures) (test .if1 .left) in
+    let passed = fetch-facts d m (a .page) (a .buffer .now) (first .fetch .ensures) (test .if1 .left) in
     let fit = fitting (passed .runs .fits) in
-    let within = fit .within in
-    let primary = area-in _ (fit .primary-below (a .page) (passed .page-below)) (within .whole) in
-    let secondary = area-in _ (fit .secondary-below (a .page) (passed .page-below)) (within .whole) in
-    rw (c .before .area-size .ensures) (omega arith, omega arith)
+    let area = area-in _ (fit .primary-below (a .page) (passed .page-below)) (fit .within .whole) in
+    let home = rw (← c .before .primary-of .ensures) at area in
+    rw (sized .area-size .ensures) (home, omega (arith, passed .page-below, passed .room-is))
 
 same-length : tie.Need-same-length
 same-length c = search needs
@@ -105,32 +72,32 @@ same-length c = search needs
 returns-2 : tie.Need-returns-2
 unfolding committedPage
 returns-2 c =
-    let test = c .before .before .before .before .before in
-    let first = test .before .before .before in
-    let start = first .before .before .before .before .before .before .before .before .before in
+    let loaded = c .before .before in
+    let home-at = loaded .before .before in
+    let sized = home-at .before in
+    let test = sized .before in
+    let answered = test .before .before in
+    let first = answered .before in
+    let start = first .before .before .before in
     let a = start .args in
     let d = a .directory in
     let m = a .memory .now in
-    let passed = fetch-facts d m (a .page) (a .buffer .now) (first .fetch-refusal .ensures) (test .if1 .left) in
-    let loaded = c .before .before in
-    let sized = loaded .before .before in
-    let words = rw (sized .area-size .ensures, passed .room-is) at (loaded .load-run .ensures) in
-    rw (fetch-accepted d m (a .page) (a .buffer .now) (first .fetch-refusal .ensures) (test .if1 .left))
-    (test .before .before .answer-of .ensures, (refl, words))
+    let passed = fetch-facts d m (a .page) (a .buffer .now) (first .fetch .ensures) (test .if1 .left) in
+    let words =
+    rw (sized .area-size .ensures, home-at .primary-of .ensures, passed .room-is) at (loaded .load-run .ensures)
+    in
+    rw (fetch-accepted d m (a .page) (a .buffer .now) (first .fetch .ensures) (test .if1 .left))
+    (answered .answer-of .ensures, (refl, words))
 
 pub fetch-page-spec : {M : Type 1} → statement M
 fetch-page-spec =
     tie.close
     (tie.spec
-    slice-aggregate-fetch-refusal
-    slice-aggregate-fetch-refusal-2
-    slice-aggregate-fetch-refusal-3
-    fetch-refusal-requires
+    fetch-requires
     answer-of-requires
     returns
     area-size-requires
-    mul-home
-    array-read-home
+    primary-of-requires
     cast-home
     mul-start
     add-start

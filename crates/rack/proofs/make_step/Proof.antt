@@ -10,17 +10,8 @@ use Rattle.rack.proofs.Results.{step-facts, step-refused, step-accepted
 use Rattle.rack.proofs.make_step.Statement.{statement}
 use Rattle.rack.proofs.make_step.Tie as tie
 
-slice-aggregate-step-refusal : tie.Need-slice-aggregate-step-refusal
-slice-aggregate-step-refusal c = search needs
-
-slice-aggregate-step-refusal-2 : tie.Need-slice-aggregate-step-refusal-2
-slice-aggregate-step-refusal-2 c = search needs
-
-slice-aggregate-step-refusal-3 : tie.Need-slice-aggregate-step-refusal-3
-slice-aggregate-step-refusal-3 c = search needs
-
-step-refusal-requires : tie.Need-step-refusal-requires
-step-refusal-requires c κs = search needs
+step-requires : tie.Need-step-requires
+step-requires c κs = search needs
 
 answer-of-requires : tie.Need-answer-of-requires
 answer-of-requires c κs = search needs
@@ -30,19 +21,16 @@ same-length c = search needs
 
 returns : tie.Need-returns
 returns c =
-    let first = c .before .before .before in
-    let start = first .before .before .before .before .before .before .before .before .before in
+    let answered = c .before .before in
+    let first = answered .before in
+    let start = first .before .before .before in
     let a = start .args in
     let d = a .directory in
     let m = a .memory .now in
-    rw (step-refused d m (a .card) (first .step-refusal .ensures) (c .if1 .taken))
-    (c .before .before .answer-of .ensures, (refl, refl))
+    rw (step-refused d m (a .card) (first .step .ensures) (c .if1 .taken)) (answered .answer-of .ensures, (refl, refl))
 
-slice-aggregate-next-live-after : tie.Need-slice-aggregate-next-live-after
-slice-aggregate-next-live-after c = search needs
-
-next-live-after-requires : tie.Need-next-live-after-requires
-next-live-after-requires c κs = search needs
+backup-requires : tie.Need-backup-requires
+backup-requires c κs = search needs
 
 cast-backup : tie.Need-cast-backup
 cast-backup c = search needs
@@ -58,9 +46,10 @@ slice-aggregate-step-release-3 c = search needs
 
 step-release-requires : tie.Need-step-release-requires
 step-release-requires c κs =
-    let test = c .before .before .before .before .before .before in
+    let next-at = c .before .before .before .before in
+    let test = next-at .before .before .before .before in
     let first = test .before .before .before in
-    let start = first .before .before .before .before .before .before .before .before .before in
+    let start = first .before .before .before in
     let a = start .args in
     let d = a .directory in
     let m = a .memory .now in
@@ -68,10 +57,10 @@ step-release-requires c κs =
     let marks : length (d .live) ≡ 8 = length-unmapped _ (d .live) 8 (arrays .0 .1 .0 .1) in
     let primaries : length (d .primary) ≡ 64 = length-unmapped _ (d .primary) 64 (arrays .1 .0 .1 .0 .1) in
     let secondaries : length (d .secondary) ≡ 64 = length-unmapped _ (d .secondary) 64 (arrays .1 .1 .0 .1 .0 .1) in
-    let passed = step-facts d m (a .card) (first .step-refusal .ensures) (test .if1 .left) in
+    let passed = step-facts d m (a .card) (first .step .ensures) (test .if1 .left) in
     let fit = fitting (passed .runs .fits) in
     let within = fit .within in
-    let next = c .before .before .before .before .next-live-after in
+    let next = next-at .backup in
     let below : next .result < d .cards = rw (next .ensures) (fit .next-below (a .card)) in
     let own = card-in (d .live) (sizeOf d) marks (within .cards-most) (within .whole) (passed .below) in
     let backup = card-in (d .live) (sizeOf d) marks (within .cards-most) (within .whole) below in
@@ -83,31 +72,28 @@ same-length-2 c = search needs
 
 returns-2 : tie.Need-returns-2
 returns-2 c =
-    let test = c .before .before .before .before .before .before .before .before .before in
-    let first = test .before .before .before in
-    let start = first .before .before .before .before .before .before .before .before .before in
+    let stepped = c .before .before in
+    let next = stepped .before .before .before .before .before in
+    let test = next .before .before .before .before in
+    let answered = test .before .before in
+    let first = answered .before in
+    let start = first .before .before .before in
     let a = start .args in
     let d = a .directory in
     let m = a .memory .now in
-    let stepped = c .before .before in
-    let next = stepped .before .before .before .before .before in
-    let made = rw (next .next-live-after .ensures) at (stepped .step-release .ensures) in
-    rw (step-accepted d m (a .card) (first .step-refusal .ensures) (test .if1 .left))
-    (test .before .before .answer-of .ensures, (refl, made ∙ step-by-homes d _ m (a .card)))
+    let made = rw (next .backup .ensures) at (stepped .step-release .ensures) in
+    rw (step-accepted d m (a .card) (first .step .ensures) (test .if1 .left))
+    (answered .answer-of .ensures, (refl, made ∙ step-by-homes d _ m (a .card)))
 
 pub make-step-spec : {M : Type 1} → statement M
 make-step-spec =
     tie.close
     (tie.spec
-    slice-aggregate-step-refusal
-    slice-aggregate-step-refusal-2
-    slice-aggregate-step-refusal-3
-    step-refusal-requires
+    step-requires
     answer-of-requires
     same-length
     returns
-    slice-aggregate-next-live-after
-    next-live-after-requires
+    backup-requires
     cast-backup
     slice-aggregate-step-release
     slice-aggregate-step-release-2

@@ -3,16 +3,13 @@ use mathlib.Core.Path.{sym, _∙_}
 use native.Mathlib.Omega.{arith}
 use borrow.Author.Needs.{needs}
 use borrow.Author.Tests.{lt-ltb, le-ltb}
-use Rattle.rack.proofs.Fitting.{allowed-few}
-use Rattle.rack.proofs.Refusing.{first-refuses, first-passes, last-passes}
-use Rattle.rack.proofs.list_refusal.Statement.{statement}
-use Rattle.rack.proofs.list_refusal.Tie as tie
+use Rattle.checks.proofs.Order.{first-refuses, first-passes, last-passes}
+use Rattle.refusals.proofs.Passing.{allowed-few}
+use Rattle.refusals.proofs.list_refusal.Statement.{statement}
+use Rattle.refusals.proofs.list_refusal.Tie as tie
 
-check-requires : tie.Need-check-requires
-check-requires c κs = search needs
-
-outcome-of-requires : tie.Need-outcome-of-requires
-outcome-of-requires c κs = search needs
+check-list-requires : tie.Need-check-list-requires
+check-list-requires c κs = search needs
 
 refused-requires : tie.Need-refused-requires
 refused-requires c κs = search needs
@@ -20,13 +17,13 @@ refused-requires c κs = search needs
 returns : tie.Need-returns
 returns c =
     let faulty = c .before in
-    let read = faulty .before .before .outcome-of .ensures ∙ faulty .before .before .before .check .ensures in
-    (rw read at (c .refused .ensures)) ∙ sym (first-refuses _ _ _ _ (rw read at (lt-ltb _ _ (faulty .if1 .taken))))
+    let read = faulty .before .before .check-list .ensures in
+    (rw read at (c .refused .ensures)) ∙ sym (first-refuses _ _ _ _ _ (rw read at (lt-ltb _ _ (faulty .if1 .taken))))
 
 lowest-sharing-requires : tie.Need-lowest-sharing-requires
 lowest-sharing-requires c κs =
-    let read = c .before .before .outcome-of .ensures ∙ c .before .before .before .check .ensures in
-    let a = c .before .before .before .before .before .before .before .args in
+    let read = c .before .before .check-list .ensures in
+    let a = c .before .before .before .before .before .before .args in
     let few = allowed-few (a .pages) (a .list .now) (rw (← read) (omega arith)) in
     search needs
 
@@ -40,11 +37,11 @@ returns-2 : tie.Need-returns-2
 returns-2 c =
     let shared = c .before in
     let faulty = shared .before .before in
-    let read = faulty .before .before .outcome-of .ensures ∙ faulty .before .before .before .check .ensures in
+    let read = faulty .before .before .check-list .ensures in
     let found = shared .before .lowest-sharing .ensures in
     (rw found at (c .refused2 .ensures))
-    ∙ sym (first-passes _ _ _ _ (rw read at (le-ltb _ _ (faulty .if1 .left)))
-    ∙ first-refuses _ _ _ _ (rw found at (lt-ltb _ _ (shared .if2 .taken))))
+    ∙ sym (first-passes _ _ _ _ _ (rw read at (le-ltb _ _ (faulty .if1 .left)))
+    ∙ first-refuses _ _ _ _ _ (rw found at (lt-ltb _ _ (shared .if2 .taken))))
 
 refused-requires-3 : tie.Need-refused-requires-3
 refused-requires-3 c κs = search needs
@@ -53,18 +50,17 @@ returns-3 : tie.Need-returns-3
 returns-3 c =
     let shared = c .before in
     let faulty = shared .before .before in
-    let read = faulty .before .before .outcome-of .ensures ∙ faulty .before .before .before .check .ensures in
+    let read = faulty .before .before .check-list .ensures in
     let found = shared .before .lowest-sharing .ensures in
     c .refused3 .ensures
-    ∙ sym (first-passes _ _ _ _ (rw read at (le-ltb _ _ (faulty .if1 .left)))
-    ∙ last-passes _ _ _ (rw found at (le-ltb _ _ (shared .if2 .left))))
+    ∙ sym (first-passes _ _ _ _ _ (rw read at (le-ltb _ _ (faulty .if1 .left)))
+    ∙ last-passes _ _ _ _ (rw found at (le-ltb _ _ (shared .if2 .left))))
 
 pub list-refusal-spec : {M : Type 1} → statement M
 list-refusal-spec =
     tie.close
     (tie.spec
-    check-requires
-    outcome-of-requires
+    check-list-requires
     refused-requires
     returns
     lowest-sharing-requires

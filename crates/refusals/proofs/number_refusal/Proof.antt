@@ -5,9 +5,9 @@ use borrow.Author.Needs.{needs}
 use borrow.Author.Tests.{lt-ltb, le-ltb, le-leb, lt-leb}
 use Rattle.memory.proofs.Index.{area-in}
 use Rattle.protocol.specs.Release.{ownRelease}
-use Rattle.rack.proofs.Refusing.{first-refuses, first-passes}
-use Rattle.rack.proofs.number_refusal.Statement.{statement}
-use Rattle.rack.proofs.number_refusal.Tie as tie
+use Rattle.checks.proofs.Order.{first-refuses, first-passes}
+use Rattle.refusals.proofs.number_refusal.Statement.{statement}
+use Rattle.refusals.proofs.number_refusal.Tie as tie
 
 area-size-requires : tie.Need-area-size-requires
 area-size-requires c κs = search needs
@@ -26,7 +26,7 @@ returns c =
     let busy = c .before in
     let size = busy .before .before .area-size .ensures in
     let opened = sym (rw size at (busy .before .is-open .ensures)) ∙ busy .if1 .taken in
-    c .refused .ensures ∙ sym (first-refuses _ _ _ _ opened)
+    c .refused .ensures ∙ sym (first-refuses _ _ _ _ _ opened)
 
 load-word-requires : tie.Need-load-word-requires
 load-word-requires c κs =
@@ -48,8 +48,8 @@ returns-2 c =
     let opened = sym (rw size at (busy .before .is-open .ensures)) ∙ busy .if1 .left in
     let stamp = rw size at (used .before .load-word .ensures) in
     (rw stamp at (c .refused2 .ensures))
-    ∙ sym (first-passes _ _ _ _ opened
-    ∙ first-refuses _ _ _ _ (rw stamp at (le-leb _ _ (used .if2 .taken))))
+    ∙ sym (first-passes _ _ _ _ _ opened
+    ∙ first-refuses _ _ _ _ _ (rw stamp at (le-leb _ _ (used .if2 .taken))))
 
 add-if3 : tie.Need-add-if3
 add-if3 c = omega arith
@@ -66,9 +66,9 @@ returns-3 c =
     let opened = sym (rw size at (busy .before .is-open .ensures)) ∙ busy .if1 .left in
     let stamp = rw size at (used .before .load-word .ensures) in
     c .refused3 .ensures
-    ∙ sym (first-passes _ _ _ _ opened
-    ∙ first-passes _ _ _ _ (rw stamp at (lt-leb _ _ (used .if2 .left)))
-    ∙ first-refuses _ _ _ _ (rw stamp at (lt-ltb _ _ (c .before .if3 .taken))))
+    ∙ sym (first-passes _ _ _ _ _ opened
+    ∙ first-passes _ _ _ _ _ (rw stamp at (lt-leb _ _ (used .if2 .left)))
+    ∙ first-refuses _ _ _ _ _ (rw stamp at (lt-ltb _ _ (c .before .if3 .taken))))
 
 list-refusal-requires : tie.Need-list-refusal-requires
 list-refusal-requires c κs = search needs
@@ -82,9 +82,9 @@ returns-4 c =
     let opened = sym (rw size at (busy .before .is-open .ensures)) ∙ busy .if1 .left in
     let stamp = rw size at (used .before .load-word .ensures) in
     c .list-refusal .ensures
-    ∙ sym (first-passes _ _ _ _ opened
-    ∙ first-passes _ _ _ _ (rw stamp at (lt-leb _ _ (used .if2 .left)))
-    ∙ first-passes _ _ _ _ (rw stamp at (le-ltb _ _ (c .before .if3 .left))))
+    ∙ sym (first-passes _ _ _ _ _ opened
+    ∙ first-passes _ _ _ _ _ (rw stamp at (lt-leb _ _ (used .if2 .left)))
+    ∙ first-passes _ _ _ _ _ (rw stamp at (le-ltb _ _ (c .before .if3 .left))))
 
 pub number-refusal-spec : {M : Type 1} → statement M
 number-refusal-spec =

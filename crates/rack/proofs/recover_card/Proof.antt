@@ -1,0 +1,100 @@
+-- Rests on its checks: an accepted recovery finds two live cards, homes that are cards and releases that read well.
+use mathlib.Core.Path.{_≡_, refl}
+use native.Mathlib.Omega.{arith}
+use borrow.Author.Needs.{needs, length-unmapped}
+use borrow.Author.Tests.{ne-eqb}
+use lib.ListN.{length}
+use Rattle.memory.specs.Area.{zeros}
+use Rattle.rack.proofs.Fitting.{fitting, rack-in, homes-in}
+use Rattle.rack.proofs.Results.{recovery-facts, recovery-refused, recovery-accepted}
+use Rattle.rack.proofs.recover_card.Statement.{statement}
+use Rattle.rack.proofs.recover_card.Tie as tie
+
+recovery-requires : tie.Need-recovery-requires
+recovery-requires c κs = search needs
+
+same-length : tie.Need-same-length
+same-length c = search needs
+
+returns : tie.Need-returns
+unfolding zeros
+returns c =
+    let start = c .before .before .before .before in
+    let a = start .args in
+    let d = a .directory in
+    let m = a .memory .now in
+    rw (recovery-refused d m (c .before .recovery .ensures) (c .if1 .taken), ne-eqb _ _ (c .if1 .taken))
+    (refl, (refl, (refl, refl)))
+
+awaited-card-requires : tie.Need-awaited-card-requires
+awaited-card-requires c κs = search needs
+
+slice-aggregate-recover-memory : tie.Need-slice-aggregate-recover-memory
+slice-aggregate-recover-memory c = search needs
+
+recover-memory-requires : tie.Need-recover-memory-requires
+recover-memory-requires c κs =
+    let awaiting = c .before .before in
+    let test = awaiting .before in
+    let first = test .before in
+    let start = first .before .before .before in
+    let a = start .args in
+    let d = a .directory in
+    let m = a .memory .now in
+    let arrays = start .good .1 .0 .1 .1 .1 .1 in
+    let marks : length (d .live) ≡ 8 = length-unmapped _ (d .live) 8 (arrays .0 .1 .0 .1) in
+    let primaries : length (d .primary) ≡ 64 = length-unmapped _ (d .primary) 64 (arrays .1 .0 .1 .0 .1) in
+    let secondaries : length (d .secondary) ≡ 64 = length-unmapped _ (d .secondary) 64 (arrays .1 .1 .0 .1 .0 .1) in
+    let passed = recovery-facts d m (first .recovery .ensures) (test .if1 .left) in
+    let fit = fitting (passed .0) in
+    let below = rw (← awaiting .awaited-card .ensures) at (fit .awaited (passed .1)) in
+    let eight = fit .within .cards-most in
+    let homes = homes-in d m fit marks primaries secondaries in
+    (rack-in d m fit marks, (homes, (fit .two, ((omega arith, search needs), record { good = fit .good }))))
+
+recovered-directory-requires : tie.Need-recovered-directory-requires
+recovered-directory-requires c κs =
+    let test = c .before .before .before .before .before .before .before in
+    let first = test .before in
+    let start = first .before .before .before in
+    let a = start .args in
+    let d = a .directory in
+    let m = a .memory .now in
+    let passed = recovery-facts d m (first .recovery .ensures) (test .if1 .left) in
+    fitting (passed .0) .within .pages-most
+
+cast-t19 : tie.Need-cast-t19
+cast-t19 c = search needs
+
+same-length-2 : tie.Need-same-length-2
+same-length-2 c = search needs
+
+returns-2 : tie.Need-returns-2
+returns-2 c =
+    let recovering = c .before .before .before .before in
+    let awaiting = recovering .before .before .before in
+    let test = awaiting .before in
+    let first = test .before in
+    let start = first .before .before .before in
+    let a = start .args in
+    let d = a .directory in
+    let m = a .memory .now in
+    let done = rw (awaiting .awaited-card .ensures) at (recovering .recover-memory .ensures) in
+    let moved = rw (awaiting .awaited-card .ensures) at (c .recovered-directory .ensures) in
+    rw (recovery-accepted d m (first .recovery .ensures) (test .if1 .left))
+    (rw (done .0), (moved, (done .1 .0, done .1 .1)))
+
+pub recover-card-spec : {M : Type 1} → statement M
+recover-card-spec =
+    tie.close
+    (tie.spec
+    recovery-requires
+    same-length
+    returns
+    awaited-card-requires
+    slice-aggregate-recover-memory
+    recover-memory-requires
+    recovered-directory-requires
+    cast-t19
+    same-length-2
+    returns-2)

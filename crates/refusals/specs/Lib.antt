@@ -1,0 +1,2 @@
+-- What the contracts of the refusals cite beside the definitions of `protocol`.
+pub mod Parts

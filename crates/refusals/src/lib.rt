@@ -1,0 +1,222 @@
+// Which calls the rack refuses: document 01's checks, in its order, for each call. A function
+// answers the first refusal with its place, or the number 0 where the call is accepted. A directory
+// comes by value; the searches are lent its arrays.
+ghost use mathlib.Core.Path.{_≡_};
+ghost use Prim.Native.Nat.{_*_, _<_, _≤_};
+ghost use lib.ListN.{length};
+ghost use Rattle.answer.specs.Outcome.{refusedAt};
+ghost use Rattle.memory.specs.Layout.{areaSize};
+ghost use Rattle.diff.specs.Reading.{checkDiff};
+ghost use Rattle.protocol.specs.Checks.{firstRefusal};
+ghost use Rattle.protocol.specs.Opening.{openingChecks};
+ghost use Rattle.protocol.specs.Step.{stepChecks};
+ghost use Rattle.protocol.specs.Fetch.{fetchChecks};
+ghost use Rattle.protocol.specs.Failure.{failureChecks};
+ghost use Rattle.protocol.specs.Recovery.{recoveryChecks};
+ghost use Rattle.protocol.specs.Join.{joinChecks};
+ghost use Rattle.protocol.specs.DeskQuestion.{deskChecks};
+ghost use Rattle.refusals.specs.Parts.{listChecks, numberChecks};
+use answer::Outcome;
+use directory::Directory;
+use directory::Status;
+
+// A refusal, or none if the number is 0.
+fn refused(number: u32, place: u64) -> Outcome
+    ensures { λ r. ⌜ r ≡ refusedAt number place ⌝ }
+{
+    Outcome {
+        number,
+        value: place,
+    }
+}
+
+// ---- opening a release
+
+// What the list reads as: the number of its prices, or refusal 7 with its place.
+fn check_list(list: &[u32], pages: u32) -> Outcome
+    ensures { λ r. ⌜ r ≡ checkDiff pages (now (list .entry)) ⌝ }
+{
+    answer::outcome_of(reader::check(list, pages))
+}
+
+// 7 and 8: the list, and words of it that another card's open release prices.
+fn list_refusal(
+    memory: &[u32],
+    cards: u32,
+    pages: u32,
+    live: &[bool],
+    card: u32,
+    list: &[u32],
+) -> Outcome
+    requires { ⌜ (pages ≤ 64) × (length (now memory) ≡ cards * areaSize pages) ⌝ }
+    requires { ⌜ cards ≤ length (now live) ⌝ }
+    ensures { λ r. ⌜ r
+        ≡ firstRefusal
+        (listChecks cards pages (now (live .entry)) (now (memory .entry)) card (now (list .entry)))
+        0 ⌝ }
+{
+    let read = check_list(list, pages);
+    if 0 < read.number {
+        return refused(answer::FAULTY_LIST, read.value);
+    }
+    let other = conflict::lowest_sharing(memory, cards, pages, live, card, list);
+    if other < cards {
+        return refused(answer::WORD_IN_USE, other as u64);
+    }
+    refused(0, 0)
+}
+
+// 4, 5 and 6, then the list.
+fn number_refusal(
+    memory: &[u32],
+    cards: u32,
+    pages: u32,
+    live: &[bool],
+    card: u32,
+    number: u32,
+    list: &[u32],
+) -> Outcome
+    requires { ⌜ (pages ≤ 64) × (length (now memory) ≡ cards * areaSize pages) ⌝ }
+    requires { ⌜ (cards ≤ length (now live)) × (card < cards) ⌝ }
+    ensures { λ r. ⌜ r
+        ≡ firstRefusal
+        (numberChecks cards pages (now (live .entry)) (now (memory .entry)) card number
+        (now (list .entry)))
+        0 ⌝ }
+{
+    let size = memory::area_size(pages);
+    let at = card as usize;
+    if conflict::is_open(memory, size, live, at) {
+        return refused(answer::RELEASE_OPEN, 0);
+    }
+    let stamp = memory::load_word(memory, size, at, memory::OWN_STAMP);
+    if number <= stamp {
+        return refused(answer::NUMBER_USED, stamp as u64);
+    }
+    if stamp + 1 < number {
+        return refused(answer::NUMBER_AHEAD, 0);
+    }
+    list_refusal(memory, cards, pages, live, card, list)
+}
+
+pub fn opening(
+    memory: &[u32],
+    directory: Directory,
+    card: u32,
+    number: u32,
+    list: &[u32],
+) -> Outcome
+    ensures { λ r. ⌜ r
+        ≡ firstRefusal
+        (openingChecks directory (now (memory .entry)) card number (now (list .entry))) 0 ⌝ }
+{
+    let first = checks::live_card(memory, directory, card);
+    if first != 0 {
+        return refused(first, 0);
+    }
+    let live = directory.live;
+    number_refusal(
+        memory,
+        directory.cards,
+        directory.pages,
+        &live,
+        card,
+        number,
+        list,
+    )
+}
+
+// ---- the other calls
+
+pub fn step(memory: &[u32], directory: Directory, card: u32) -> Outcome
+    ensures { λ r. ⌜ r ≡ firstRefusal (stepChecks directory (now (memory .entry)) card) 0 ⌝ }
+{
+    let first = checks::live_card(memory, directory, card);
+    if first != 0 {
+        return refused(first, 0);
+    }
+    let live = directory.live;
+    let size = memory::area_size(directory.pages);
+    if conflict::is_open(memory, size, &live, card as usize) {
+        return refused(0, 0);
+    }
+    refused(answer::NONE_OPEN, 0)
+}
+
+// `room`: how many words the page buffer has.
+pub fn fetch(memory: &[u32], directory: Directory, page: u32, room: usize) -> Outcome
+    ensures { λ r. ⌜ r
+        ≡ firstRefusal (fetchChecks directory (now (memory .entry)) page room) 0 ⌝ }
+{
+    let first = checks::running(memory, directory);
+    if first != 0 {
+        return refused(first, 0);
+    }
+    let cards = directory.cards;
+    let pages = directory.pages;
+    if pages <= page {
+        return refused(answer::NO_PAGE, 0);
+    }
+    let live = directory.live;
+    let card = conflict::lowest_in_motion(memory, cards, pages, &live, page);
+    if card < cards {
+        return refused(answer::PAGE_IN_MOTION, card as u64);
+    }
+    if room != 32 {
+        return refused(answer::WRONG_BUFFER, 0);
+    }
+    refused(0, 0)
+}
+
+pub fn failure(memory: &[u32], directory: Directory, card: u32) -> Outcome
+    ensures { λ r. ⌜ r ≡ firstRefusal (failureChecks directory (now (memory .entry)) card) 0 ⌝ }
+{
+    let first = checks::live_card(memory, directory, card);
+    if first != 0 {
+        return refused(first, 0);
+    }
+    let live = directory.live;
+    if checks::count_live(&live, directory.cards) <= 2 {
+        return refused(answer::TWO_LIVE, 0);
+    }
+    refused(0, 0)
+}
+
+pub fn desk_question(memory: &[u32], directory: Directory, card: u32) -> Outcome
+    ensures { λ r. ⌜ r ≡ firstRefusal (deskChecks directory (now (memory .entry)) card) 0 ⌝ }
+{
+    refused(checks::card(memory, directory, card), 0)
+}
+
+// The number alone: an accepted recovery answers a stamp, which is not known yet.
+pub fn recovery(memory: &[u32], directory: Directory) -> u32
+    ensures { λ r. ⌜ r
+        ≡ firstRefusal (recoveryChecks directory (now (memory .entry))) 0 .number ⌝ }
+{
+    let first = checks::fitting(memory, directory);
+    if first != 0 {
+        return first;
+    }
+    let status = directory.status;
+    match status {
+        Status::Running => answer::NONE_AWAITED,
+        Status::Awaiting(_) => 0,
+    }
+}
+
+pub fn join(memory: &[u32], directory: Directory, card: u32) -> Outcome
+    ensures { λ r. ⌜ r ≡ firstRefusal (joinChecks directory (now (memory .entry)) card) 0 ⌝ }
+{
+    let first = checks::card(memory, directory, card);
+    if first != 0 {
+        return refused(first, 0);
+    }
+    if directory.is_live(card) {
+        return refused(answer::CARD_LIVE, 0);
+    }
+    let live = directory.live;
+    if conflict::any_open(memory, directory.cards, directory.pages, &live) {
+        return refused(answer::JOIN_WHILE_OPEN, 0);
+    }
+    refused(0, 0)
+}
