@@ -150,7 +150,7 @@ pub fn respond(memory: &mut [u32], session: Session, input: &[u8], output: &mut 
 
 // The input has ended: answers a line that no line feed ended, and says how long the answer is.
 pub fn finish(memory: &mut [u32], session: Session, output: &mut [u8; 80]) -> usize
-    ensures room { λ r. ⌜ r ≤ 80 ⌝ }
+    ensures room { λ r. ⌜ r ≤ length (now (output .exit)) ⌝ }
     ensures replies { λ r. ⌜ take r (now (output .exit))
         ≡ replies session (now (memory .entry)) [] ⌝ }
     ensures memory { λ _. ⌜ now (memory .exit) ≡ lastMemory session (now (memory .entry)) ⌝ }

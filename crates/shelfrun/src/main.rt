@@ -1,23 +1,40 @@
 // shelfrun (document 01, "Numbers to hold it against"): formats a rack of 3 cards and 4 pages, and
 // answers the commands that it reads from standard input, line by line.
+ghost use Prim.Native.Nat.{_≤_};
+ghost use lib.ListN.{length};
+use interpreter::Progress;
 use interpreter::Session;
 use libc::STDIN_FILENO;
 use libc::STDOUT_FILENO;
 
-// Answers a part of the input, a full output at a time.
+// Answers as much of the input as the output has room for, and writes the answers.
+fn answer_some(
+    memory: &mut [u32],
+    session: Session,
+    input: &[u8],
+    output: &mut [u8],
+) -> Progress
+    ensures { λ r. ⌜ r .read ≤ length (now (input .entry)) ⌝ }
+{
+    let done = interpreter::respond(memory, session, input, output);
+    let written = done.written;
+    io::write_all(STDOUT_FILENO, &output[..written]);
+    done
+}
+
+// Answers a part of the input, an output at a time.
 fn answer_part(memory: &mut [u32], session: Session, input: &[u8]) -> Session {
     let mut output = io::large_buffer();
     let mut session = session;
     let mut at: usize = 0;
     while at < input.len() {
-        let done = interpreter::respond(memory, session, &input[at..], &mut output);
+        let done = answer_some(memory, session, &input[at..], &mut output);
         session = done.session;
-        let written = done.written;
-        io::write_all(STDOUT_FILENO, &output[..written]);
-        if done.read == 0 {
+        let more = done.read;
+        if more == 0 {
             break;
         }
-        at += done.read;
+        at += more;
     }
     session
 }
