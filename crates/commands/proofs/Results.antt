@@ -13,9 +13,12 @@ use Rattle.protocol.specs.Recovery.{recovery}
 use Rattle.commands.specs.Execute.{failAndRecover}
 use Rattle.protocol.specs.Result.{Result, accepted}
 
-pub all-parts : {r s : Result} → r ≡ s → (r .outcome ≡ s .outcome) × ((r .directory ≡ s .directory) × (r .memory ≡ s .memory))
-all-parts same =
-    (ap (λ (r : Result). r .outcome) same, (ap (λ (r : Result). r .directory) same, ap (λ (r : Result). r .memory) same))
+pub all-parts : {r s : Result} → r ≡ s
+    → (r .outcome ≡ s .outcome) × ((r .directory ≡ s .directory) × (r .memory ≡ s .memory))
+all-parts same = (
+  ap (λ (r : Result). r .outcome) same,
+  (ap (λ (r : Result). r .directory) same, ap (λ (r : Result). r .memory) same),
+)
 
 -- a failure changes no word
 pub failure-keeps : (d : Directory) (m : List ℕ) (card : ℕ) → failure d m card .memory ≡ m

@@ -100,13 +100,13 @@ module _ (s : Session) (m input : List ℕ) (from : ℕ) (p : Part) (part : p �
       let left = drop (p .at + 1) input ++ rest in
       let whole : from + (p .at - from) ≡ p .at = omega (arith, ends .after) in
       let feed : getD input (p .at) 0 ≡ 10 =
-        rw (getD-drop, whole) at (ends .feed (omega (arith, length-drop from input)))
+      rw (getD-drop, whole) at (ends .feed (omega (arith, length-drop from input)))
       in
       let next : drop (p .at) input ≡ 10 ∷ drop (p .at + 1) input =
-        rw (drop-cons input (p .at) 0 within, feed, add-one)
+      rw (drop-cons input (p .at) 0 within, feed, add-one)
       in
       let fed : replies s m (drop from input ++ rest)
-        ≡ answered read m ++ replies (nextLine read m) (executed read m .memory) left
+      ≡ answered read m ++ replies (nextLine read m) (executed read m .memory) left
       = leaves-from rest ∙ rw next (replies-feed m read left) in
       ap (λ l. front ++ l) fed
       ∙ sym (append-assoc front (answered read m) (replies (nextLine read m) (executed read m .memory) left))

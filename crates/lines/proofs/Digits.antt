@@ -31,8 +31,13 @@ pub stored-before : (text : List ℕ) (at end b : ℕ) → at + 1 ≡ end → at
     → drop at (set text at b) ≡ b ∷ drop end text
 stored-before text at end b next within =
     let inside : at < length (set text at b) = simp length-set within in
-    rw (← next, add-one, drop-cons (set text at b) at 0 inside, getD-set-same text at b 0 within,
-    drop-set-lt (suc at) text at b (omega arith))
+    rw (
+      ← next,
+      add-one,
+      drop-cons (set text at b) at 0 inside,
+      getD-set-same text at b 0 within,
+      drop-set-lt (suc at) text at b (omega arith),
+    )
 
 -- a run stored at the end of what is written
 pub appended : (vs output : List ℕ) (at end : ℕ) → at + length vs ≡ end → end ≤ length output

@@ -22,13 +22,19 @@ pub enum Command {
         price: u32,
     },
     // S: makes steps on a card.
-    Step { card: u32, count: u32 },
+    Step {
+        card: u32,
+        count: u32,
+    },
     // X: a card fails and is recovered.
     Fail(u32),
     // J: a card joins again.
     Join(u32),
     // F: shows one price.
-    Fetch { page: u8, word: u8 },
+    Fetch {
+        page: u8,
+        word: u8,
+    },
     Unreadable,
 }
 

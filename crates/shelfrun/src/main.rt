@@ -8,12 +8,7 @@ use libc::STDIN_FILENO;
 use libc::STDOUT_FILENO;
 
 // Answers as much of the input as the output has room for, and writes the answers.
-fn answer_some(
-    memory: &mut [u32],
-    session: Session,
-    input: &[u8],
-    output: &mut [u8],
-) -> Progress
+fn answer_some(memory: &mut [u32], session: Session, input: &[u8], output: &mut [u8]) -> Progress
     ensures { λ r. ⌜ r .read ≤ length (now (input .entry)) ⌝ }
 {
     let done = interpreter::respond(memory, session, input, output);

@@ -1,106 +1,84 @@
+-- Rests on the callees, by the command.
 use mathlib.Core.Path.{refl}
-use Rattle.commands.specs.Execute.{execute, fetchWord}
 use borrow.Author.Needs.{needs}
+use Rattle.commands.specs.Execute.{execute, fetchWord}
 use Rattle.commands.proofs.execute.Statement.{statement}
 use Rattle.commands.proofs.execute.Tie as tie
-use Rattle.commands.proofs.execute.Reads as reads
-use Rattle.commands.proofs.execute.Lts as lts
-use Rattle.commands.proofs.fail_and_recover.Reads as fail-and-recover-reads
-use Rattle.commands.proofs.fetch_word.Reads as fetch-word-reads
-use Rattle.commands.proofs.join_card.Reads as join-card-reads
-use Rattle.commands.proofs.make_steps.Reads as make-steps-reads
-use Rattle.commands.proofs.open_one.Reads as open-one-reads
 
--- src/lib.rt:154:13
 enum-known-command : tie.Need-enum-known-command
 enum-known-command c = search needs
 
--- src/lib.rt:159:14
 open-one-requires : tie.Need-open-one-requires
 open-one-requires c κs = search needs
 
--- src/lib.rt:160:25
 enum-known-command-2 : tie.Need-enum-known-command-2
 enum-known-command-2 c = search needs
 
--- src/lib.rt:160:42
 make-steps-requires : tie.Need-make-steps-requires
 make-steps-requires c κs = search needs
 
--- src/lib.rt:161:23
 enum-known-command-3 : tie.Need-enum-known-command-3
 enum-known-command-3 c = search needs
 
--- src/lib.rt:161:32
 fail-and-recover-requires : tie.Need-fail-and-recover-requires
 fail-and-recover-requires c κs = search needs
 
--- src/lib.rt:162:23
 enum-known-command-4 : tie.Need-enum-known-command-4
 enum-known-command-4 c = search needs
 
--- src/lib.rt:162:32
 join-card-requires : tie.Need-join-card-requires
 join-card-requires c κs = search needs
 
--- src/lib.rt:163:26
 enum-known-command-5 : tie.Need-enum-known-command-5
 enum-known-command-5 c = search needs
 
--- src/lib.rt:163:42
 fetch-word-requires : tie.Need-fetch-word-requires
 fetch-word-requires c κs = search needs
 
--- src/lib.rt:165:17
 enum-told : tie.Need-enum-told
 enum-told c = search needs
 
--- src/lib.rt:144:1
 same-length : tie.Need-same-length
 same-length c = search needs
 
--- src/lib.rt:144:1
 returns : tie.Need-returns
 unfolding execute
 returns c = rw (c .before .before .before .before .before .command .given .1) (c .before .before .open-one .ensures)
 
--- src/lib.rt:144:1
 same-length-2 : tie.Need-same-length-2
 same-length-2 c = search needs
 
--- src/lib.rt:144:1
 returns-2 : tie.Need-returns-2
 unfolding execute
-returns-2 c = rw (c .before .before .before .before .before .command2 .given .1) (c .before .before .make-steps .ensures)
+returns-2 c =
+    rw (c .before .before .before .before .before .command2 .given .1)
+    (c .before .before .make-steps .ensures)
 
--- src/lib.rt:144:1
 same-length-3 : tie.Need-same-length-3
 same-length-3 c = search needs
 
--- src/lib.rt:144:1
 returns-3 : tie.Need-returns-3
 unfolding execute
-returns-3 c = rw (c .before .before .before .before .before .command3 .given .1) (c .before .before .fail-and-recover .ensures)
+returns-3 c =
+    rw (c .before .before .before .before .before .command3 .given .1)
+    (c .before .before .fail-and-recover .ensures)
 
--- src/lib.rt:144:1
 same-length-4 : tie.Need-same-length-4
 same-length-4 c = search needs
 
--- src/lib.rt:144:1
 returns-4 : tie.Need-returns-4
 unfolding execute
 returns-4 c = rw (c .before .before .before .before .before .command4 .given .1) (c .before .before .join-card .ensures)
 
--- src/lib.rt:144:1
 same-length-5 : tie.Need-same-length-5
 same-length-5 c = search needs
 
--- src/lib.rt:144:1
 returns-5 : tie.Need-returns-5
 unfolding execute fetchWord
-returns-5 c = rw (c .before .before .before .command5 .given .1) (c .fetch-word .ensures .0, (c .fetch-word .ensures .1, refl))
+returns-5 c =
+    rw (c .before .before .before .command5 .given .1)
+    (c .fetch-word .ensures .0, (c .fetch-word .ensures .1, refl))
 
--- src/lib.rt:144:1
 returns-6 : tie.Need-returns-6
 unfolding execute
 returns-6 c = rw (c .enum-told .given .1) (refl, (refl, refl))

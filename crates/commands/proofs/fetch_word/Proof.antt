@@ -1,32 +1,24 @@
-use Rattle.answer.proofs.Told.{told}
+-- Rests on the call of the rack: a refusal is shown, and of an accepted fetch one word.
 use mathlib.Core.Path.{_∙_}
 use borrow.Author.Tests.{eq-eqb, ne-eqb}
+use borrow.Author.Needs.{needs}
+use Rattle.answer.proofs.Told.{told}
 use Rattle.memory.specs.Layout.{pageSize}
 use Rattle.protocol.specs.Fetch.{fetch}
 use Rattle.memory.specs.Area.{zeros}
 use Rattle.commands.specs.Execute.{fetchWord}
-use borrow.Author.Needs.{needs}
 use Rattle.commands.proofs.fetch_word.Statement.{statement}
 use Rattle.commands.proofs.fetch_word.Tie as tie
-use Rattle.commands.proofs.fetch_word.Reads as reads
-use Rattle.commands.proofs.fetch_word.Lts as lts
-use Rattle.answer.proofs.outcome_of.Reads as outcome-of-reads
-use Rattle.commands.proofs.price_in.Reads as price-in-reads
-use Rattle.rack.proofs.fetch_page.Reads as fetch-page-reads
 
--- src/lib.rt:98:66
 slice-aggregate-fetch-page : tie.Need-slice-aggregate-fetch-page
 slice-aggregate-fetch-page c = search needs
 
--- src/lib.rt:98:9
 fetch-page-requires : tie.Need-fetch-page-requires
 fetch-page-requires c κs = search needs
 
--- src/lib.rt:101:9
 outcome-of-requires : tie.Need-outcome-of-requires
 outcome-of-requires c κs = search needs
 
--- src/lib.rt:103:9
 returns : tie.Need-returns
 unfolding fetchWord zeros
 returns c =
@@ -36,27 +28,25 @@ returns c =
     let comes = c .before .before .outcome-of .ensures ∙ told came (fetched .0) in
     (rw (← comes) (simp (ne-eqb _ _ (c .if1 .taken))), fetched .1 .0)
 
--- src/lib.rt:107:25
 slice-aggregate-price-in : tie.Need-slice-aggregate-price-in
 slice-aggregate-price-in c = search needs
 
--- src/lib.rt:107:16
 price-in-requires : tie.Need-price-in-requires
 price-in-requires c κs = search needs
 
--- src/lib.rt:107:16
 cast-t17 : tie.Need-cast-t17
 cast-t17 c = search needs
 
--- src/lib.rt:91:1
 returns-2 : tie.Need-returns-2
 unfolding fetchWord zeros
 returns-2 c =
     let fetched = c .before .before .before .before .before .before .before .fetch-page .ensures in
     let a = c .before .before .before .before .before .before .before .before .before .before .args in
     let came = fetch (a .directory) (a .memory .now) (a .page) (zeros pageSize) .outcome in
-    let comes = c .before .before .before .before .outcome-of .ensures ∙ told came (fetched .0) in
-    (rw (← comes, ← fetched .1 .1, ← c .price-in .ensures) (simp (eq-eqb _ _ (c .before .before .if1 .left))), fetched .1 .0)
+    let comes = c .before .before .before .before .outcome-of .ensures ∙ told came (fetched .0) in (
+      rw (← comes, ← fetched .1 .1, ← c .price-in .ensures) (simp (eq-eqb _ _ (c .before .before .if1 .left))),
+      fetched .1 .0,
+    )
 
 pub fetch-word-spec : {M : Type 1} → statement M
 fetch-word-spec =

@@ -1,32 +1,24 @@
+-- Rests on the call of the rack.
 use mathlib.Core.Path.{_∙_}
+use borrow.Author.Needs.{needs}
 use Rattle.answer.proofs.Told.{told}
 use Rattle.protocol.specs.Join.{join}
-use borrow.Author.Needs.{needs}
 use Rattle.commands.proofs.join_card.Statement.{statement}
 use Rattle.commands.proofs.join_card.Tie as tie
-use Rattle.commands.proofs.join_card.Reads as reads
-use Rattle.commands.proofs.join_card.Lts as lts
-use Rattle.answer.proofs.outcome_of.Reads as outcome-of-reads
-use Rattle.rack.proofs.join_card.Reads as join-card-reads
 
--- src/lib.rt:143:9
 join-card-requires : tie.Need-join-card-requires
 join-card-requires c κs = search needs
 
--- src/lib.rt:146:9
 outcome-of-requires : tie.Need-outcome-of-requires
 outcome-of-requires c κs = search needs
 
--- src/lib.rt:136:1
 same-length : tie.Need-same-length
 same-length c = search needs
 
--- src/lib.rt:136:1
 returns : tie.Need-returns
 returns c =
     let a = c .before .before .before .before .before .before .before .args in
-    let joined = c .before .before .before .before .join-card .ensures in
-    (
+    let joined = c .before .before .before .before .join-card .ensures in (
       c .outcome-of .ensures ∙ told (join (a .directory) (a .memory .now) (a .card) .outcome) (joined .0),
       joined .1,
     )

@@ -1,18 +1,15 @@
-use Rattle.answer.proofs.Told.{told}
+-- Rests on the laws of `Steps`. The loop's invariant: the steps that are left, made from here, give the whole.
 use Prim.Native.Nat.{_-_, _≤_}
 use mathlib.Core.Path.{_≡_, sym, _∙_}
 use native.Mathlib.Omega.{arith}
-use lib.ListN.{length}
 use borrow.Author.Needs.{needs}
+use lib.ListN.{length}
+use Rattle.answer.proofs.Told.{told}
 use Rattle.commands.specs.Execute.{stepsFrom}
 use Rattle.commands.proofs.Results.{all-parts}
 use Rattle.commands.proofs.Steps.{steps-made, step-refused, step-made}
 use Rattle.commands.proofs.make_steps.Statement.{statement}
 use Rattle.commands.proofs.make_steps.Tie as tie
-use Rattle.commands.proofs.make_steps.Reads as reads
-use Rattle.commands.proofs.make_steps.Lts as lts
-use Rattle.answer.proofs.outcome_of.Reads as outcome-of-reads
-use Rattle.rack.proofs.make_step.Reads as make-step-reads
 
 abbrev Inv-loop : tie.InvT-loop
 Inv-loop memory₀ card count directory₀ made₀ memory directory made =
@@ -22,30 +19,24 @@ Inv-loop memory₀ card count directory₀ made₀ memory directory made =
 abbrev μ-loop : tie.MeasureT-loop
 μ-loop memory₀ card count directory₀ made₀ memory directory made = count - made
 
--- src/lib.rt:61:5
 loop-holds : tie.Need-loop-holds Inv-loop μ-loop
 loop-holds c =
     let count = c .before .args .count in
     let whole : count - 0 ≡ count = omega arith in
     (search needs, search needs, rw whole)
 
--- src/lib.rt:62:13
 make-step-requires : tie.Need-make-step-requires Inv-loop μ-loop
 make-step-requires c κs = search needs
 
--- src/lib.rt:65:13
 outcome-of-requires : tie.Need-outcome-of-requires Inv-loop μ-loop
 outcome-of-requires c κs = search needs
 
--- src/lib.rt:69:24
 cast-t15 : tie.Need-cast-t15 Inv-loop μ-loop
 cast-t15 c = search needs
 
--- src/lib.rt:71:13
 same-length : tie.Need-same-length Inv-loop μ-loop
 same-length c = search needs
 
--- src/lib.rt:71:13
 returns : tie.Need-returns Inv-loop μ-loop
 returns c =
     let at = c .before .before .before .before .before .before .before .before .before .loop in
@@ -55,36 +46,29 @@ returns c =
     let whole = sym (step-refused _ _ _ _ _ some comes (stepped .1 .0) (stepped .1 .1) (c .if1 .taken)) ∙ at .inv .2 in
     all-parts whole
 
--- src/lib.rt:73:9
 add-made : tie.Need-add-made Inv-loop μ-loop
 add-made c = search needs
 
--- src/lib.rt:61:5
 loop-less : tie.Need-loop-less Inv-loop μ-loop
 loop-less c = search needs
 
--- src/lib.rt:61:5
 loop-again : tie.Need-loop-again Inv-loop μ-loop
 loop-again c =
     let at = c .before .before .before .before .before .before .before .before .before .loop in
     let stepped = c .before .before .before .before .before .before .make-step .ensures in
     let comes = c .before .before .outcome-of .ensures ∙ told _ (stepped .0) in
-    let some = c .before .before .before .before .before .before .before .before .loop-test .taken in
-    (
+    let some = c .before .before .before .before .before .before .before .before .loop-test .taken in (
       search needs,
       search needs,
       sym (step-made _ _ _ _ _ some comes (stepped .1 .0) (stepped .1 .1) (c .if1 .left)) ∙ at .inv .2,
     )
 
--- src/lib.rt:77:16
 cast-t16 : tie.Need-cast-t16 Inv-loop μ-loop
 cast-t16 c = search needs
 
--- src/lib.rt:51:1
 same-length-2 : tie.Need-same-length-2 Inv-loop μ-loop
 same-length-2 c = search needs
 
--- src/lib.rt:51:1
 returns-2 : tie.Need-returns-2 Inv-loop μ-loop
 returns-2 c =
     let at = c .before .loop in

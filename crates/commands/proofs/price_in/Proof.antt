@@ -1,24 +1,19 @@
+-- Rests on its test: past the end a list has its default.
 use mathlib.Core.Path.{sym}
-use lib.ListN.{List·getD-eq-default}
 use borrow.Author.Needs.{needs}
+use lib.ListN.{List·getD-eq-default}
 use Rattle.commands.proofs.price_in.Statement.{statement}
 use Rattle.commands.proofs.price_in.Tie as tie
-use Rattle.commands.proofs.price_in.Reads as reads
-use Rattle.commands.proofs.price_in.Lts as lts
 
--- src/lib.rt:87:26
 mul-result : tie.Need-mul-result
 mul-result c = search needs
 
--- src/lib.rt:87:26
 shared-slice-read-result : tie.Need-shared-slice-read-result
 shared-slice-read-result c = search needs
 
--- src/lib.rt:83:1
 returns : tie.Need-returns
 returns c = search needs
 
--- src/lib.rt:83:1
 returns-2 : tie.Need-returns-2
 returns-2 c = sym (List·getD-eq-default (c .before .args .page .now) 0 {n = c .before .args .word} (c .if1 .left))
 

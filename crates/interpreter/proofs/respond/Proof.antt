@@ -1,14 +1,12 @@
+-- Rests on `feed`. The loop's invariant: the output, and what is to be printed from here on, are the whole.
 use Prim.Native.Nat.{ℕ, _-_, _≤_}
 use mathlib.Core.Path.{_≡_, refl, _∙_}
 use mathlib.Core.List.{List, _++_}
-use lib.ListN.{length, take, drop}
 use borrow.Author.Needs.{needs}
+use lib.ListN.{length, take, drop}
 use Rattle.interpreter.specs.Transcript.{replies}
 use Rattle.interpreter.proofs.respond.Statement.{statement}
 use Rattle.interpreter.proofs.respond.Tie as tie
-use Rattle.interpreter.proofs.respond.Reads as reads
-use Rattle.interpreter.proofs.respond.Lts as lts
-use Rattle.interpreter.proofs.feed.Reads as feed-reads
 
 abbrev Inv-loop : tie.InvT-loop
 Inv-loop memory₀ input output₀ session₀ read₀ written₀ memory output session read written =
@@ -21,50 +19,39 @@ Inv-loop memory₀ input output₀ session₀ read₀ written₀ memory output s
 abbrev μ-loop : tie.MeasureT-loop
 μ-loop memory₀ input output₀ session₀ read₀ written₀ memory output session read written = length input - read
 
--- src/lib.rt:130:5
 loop-holds : tie.Need-loop-holds Inv-loop μ-loop
 loop-holds c = (search needs, search needs, search needs, search needs, λ rest. refl)
 
--- src/lib.rt:131:12
 sub-if1 : tie.Need-sub-if1 Inv-loop μ-loop
 sub-if1 c = search needs
 
--- src/lib.rt:134:13
 feed-requires : tie.Need-feed-requires Inv-loop μ-loop
 feed-requires c κs = search needs
 
--- src/lib.rt:130:5
 loop-less : tie.Need-loop-less Inv-loop μ-loop
 loop-less c = search needs
 
--- src/lib.rt:130:5
 loop-again : tie.Need-loop-again Inv-loop μ-loop
 loop-again c =
     let at = c .before .before .before .before .before .before .before .before .before .before .loop in
     let fed = c .before .before .before .before .before .feed .ensures in
     (search needs, search needs, search needs, search needs, λ rest. at .inv .4 rest ∙ fed .1 rest)
 
--- src/lib.rt:118:1
 same-length : tie.Need-same-length Inv-loop μ-loop
 same-length c = search needs
 
--- src/lib.rt:118:1
 same-length-2 : tie.Need-same-length-2 Inv-loop μ-loop
 same-length-2 c = search needs
 
--- src/lib.rt:118:1
 returns : tie.Need-returns Inv-loop μ-loop
 returns c = let at = c .before .loop in ((at .inv .0, search needs), at .inv .4)
 
--- src/lib.rt:118:1
 same-length-3 : tie.Need-same-length-3 Inv-loop μ-loop
 same-length-3 c = search needs
 
--- src/lib.rt:118:1
 same-length-4 : tie.Need-same-length-4 Inv-loop μ-loop
 same-length-4 c = search needs
 
--- src/lib.rt:118:1
 returns-2 : tie.Need-returns-2 Inv-loop μ-loop
 returns-2 c = let at = c .before .before .loop in ((at .inv .0, search needs), at .inv .4)
 

@@ -1,55 +1,42 @@
-use Prim.Native.Nat.{ℕ, _+_, _-_}
+-- Rests on `appended`: the answer is copied behind what is written already.
+use Prim.Native.Nat.{_+_, _-_}
 use mathlib.Core.Path.{_≡_, sym, ap, _∙_}
+use native.Mathlib.Omega.{arith}
+use borrow.Author.Needs.{needs}
 use lib.ListN.{length, drop, length-drop}
 use lib.Seq.{take-all}
 use Rattle.lines.specs.Answer.{answerLine}
-use native.Mathlib.Omega.{arith}
 use Rattle.lines.proofs.Digits.{appended}
-use borrow.Author.Needs.{needs}
 use Rattle.lines.proofs.append_answer.Statement.{statement}
 use Rattle.lines.proofs.append_answer.Tie as tie
-use Rattle.lines.proofs.append_answer.Reads as reads
-use Rattle.lines.proofs.append_answer.Lts as lts
-use Rattle.lines.proofs.copy_bytes.Reads as copy-bytes-reads
-use Rattle.lines.proofs.put_answer.Reads as put-answer-reads
 
--- src/lib.rt:347:28
 slice-aggregate-put-answer : tie.Need-slice-aggregate-put-answer
 slice-aggregate-put-answer c = search needs
 
--- src/lib.rt:347:9
 put-answer-requires : tie.Need-put-answer-requires
 put-answer-requires c κs = search needs
 
--- src/lib.rt:348:16
 sub-copy-bytes : tie.Need-sub-copy-bytes
 sub-copy-bytes c = search needs
 
--- src/lib.rt:348:16
 part-copy-bytes-start : tie.Need-part-copy-bytes-start
 part-copy-bytes-start c = search needs
 
--- src/lib.rt:348:16
 part-copy-bytes-end : tie.Need-part-copy-bytes-end
 part-copy-bytes-end c = search needs
 
--- src/lib.rt:348:5
 copy-bytes-requires : tie.Need-copy-bytes-requires
 copy-bytes-requires c κs = search needs
 
--- src/lib.rt:349:16
 sub-result : tie.Need-sub-result
 sub-result c = search needs
 
--- src/lib.rt:349:5
 add-result : tie.Need-add-result
 add-result c = search needs
 
--- src/lib.rt:333:1
 same-length : tie.Need-same-length
 same-length c = search needs
 
--- src/lib.rt:333:1
 returns : tie.Need-returns
 returns c =
     let a = c .before .before .before .before .before .before .before .before .before .before .args in
@@ -60,12 +47,11 @@ returns c =
     let left : length (drop start text) ≡ 80 - start = length-drop start text ∙ ap (λ n. n - start) size in
     let all = take-all (80 - start) (drop start text) (omega arith) in
     let line = answerLine (a .number) (a .letter) (a .refusal) (a .value) in
-    let long : length line ≡ 80 - start = sym (ap length (put .1)) ∙ left in
-    (
+    let long : length line ≡ 80 - start = sym (ap length (put .1)) ∙ left in (
       search needs,
       rw (c .before .before .copy-bytes .ensures, all, put .1)
-      (appended line (a .output .now) (a .written) (a .written + (80 - start)) (ap (λ n. a .written + n) long)
-      (search needs)),
+          (appended line (a .output .now) (a .written) (a .written + (80 - start)) (ap (λ n. a .written + n) long)
+          (search needs)),
     )
 
 pub append-answer-spec : {M : Type 1} → statement M

@@ -1,13 +1,12 @@
+-- Rests on `sets-take-more`. The loop's invariant: the bytes passed are stored.
 use Prim.Native.Nat.{_≤_, _-_}
-use mathlib.Core.Path.{_≡_, sym, _∙_}
+use mathlib.Core.Path.{_≡_, _∙_}
+use borrow.Author.Needs.{needs}
 use lib.ListN.{length, take}
 use lib.Seq.{sets, take-all}
-use borrow.Author.Needs.{needs}
 use Rattle.laws.proofs.Lists.{sets-take-more}
 use Rattle.lines.proofs.copy_bytes.Statement.{statement}
 use Rattle.lines.proofs.copy_bytes.Tie as tie
-use Rattle.lines.proofs.copy_bytes.Reads as reads
-use Rattle.lines.proofs.copy_bytes.Lts as lts
 
 abbrev Inv-loop : tie.InvT-loop
 Inv-loop bytes text₀ at i₀ text i =
@@ -16,46 +15,36 @@ Inv-loop bytes text₀ at i₀ text i =
 abbrev μ-loop : tie.MeasureT-loop
 μ-loop bytes text₀ at i₀ text i = length bytes - i
 
--- src/lib.rt:312:5
 loop-holds : tie.Need-loop-holds Inv-loop μ-loop
 loop-holds c = search needs
 
--- src/lib.rt:313:24
 shared-slice-read-text : tie.Need-shared-slice-read-text Inv-loop μ-loop
 shared-slice-read-text c = search needs
 
--- src/lib.rt:313:14
 add-text : tie.Need-add-text Inv-loop μ-loop
 add-text c = search needs
 
--- src/lib.rt:313:9
 slice-write-text : tie.Need-slice-write-text Inv-loop μ-loop
 slice-write-text c = search needs
 
--- src/lib.rt:314:9
 add-i : tie.Need-add-i Inv-loop μ-loop
 add-i c = search needs
 
--- src/lib.rt:312:5
 loop-less : tie.Need-loop-less Inv-loop μ-loop
 loop-less c = search needs
 
--- src/lib.rt:312:5
 loop-again : tie.Need-loop-again Inv-loop μ-loop
 loop-again c =
     let at = c .before .before .loop in
-    let a = c .before .before .before .args in
-    (
+    let a = c .before .before .before .args in (
       search needs,
       search needs,
       rw (at .inv .2) (sets-take-more (a .bytes .now) (a .text .now) (a .at) (at .i) (c .before .loop-test .taken)),
     )
 
--- src/lib.rt:307:1
 same-length : tie.Need-same-length Inv-loop μ-loop
 same-length c = search needs
 
--- src/lib.rt:307:1
 returns : tie.Need-returns Inv-loop μ-loop
 returns c = c .before .loop .inv .2 ∙ rw (take-all _ _ (c .loop-test .left))
 

@@ -1,19 +1,15 @@
+-- Rests on its test.
 use borrow.Author.Tests.{eq-eqb, ne-eqb}
 use borrow.Author.Needs.{needs}
 use Rattle.lines.proofs.join_form.Statement.{statement}
 use Rattle.lines.proofs.join_form.Tie as tie
-use Rattle.lines.proofs.join_form.Reads as reads
-use Rattle.lines.proofs.join_form.Lts as lts
 
--- src/lib.rt:194:30
 element-copy-out-t6 : tie.Need-element-copy-out-t6
 element-copy-out-t6 c = search needs
 
--- src/lib.rt:194:9
 returns : tie.Need-returns
 returns c = simp (eq-eqb _ _ (c .before .if1 .taken))
 
--- src/lib.rt:190:1
 returns-2 : tie.Need-returns-2
 returns-2 c = simp (ne-eqb _ _ (c .if1 .left))
 

@@ -1,26 +1,21 @@
+-- Rests on `stored-before`.
 use Prim.Native.Nat.{_+_, _-_}
 use mathlib.Core.Path.{_≡_}
 use native.Mathlib.Omega.{arith}
-use Rattle.lines.proofs.Digits.{stored-before}
 use borrow.Author.Needs.{needs}
+use Rattle.lines.proofs.Digits.{stored-before}
 use Rattle.lines.proofs.put_byte.Statement.{statement}
 use Rattle.lines.proofs.put_byte.Tie as tie
-use Rattle.lines.proofs.put_byte.Reads as reads
-use Rattle.lines.proofs.put_byte.Lts as lts
 
--- src/lib.rt:276:14
 sub-at : tie.Need-sub-at
 sub-at c = search needs
 
--- src/lib.rt:277:5
 slice-write-text : tie.Need-slice-write-text
 slice-write-text c = search needs
 
--- src/lib.rt:271:1
 same-length : tie.Need-same-length
 same-length c = search needs
 
--- src/lib.rt:271:1
 returns : tie.Need-returns
 returns c =
     let a = c .args in

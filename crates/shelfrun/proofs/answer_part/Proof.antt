@@ -1,13 +1,10 @@
+-- Safe, and ends: what is left of the input falls.
 use Prim.Native.Nat.{_-_, _≤_}
 use mathlib.Core.Path.{_≡_}
-use lib.ListN.{length}
 use borrow.Author.Needs.{needs}
+use lib.ListN.{length}
 use Rattle.shelfrun.proofs.answer_part.Statement.{statement}
 use Rattle.shelfrun.proofs.answer_part.Tie as tie
-use Rattle.shelfrun.proofs.answer_part.Reads as reads
-use Rattle.shelfrun.proofs.answer_part.Lts as lts
-use Rattle.io.proofs.large_buffer.Reads as large-buffer-reads
-use Rattle.shelfrun.proofs.answer_some.Reads as answer-some-reads
 
 abbrev Inv-loop : tie.InvT-loop
 Inv-loop memory₀ input output₀ session₀ at₀ memory output session at =
@@ -16,59 +13,45 @@ Inv-loop memory₀ input output₀ session₀ at₀ memory output session at =
 abbrev μ-loop : tie.MeasureT-loop
 μ-loop memory₀ input output₀ session₀ at₀ memory output session at = length input - at
 
--- src/main.rt:27:22
 large-buffer-requires : tie.Need-large-buffer-requires Inv-loop μ-loop
 large-buffer-requires c κs = search needs
 
--- src/main.rt:30:5
 loop-holds : tie.Need-loop-holds Inv-loop μ-loop
 loop-holds c = search needs
 
--- src/main.rt:31:49
 sub-answer-some : tie.Need-sub-answer-some Inv-loop μ-loop
 sub-answer-some c = search needs
 
--- src/main.rt:31:49
 part-answer-some-start : tie.Need-part-answer-some-start Inv-loop μ-loop
 part-answer-some-start c = search needs
 
--- src/main.rt:31:49
 part-answer-some-end : tie.Need-part-answer-some-end Inv-loop μ-loop
 part-answer-some-end c = search needs
 
--- src/main.rt:31:63
 slice-aggregate-answer-some : tie.Need-slice-aggregate-answer-some Inv-loop μ-loop
 slice-aggregate-answer-some c = search needs
 
--- src/main.rt:31:13
 answer-some-requires : tie.Need-answer-some-requires Inv-loop μ-loop
 answer-some-requires c κs = search needs
 
--- src/main.rt:37:9
 add-at : tie.Need-add-at Inv-loop μ-loop
 add-at c = search needs
 
--- src/main.rt:30:5
 loop-less : tie.Need-loop-less Inv-loop μ-loop
 loop-less c = search needs
 
--- src/main.rt:30:5
 loop-again : tie.Need-loop-again Inv-loop μ-loop
 loop-again c = search needs
 
--- src/main.rt:26:1
 same-length : tie.Need-same-length Inv-loop μ-loop
 same-length c = search needs
 
--- src/main.rt:26:1
 returns : tie.Need-returns Inv-loop μ-loop
 returns c = search needs
 
--- src/main.rt:26:1
 same-length-2 : tie.Need-same-length-2 Inv-loop μ-loop
 same-length-2 c = search needs
 
--- src/main.rt:26:1
 returns-2 : tie.Need-returns-2 Inv-loop μ-loop
 returns-2 c = search needs
 

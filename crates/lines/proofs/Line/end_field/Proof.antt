@@ -1,43 +1,33 @@
-use Rattle.lines.specs.Line.{endedField}
+-- Rests on its tests: a field of no bytes, and a seventh field, are unreadable.
 use borrow.Author.Tests.{eq-eqb, le-ltb, lt-ltb, ne-eqb}
 use borrow.Author.Needs.{needs}
+use Rattle.lines.specs.Line.{endedField}
 use Rattle.lines.proofs.Line.end_field.Statement.{statement}
 use Rattle.lines.proofs.Line.end_field.Tie as tie
-use Rattle.lines.proofs.Line.end_field.Reads as reads
-use Rattle.lines.proofs.Line.end_field.Lts as lts
-use Rattle.lines.proofs.Line.unreadable.Reads as unreadable-reads
 
--- src/lib.rt:72:13
 unreadable-requires : tie.Need-unreadable-requires
 unreadable-requires c κs = search needs
 
--- src/lib.rt:72:13
 returns : tie.Need-returns
 unfolding endedField
 returns c = simp (eq-eqb _ _ (c .before .if1 .taken)) (c .unreadable .ensures)
 
--- src/lib.rt:76:13
 mul-self : tie.Need-mul-self
 mul-self c = search needs
 
--- src/lib.rt:76:13
 element-write-self : tie.Need-element-write-self
 element-write-self c = search needs
 
--- src/lib.rt:77:26
 add-self : tie.Need-add-self
 add-self c = search needs
 
--- src/lib.rt:80:13
 returns-2 : tie.Need-returns-2
 unfolding endedField
 returns-2 c = simp (ne-eqb _ _ (c .before .if1 .left), lt-ltb _ _ (c .if2 .taken))
 
--- src/lib.rt:82:9
 unreadable-requires-2 : tie.Need-unreadable-requires-2
 unreadable-requires-2 c κs = search needs
 
--- src/lib.rt:68:5
 returns-3 : tie.Need-returns-3
 unfolding endedField
 returns-3 c =

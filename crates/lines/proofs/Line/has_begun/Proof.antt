@@ -1,19 +1,15 @@
+-- Rests on its tests.
 use borrow.Author.Tests.{eq-eqb, ne-eqb}
 use borrow.Author.Needs.{needs}
 use Rattle.lines.proofs.Line.has_begun.Statement.{statement}
 use Rattle.lines.proofs.Line.has_begun.Tie as tie
-use Rattle.lines.proofs.Line.has_begun.Reads as reads
-use Rattle.lines.proofs.Line.has_begun.Lts as lts
 
--- src/lib.rt:139:17
 returns : tie.Need-returns
 returns c = simp (c .before .before .before .if1 .taken, eq-eqb _ _ (c .before .if2 .taken))
 
--- src/lib.rt:134:5
 returns-2 : tie.Need-returns-2
 returns-2 c = simp (c .before .before .if1 .taken, ne-eqb _ _ (c .if2 .left))
 
--- src/lib.rt:134:5
 returns-3 : tie.Need-returns-3
 returns-3 c = search needs
 

@@ -1,22 +1,17 @@
-use Rattle.lines.specs.Line.{letterRead}
+-- Rests on its test.
 use borrow.Author.Tests.{eq-eqb, ne-eqb}
 use borrow.Author.Needs.{needs}
+use Rattle.lines.specs.Line.{letterRead}
 use Rattle.lines.proofs.Line.read_letter.Statement.{statement}
 use Rattle.lines.proofs.Line.read_letter.Tie as tie
-use Rattle.lines.proofs.Line.read_letter.Reads as reads
-use Rattle.lines.proofs.Line.read_letter.Lts as lts
-use Rattle.lines.proofs.Line.unreadable.Reads as unreadable-reads
 
--- src/lib.rt:91:13
 returns : tie.Need-returns
 unfolding letterRead
 returns c = simp (eq-eqb _ _ (c .if1 .taken))
 
--- src/lib.rt:93:9
 unreadable-requires : tie.Need-unreadable-requires
 unreadable-requires c κs = search needs
 
--- src/lib.rt:85:5
 returns-2 : tie.Need-returns-2
 unfolding letterRead
 returns-2 c = simp (ne-eqb _ _ (c .before .if1 .left)) (c .unreadable .ensures)
