@@ -1,6 +1,6 @@
 // What a call answers, and document 01's numbers for what it refuses.
 ghost use mathlib.Core.Path.{_≡_};
-ghost use Rattle.answer.specs.Outcome.{answerOf};
+ghost use Rattle.answer.specs.Outcome.{outcome, answerOf};
 
 // Document 01, "What the rack refuses, by who caused it". specs/Outcome.antt has the same table.
 pub const LIMITS: u32 = 1;
@@ -63,5 +63,18 @@ pub fn answer_of(o: Outcome) -> Answer
         Answer::Given(o.value)
     } else {
         Answer::Refused(o.number, o.value)
+    }
+}
+
+// The outcome that an answer tells.
+pub fn outcome_of(a: Answer) -> Outcome
+    ensures { λ r. ⌜ r ≡ outcome a ⌝ }
+{
+    match a {
+        Answer::Given(value) => Outcome { number: 0, value },
+        Answer::Refused(number, place) => Outcome {
+            number,
+            value: place,
+        },
     }
 }

@@ -4,7 +4,7 @@
 ghost use mathlib.Core.Path.{_≡_};
 ghost use Prim.Native.Nat.{_*_, _<_, _≤_};
 ghost use lib.ListN.{length};
-ghost use Rattle.answer.specs.Outcome.{outcome, refusedAt};
+ghost use Rattle.answer.specs.Outcome.{refusedAt};
 ghost use Rattle.memory.specs.Layout.{areaSize};
 ghost use Rattle.diff.specs.Reading.{checkDiff};
 ghost use Rattle.protocol.specs.Checks.{firstRefusal};
@@ -16,7 +16,6 @@ ghost use Rattle.protocol.specs.Recovery.{recoveryChecks};
 ghost use Rattle.protocol.specs.Join.{joinChecks};
 ghost use Rattle.protocol.specs.DeskQuestion.{deskChecks};
 ghost use Rattle.refusals.specs.Parts.{listChecks, numberChecks};
-use answer::Answer;
 use answer::Outcome;
 use directory::Directory;
 use directory::Status;
@@ -31,23 +30,13 @@ fn refused(number: u32, place: u64) -> Outcome
     }
 }
 
-// The outcome of an answer.
-fn outcome_of(a: Answer) -> Outcome
-    ensures { λ r. ⌜ r ≡ outcome a ⌝ }
-{
-    match a {
-        Answer::Given(value) => refused(0, value),
-        Answer::Refused(number, place) => refused(number, place),
-    }
-}
-
 // ---- opening a release
 
 // What the list reads as: the number of its prices, or refusal 7 with its place.
 fn check_list(list: &[u32], pages: u32) -> Outcome
     ensures { λ r. ⌜ r ≡ checkDiff pages (now (list .entry)) ⌝ }
 {
-    outcome_of(reader::check(list, pages))
+    answer::outcome_of(reader::check(list, pages))
 }
 
 // 7 and 8: the list, and words of it that another card's open release prices.

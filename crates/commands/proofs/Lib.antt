@@ -1,0 +1,3 @@
+-- Laws that the commands' proofs cite.
+pub mod Results
+pub mod Steps

@@ -1,0 +1,27 @@
+-- Rests on the call of the rack.
+use mathlib.Core.Path.{_∙_}
+use borrow.Author.Needs.{needs}
+use Rattle.answer.proofs.Told.{told}
+use Rattle.protocol.specs.Join.{join}
+use Rattle.commands.proofs.join_card.Statement.{statement}
+use Rattle.commands.proofs.join_card.Tie as tie
+
+join-card-requires : tie.Need-join-card-requires
+join-card-requires c κs = search needs
+
+outcome-of-requires : tie.Need-outcome-of-requires
+outcome-of-requires c κs = search needs
+
+same-length : tie.Need-same-length
+same-length c = search needs
+
+returns : tie.Need-returns
+returns c =
+    let a = c .before .before .before .before .before .before .before .args in
+    let joined = c .before .before .before .before .join-card .ensures in (
+      c .outcome-of .ensures ∙ told (join (a .directory) (a .memory .now) (a .card) .outcome) (joined .0),
+      joined .1,
+    )
+
+pub join-card-spec : {M : Type 1} → statement M
+join-card-spec = tie.close (tie.spec join-card-requires outcome-of-requires same-length returns)

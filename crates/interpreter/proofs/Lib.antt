@@ -1,0 +1,2 @@
+-- Laws that the interpreter's proofs cite.
+pub mod Parts

@@ -1,0 +1,2 @@
+-- What the contracts of the interpreter cite.
+pub mod Transcript

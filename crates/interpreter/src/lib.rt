@@ -1,0 +1,180 @@
+// The interpreter of shelfrun (document 01, "Numbers to hold it against"): the lines of an input
+// answered, one part of the input after the other.
+ghost use mathlib.Core.Path.{_≡_};
+ghost use Prim.Native.Nat.{ℕ, _+_, _≤_, _<_};
+ghost use mathlib.Core.List.{List, [], _++_};
+ghost use lib.ListN.{length, take, drop};
+ghost use Rattle.protocol.specs.Formatting.{formatting};
+ghost use Rattle.lines.specs.Line.{freshLine};
+ghost use Rattle.interpreter.specs.Transcript.{sessionOf, executed, answered, nextLine};
+ghost use Rattle.interpreter.specs.Transcript.{replies, lastMemory};
+use directory::Directory;
+use lines::Line;
+
+// Where the reading of an input stands.
+pub struct Session {
+    pub directory: Directory,
+    // Of the line that is being read, from 1 on.
+    pub number: u64,
+    pub line: Line,
+}
+
+// ---- the input
+
+// What the end of a line gives.
+pub struct Ended {
+    // Before the next line.
+    pub session: Session,
+    // Where the output ends.
+    pub written: usize,
+}
+
+// The line has ended: its command is executed, and its answer put at the end of the output.
+fn end_line(memory: &mut [u32], session: Session, output: &mut [u8], written: usize) -> Ended
+    requires { ⌜ written + 80 ≤ length (now output) ⌝ }
+    ensures room { λ r. ⌜ r .written ≤ length (now (output .entry)) ⌝ }
+    ensures answer { λ r. ⌜ take (r .written) (now (output .exit))
+        ≡ take written (now (output .entry)) ++ answered session (now (memory .entry)) ⌝ }
+    ensures session { λ r. ⌜ r .session ≡ nextLine session (now (memory .entry)) ⌝ }
+    ensures memory { λ _. ⌜ now (memory .exit) ≡ executed session (now (memory .entry)) .memory ⌝ }
+{
+    let line = session.line;
+    let command = line.command();
+    let directory = session.directory;
+    let number = session.number;
+    let shown = commands::execute(memory, directory, command);
+    let outcome = shown.outcome;
+    let letter = commands::letter_of(command);
+    let end = lines::append_answer(
+        output,
+        written,
+        number,
+        letter,
+        outcome.number,
+        outcome.value,
+    );
+    let directory = shown.directory;
+    let next = Session {
+        directory,
+        number: std::num::wrapping_add_u64(number, 1),
+        line: Line::fresh(),
+    };
+    Ended {
+        session: next,
+        written: end,
+    }
+}
+
+// What answering a part of the input gives.
+pub struct Progress {
+    pub session: Session,
+    // How many bytes of the input were read, and how many of the output written.
+    pub read: usize,
+    pub written: usize,
+}
+
+// Reads on up to a line feed and past it, and answers the line; or to the end of the input.
+fn feed(
+    memory: &mut [u32],
+    session: Session,
+    input: &[u8],
+    from: usize,
+    output: &mut [u8],
+    written: usize,
+) -> Progress
+    requires { ⌜ (from < length (now input)) × (written + 80 ≤ length (now output)) ⌝ }
+    ensures places { λ r. ⌜ (from < r .read) × (r .read ≤ length (now (input .entry)))
+        × (r .written ≤ length (now (output .entry))) ⌝ }
+    ensures replies { λ r. ⌜ ((rest : List ℕ)
+        → take written (now (output .entry))
+        ++ replies session (now (memory .entry)) (drop from (now (input .entry)) ++ rest)
+        ≡ take (r .written) (now (output .exit))
+        ++ replies (r .session) (now (memory .exit))
+        (drop (r .read) (now (input .entry)) ++ rest)) ⌝ }
+{
+    let line = session.line;
+    let part = lines::read_part(line, input, from);
+    let directory = session.directory;
+    let line = part.line;
+    let read = Session {
+        directory,
+        number: session.number,
+        line,
+    };
+    let at = part.at;
+    if at < input.len() {
+        let ended = end_line(memory, read, output, written);
+        let session = ended.session;
+        return Progress {
+            session,
+            read: at + 1,
+            written: ended.written,
+        };
+    }
+    Progress {
+        session: read,
+        read: at,
+        written,
+    }
+}
+
+// Answers the lines of a part of the input, as far as the output has room: whatever follows it,
+// what is to be printed is the output and what is to be printed from there on.
+pub fn respond(memory: &mut [u32], session: Session, input: &[u8], output: &mut [u8]) -> Progress
+    ensures places { λ r. ⌜ (r .read ≤ length (now (input .entry)))
+        × (r .written ≤ length (now (output .entry))) ⌝ }
+    ensures replies { λ r. ⌜ ((rest : List ℕ)
+        → replies session (now (memory .entry)) (now (input .entry) ++ rest)
+        ≡ take (r .written) (now (output .exit))
+        ++ replies (r .session) (now (memory .exit))
+        (drop (r .read) (now (input .entry)) ++ rest)) ⌝ }
+{
+    let mut session = session;
+    let mut read: usize = 0;
+    let mut written: usize = 0;
+    while read < input.len() {
+        if output.len() - written < 80 {
+            break;
+        }
+        let done = feed(memory, session, input, read, output, written);
+        session = done.session;
+        read = done.read;
+        written = done.written;
+    }
+    Progress {
+        session,
+        read,
+        written,
+    }
+}
+
+// The input has ended: answers a line that no line feed ended, and says how long the answer is.
+pub fn finish(memory: &mut [u32], session: Session, output: &mut [u8; 80]) -> usize
+    ensures room { λ r. ⌜ r ≤ length (now (output .exit)) ⌝ }
+    ensures replies { λ r. ⌜ take r (now (output .exit))
+        ≡ replies session (now (memory .entry)) [] ⌝ }
+    ensures memory { λ _. ⌜ now (memory .exit) ≡ lastMemory session (now (memory .entry)) ⌝ }
+{
+    let line = session.line;
+    if line.has_begun() {
+        let ended = end_line(memory, session, output, 0);
+        return ended.written;
+    }
+    0
+}
+
+// Formats a rack of 3 cards and 4 pages; before the first line.
+pub fn start(memory: &mut [u32]) -> Session
+    ensures session { λ r. ⌜ r
+        ≡ sessionOf (formatting (now (memory .entry)) 3 4 .directory) 1 freshLine ⌝ }
+    ensures memory { λ _. ⌜ now (memory .exit)
+        ≡ formatting (now (memory .entry)) 3 4 .memory ⌝ }
+{
+    let reply = rack::format_rack(memory, 3, 4);
+    let directory = reply.directory;
+    Session {
+        directory,
+        number: 1,
+        line: Line::fresh(),
+    }
+}

@@ -1,0 +1,3 @@
+-- Laws that the loops over lines cite.
+pub mod Parts
+pub mod Digits

@@ -1,0 +1,26 @@
+-- Rests on `stored-before`.
+use Prim.Native.Nat.{_+_, _-_}
+use mathlib.Core.Path.{_≡_}
+use native.Mathlib.Omega.{arith}
+use borrow.Author.Needs.{needs}
+use Rattle.lines.proofs.Digits.{stored-before}
+use Rattle.lines.proofs.put_byte.Statement.{statement}
+use Rattle.lines.proofs.put_byte.Tie as tie
+
+sub-at : tie.Need-sub-at
+sub-at c = search needs
+
+slice-write-text : tie.Need-slice-write-text
+slice-write-text c = search needs
+
+same-length : tie.Need-same-length
+same-length c = search needs
+
+returns : tie.Need-returns
+returns c =
+    let a = c .args in
+    let next : a .end - 1 + 1 ≡ a .end = omega arith in
+    (next, stored-before (a .text .now) (a .end - 1) (a .end) (a .b) next (omega arith))
+
+pub put-byte-spec : {M : Type 1} → statement M
+put-byte-spec = tie.close (tie.spec sub-at slice-write-text same-length returns)

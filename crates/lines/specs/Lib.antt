@@ -1,0 +1,4 @@
+-- What the contracts of lines cite.
+pub mod Line
+pub mod Command
+pub mod Answer
