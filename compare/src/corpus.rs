@@ -13,77 +13,30 @@ const SECOND_FAILURE: (&str, &str) = ("X 1\nX 0\n", "rack 3 4\n1 X 0 0\n2 X 13 0
 
 /// Each script with what document 01 says that it prints, where it says so.
 pub fn scripts() -> Vec<(Script, Option<Vec<u8>>)> {
-    let told = [
-        ("transcript", TRANSCRIPT),
-        ("second failure", SECOND_FAILURE),
-    ];
+    let told = [("transcript", TRANSCRIPT), ("second failure", SECOND_FAILURE)];
     let told = told.map(|(name, (input, output))| (Script::new(name, input), Some(output.into())));
     let untold = calls().into_iter().chain(lines()).chain([long_line()]);
-    told.into_iter()
-        .chain(untold.map(|script| (script, None)))
-        .collect()
+    told.into_iter().chain(untold.map(|script| (script, None))).collect()
 }
 
 /// Sequences of calls that document 01 names, or that a wrong rack would answer otherwise.
 fn calls() -> Vec<Script> {
     let scripts: [(&str, &str); 14] = [
-        (
-            "rolled back",
-            "B 1 1 1 2 250\nS 1 10\nX 1\nF 1 2\nJ 1\nB 1 1 1 2 225\nS 1 15\nF 1 2\n",
-        ),
-        (
-            "rolled forward",
-            "B 1 1 1 2 250\nS 1 12\nX 1\nF 1 2\nJ 1\nB 1 1 1 2 225\nB 1 2 1 2 225\n",
-        ),
+        ("rolled back", "B 1 1 1 2 250\nS 1 10\nX 1\nF 1 2\nJ 1\nB 1 1 1 2 225\nS 1 15\nF 1 2\n"),
+        ("rolled forward", "B 1 1 1 2 250\nS 1 12\nX 1\nF 1 2\nJ 1\nB 1 1 1 2 225\nB 1 2 1 2 225\n"),
         // release 1 is closed, release 2 in its first phase when its card dies
-        (
-            "half a release",
-            "B 1 1 1 2 250\nS 1 15\nB 1 2 1 3 199\nS 1 2\nX 1\nF 1 2\nF 1 3\n",
-        ),
-        (
-            "closed by recovery",
-            "B 0 1 2 7 33\nS 0 3\nX 1\nF 2 7\nB 0 1 2 7 34\nB 0 2 2 7 34\n",
-        ),
-        (
-            "in use",
-            "B 0 1 1 2 250\nB 1 1 1 2 3\nB 1 1 1 3 3\nB 2 1 1 3 4\nB 2 1 1 2 4\n",
-        ),
-        (
-            "numbers",
-            "B 0 0 0 0 1\nB 0 2 0 0 1\nB 0 1 0 0 1\nB 0 1 0 0 1\nB 0 2 0 0 1\n",
-        ),
-        (
-            "cards",
-            "B 3 1 0 0 1\nB 8 1 0 0 1\nS 3 1\nX 3\nJ 3\nX 4294967295\nJ 4294967295\n",
-        ),
-        (
-            "live and dead",
-            "J 0\nX 2\nJ 2\nJ 2\nX 2\nB 2 1 0 0 1\nS 2 1\n",
-        ),
-        (
-            "pages",
-            "B 0 1 4 0 1\nB 0 1 63 0 1\nF 4 0\nF 63 31\nF 3 31\n",
-        ),
-        (
-            "steps",
-            "S 0 0\nS 0 1\nB 0 1 0 0 1\nS 0 0\nS 0 4294967295\nS 0 1\nF 0 0\n",
-        ),
-        (
-            "join with a release open",
-            "X 0\nB 1 1 1 2 3\nJ 0\nS 1 15\nJ 0\n",
-        ),
-        (
-            "two in motion",
-            "B 0 1 0 0 5\nB 1 1 0 1 6\nS 1 11\nF 0 0\nS 0 11\nF 0 0\nS 0 4\nF 0 0\n",
-        ),
-        (
-            "every card in turn",
-            "X 0\nJ 0\nX 1\nJ 1\nX 2\nJ 2\nB 2 1 3 31 4294967295\nS 2 15\nF 3 31\n",
-        ),
-        (
-            "price 0",
-            "B 0 1 0 0 9\nS 0 15\nB 0 2 0 0 0\nS 0 15\nF 0 0\nX 0\nF 0 0\n",
-        ),
+        ("half a release", "B 1 1 1 2 250\nS 1 15\nB 1 2 1 3 199\nS 1 2\nX 1\nF 1 2\nF 1 3\n"),
+        ("closed by recovery", "B 0 1 2 7 33\nS 0 3\nX 1\nF 2 7\nB 0 1 2 7 34\nB 0 2 2 7 34\n"),
+        ("in use", "B 0 1 1 2 250\nB 1 1 1 2 3\nB 1 1 1 3 3\nB 2 1 1 3 4\nB 2 1 1 2 4\n"),
+        ("numbers", "B 0 0 0 0 1\nB 0 2 0 0 1\nB 0 1 0 0 1\nB 0 1 0 0 1\nB 0 2 0 0 1\n"),
+        ("cards", "B 3 1 0 0 1\nB 8 1 0 0 1\nS 3 1\nX 3\nJ 3\nX 4294967295\nJ 4294967295\n"),
+        ("live and dead", "J 0\nX 2\nJ 2\nJ 2\nX 2\nB 2 1 0 0 1\nS 2 1\n"),
+        ("pages", "B 0 1 4 0 1\nB 0 1 63 0 1\nF 4 0\nF 63 31\nF 3 31\n"),
+        ("steps", "S 0 0\nS 0 1\nB 0 1 0 0 1\nS 0 0\nS 0 4294967295\nS 0 1\nF 0 0\n"),
+        ("join with a release open", "X 0\nB 1 1 1 2 3\nJ 0\nS 1 15\nJ 0\n"),
+        ("two in motion", "B 0 1 0 0 5\nB 1 1 0 1 6\nS 1 11\nF 0 0\nS 0 11\nF 0 0\nS 0 4\nF 0 0\n"),
+        ("every card in turn", "X 0\nJ 0\nX 1\nJ 1\nX 2\nJ 2\nB 2 1 3 31 4294967295\nS 2 15\nF 3 31\n"),
+        ("price 0", "B 0 1 0 0 9\nS 0 15\nB 0 2 0 0 0\nS 0 15\nF 0 0\nX 0\nF 0 0\n"),
     ];
     scripts.map(|(name, input)| Script::new(name, input)).into()
 }
@@ -156,8 +109,7 @@ fn lines() -> Vec<Script> {
         b"A 0\n",
         b"F 0 0\x0bF 0 0\n",
     ];
-    let script =
-        |(at, form): (usize, &&[u8])| Script::new(format!("line form {at}"), form.to_vec());
+    let script = |(at, form): (usize, &&[u8])| Script::new(format!("line form {at}"), form.to_vec());
     let mut scripts: Vec<Script> = forms.iter().enumerate().map(script).collect();
     scripts.push(Script::new("all line forms", forms.concat()));
     scripts

@@ -25,10 +25,7 @@ pub struct Script {
 
 impl Script {
     pub fn new(name: impl Into<String>, input: impl Into<Vec<u8>>) -> Self {
-        Self {
-            name: name.into(),
-            input: input.into(),
-        }
+        Self { name: name.into(), input: input.into() }
     }
 }
 
@@ -40,18 +37,12 @@ struct Options {
 }
 
 fn options() -> Result<Options, String> {
-    let mut options = Options {
-        parted: false,
-        seed: 20_260,
-        scripts: 3_000,
-        programs: Vec::new(),
-    };
+    let mut options = Options { parted: false, seed: 20_260, scripts: 3_000, programs: Vec::new() };
     let mut words = std::env::args().skip(1);
     while let Some(word) = words.next() {
         let mut number = || {
             let text = words.next().ok_or(format!("{word} needs a number"))?;
-            text.parse()
-                .map_err(|_| format!("{word}: {text} is no number"))
+            text.parse().map_err(|_| format!("{word}: {text} is no number"))
         };
         match word.as_str() {
             "--parted" => options.parted = true,
@@ -85,10 +76,7 @@ fn must_agree(pair: &Pair, options: &Options) -> ExitCode {
     let random = (0..options.scripts).map(|at| random::script(options.seed, at));
     let mut count = 0;
     let mut seen = Seen::default();
-    for script in fixed_scripts()
-        .chain(random)
-        .chain(random::large(options.seed))
-    {
+    for script in fixed_scripts().chain(random).chain(random::large(options.seed)) {
         let printed = pair.first(&script.input);
         if printed != pair.second(&script.input) {
             return report(pair, &script);
@@ -96,10 +84,7 @@ fn must_agree(pair: &Pair, options: &Options) -> ExitCode {
         seen.read(&printed);
         count += 1;
     }
-    println!(
-        "compare: {count} scripts, the two programs agree (seed {})",
-        options.seed
-    );
+    println!("compare: {count} scripts, the two programs agree (seed {})", options.seed);
     println!("compare: lines by refusal (0: accepted): {seen}");
     match seen.missing() {
         Some(number) => failed(&format!("no script is answered with {number}")),
@@ -108,16 +93,11 @@ fn must_agree(pair: &Pair, options: &Options) -> ExitCode {
 }
 
 fn fixed_scripts() -> impl Iterator<Item = Script> {
-    corpus::scripts()
-        .into_iter()
-        .map(|(script, _)| script)
-        .chain(sweep::scripts())
+    corpus::scripts().into_iter().map(|(script, _)| script).chain(sweep::scripts())
 }
 
 fn must_differ(pair: &Pair) -> ExitCode {
-    let caught = fixed_scripts()
-        .filter(|script| pair.differ(&script.input))
-        .count();
+    let caught = fixed_scripts().filter(|script| pair.differ(&script.input)).count();
     match caught {
         0 => failed("the deliberate error shows in no script"),
         _ => {
@@ -131,10 +111,7 @@ fn report(pair: &Pair, script: &Script) -> ExitCode {
     let short = shrink::shortest(&script.input, |input| pair.differ(input));
     println!("compare: {}: the two programs differ on", script.name);
     println!("{}", run::shown(&short));
-    for (name, output) in [
-        ("first", pair.first(&short)),
-        ("second", pair.second(&short)),
-    ] {
+    for (name, output) in [("first", pair.first(&short)), ("second", pair.second(&short))] {
         println!("--- {name} prints\n{}", run::shown(&output));
     }
     ExitCode::FAILURE

@@ -8,8 +8,7 @@ struct Random(u64);
 
 impl Random {
     fn new(seed: u64, at: u64) -> Self {
-        let mixed =
-            (seed ^ at.wrapping_mul(0x9E37_79B9_7F4A_7C15)).wrapping_add(0x2545_F491_4F6C_DD1D);
+        let mixed = (seed ^ at.wrapping_mul(0x9E37_79B9_7F4A_7C15)).wrapping_add(0x2545_F491_4F6C_DD1D);
         Self(mixed | 1)
     }
 
@@ -41,10 +40,7 @@ struct Rack {
 
 pub fn script(seed: u64, at: u64) -> Script {
     let mut random = Random::new(seed, at);
-    let mut rack = Rack {
-        numbers: [0; 3],
-        dead: None,
-    };
+    let mut rack = Rack { numbers: [0; 3], dead: None };
     let mut input = Vec::new();
     for _ in 0..20 + random.below(60) {
         let line = match random.one_in(12) {
@@ -64,10 +60,7 @@ fn readable(random: &mut Random, rack: &mut Rack) -> String {
     let card = random.below(3);
     match random.below(16) {
         0..=4 => opening(random, rack, card),
-        5..=8 => format!(
-            "S {card} {}",
-            random.of(&[1, 1, 2, 3, 9, 10, 11, 12, 13, 14, 15, 16])
-        ),
+        5..=8 => format!("S {card} {}", random.of(&[1, 1, 2, 3, 9, 10, 11, 12, 13, 14, 15, 16])),
         9..=12 => format!("F {} {}", random.below(4), random.below(4)),
         13 => {
             rack.dead = Some(card);
@@ -98,21 +91,8 @@ fn opening(random: &mut Random, rack: &mut Rack, card: u64) -> String {
 
 /// Numbers out of range, of a rack or of a line.
 fn strange(random: &mut Random) -> String {
-    let numbers: [u64; 13] = [
-        0,
-        2,
-        3,
-        4,
-        8,
-        31,
-        32,
-        63,
-        64,
-        4_294_967_295,
-        4_294_967_296,
-        9_999_999_999,
-        10_000_000_000,
-    ];
+    let numbers: [u64; 13] =
+        [0, 2, 3, 4, 8, 31, 32, 63, 64, 4_294_967_295, 4_294_967_296, 9_999_999_999, 10_000_000_000];
     let fields: &[(&str, usize)] = &[("B", 5), ("S", 2), ("X", 1), ("J", 1), ("F", 2)];
     let (letter, count) = random.of(fields);
     let mut line = letter.to_string();
@@ -125,9 +105,7 @@ fn strange(random: &mut Random) -> String {
 /// A readable line with one byte left out, put in or changed, or bytes of any kind.
 fn unreadable(random: &mut Random, rack: &mut Rack) -> Vec<u8> {
     if random.one_in(3) {
-        return (0..random.below(40))
-            .map(|_| random.below(256) as u8)
-            .collect();
+        return (0..random.below(40)).map(|_| random.below(256) as u8).collect();
     }
     let mut line = readable(random, rack).into_bytes();
     let at = random.below(line.len() as u64) as usize;
@@ -155,9 +133,5 @@ pub fn large(seed: u64) -> impl Iterator<Item = Script> {
         }
         lines.extend(script(seed ^ 1, at).input);
     }
-    [
-        Script::new("10 MB of random bytes", bytes),
-        Script::new("10 MB of random lines", lines),
-    ]
-    .into_iter()
+    [Script::new("10 MB of random bytes", bytes), Script::new("10 MB of random lines", lines)].into_iter()
 }

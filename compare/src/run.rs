@@ -11,10 +11,7 @@ pub struct Pair {
 
 impl Pair {
     pub fn new(first: &str, second: &str) -> Self {
-        Self {
-            first: first.to_string(),
-            second: second.to_string(),
-        }
+        Self { first: first.to_string(), second: second.to_string() }
     }
 
     pub fn first(&self, input: &[u8]) -> Vec<u8> {

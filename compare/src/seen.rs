@@ -15,8 +15,7 @@ impl Seen {
     pub fn read(&mut self, printed: &[u8]) {
         for line in printed.split(|&byte| byte == b'\n').skip(1) {
             let number = line.split(|&byte| byte == b' ').nth(2);
-            let number =
-                number.and_then(|field| std::str::from_utf8(field).ok()?.parse::<usize>().ok());
+            let number = number.and_then(|field| std::str::from_utf8(field).ok()?.parse::<usize>().ok());
             if let Some(count) = number.and_then(|number| self.0.get_mut(number)) {
                 *count += 1;
             }

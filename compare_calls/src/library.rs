@@ -1,0 +1,128 @@
+//! The proved library's calls, through its C interface (include/bandsawpink.h).
+
+use crate::calls::{Call, Reply};
+use crate::guard::{Flush, Guarded};
+use second::{Answer, Directory, Status};
+
+/// The awaited card of a rack that awaits none.
+pub const RUNNING: u32 = u32::MAX;
+
+/// The words of a directory: cards, pages, the awaited card, 8 marks, 64 primary and 64 secondary homes.
+const DIRECTORY: usize = 139;
+
+#[repr(C)]
+struct RackAnswer {
+    number: u32,
+    value: u64,
+}
+
+#[repr(C)]
+struct RackDeskAnswer {
+    number: u32,
+    value: u64,
+    desk: [u32; 8],
+}
+
+type Words = *mut u32;
+type Lent = *const u32;
+
+#[rustfmt::skip]
+extern "C" {
+    fn rack_format(memory: Words, len: usize, cards: u32, pages: u32, directory: Words) -> RackAnswer;
+    fn rack_open(memory: Words, len: usize, directory: Lent, card: u32, number: u32, desk: Lent, list: Lent, words: usize) -> RackAnswer;
+    fn rack_step(memory: Words, len: usize, directory: Lent, card: u32) -> RackAnswer;
+    fn rack_fetch(memory: Lent, len: usize, directory: Lent, page: u32, buffer: Words, words: usize) -> RackAnswer;
+    fn rack_fail(memory: Lent, len: usize, directory: Words, card: u32) -> RackAnswer;
+    fn rack_recover(memory: Words, len: usize, directory: Words) -> RackDeskAnswer;
+    fn rack_join(memory: Words, len: usize, directory: Words, card: u32) -> RackAnswer;
+    fn rack_desk(memory: Lent, len: usize, directory: Lent, card: u32) -> RackDeskAnswer;
+    fn rack_make_list(working: Lent, len: usize, twins: Lent, twin_len: usize, buffer: Words, words: usize) -> RackAnswer;
+}
+
+fn answer(number: u32, value: u64) -> Answer {
+    match number {
+        0 => Answer::Given(value),
+        _ => Answer::Refused(number, value),
+    }
+}
+
+impl From<RackAnswer> for Reply {
+    fn from(given: RackAnswer) -> Reply {
+        Reply { answer: answer(given.number, given.value), beside: Vec::new() }
+    }
+}
+
+impl From<RackDeskAnswer> for Reply {
+    fn from(given: RackDeskAnswer) -> Reply {
+        Reply { answer: answer(given.number, given.value), beside: given.desk.into() }
+    }
+}
+
+pub fn words_of(directory: &Directory) -> Vec<u32> {
+    let awaited = match directory.status {
+        Status::Running => RUNNING,
+        Status::Awaiting(card) => card,
+    };
+    let mut words = vec![directory.cards, directory.pages, awaited];
+    words.extend(directory.live.map(u32::from));
+    words.extend(directory.primary);
+    words.extend(directory.secondary);
+    assert_eq!(words.len(), DIRECTORY);
+    words
+}
+
+fn directory_of(words: &[u32]) -> Directory {
+    Directory {
+        cards: words[0],
+        pages: words[1],
+        live: std::array::from_fn(|card| words[3 + card] != 0),
+        primary: std::array::from_fn(|page| words[11 + page]),
+        secondary: std::array::from_fn(|page| words[75 + page]),
+        status: match words[2] {
+            RUNNING => Status::Running,
+            card => Status::Awaiting(card),
+        },
+    }
+}
+
+/// Makes the call on the memory; every lent part stands at a page that may not be touched.
+pub fn make(memory: &mut [u32], before: Directory, call: &Call, flush: Flush) -> (Directory, Reply) {
+    let (at, len) = (memory.as_mut_ptr(), memory.len());
+    let mut directory = Guarded::new(&words_of(&before), flush);
+    let d = directory.as_mut_ptr();
+    // SAFETY: pointers and lengths are those of slices that live through the call, and no two of them overlap.
+    let reply = unsafe {
+        match call {
+            Call::Format { cards, pages } => rack_format(at, len, *cards, *pages, d).into(),
+            Call::Open { card, number, desk, list } => {
+                let desk = Guarded::new(desk, flush);
+                let list = Guarded::new(list, flush);
+                rack_open(at, len, d, *card, *number, desk.as_ptr(), list.as_ptr(), list.len()).into()
+            }
+            Call::Step { card } => rack_step(at, len, d, *card).into(),
+            Call::Fetch { page, buffer } => {
+                let mut buffer = Guarded::new(buffer, flush);
+                let given = rack_fetch(at, len, d, *page, buffer.as_mut_ptr(), buffer.len());
+                Reply { answer: answer(given.number, given.value), beside: buffer.to_vec() }
+            }
+            Call::Fail { card } => rack_fail(at, len, d, *card).into(),
+            Call::Recover => rack_recover(at, len, d).into(),
+            Call::Join { card } => rack_join(at, len, d, *card).into(),
+            Call::AskDesk { card } => rack_desk(at, len, d, *card).into(),
+        }
+    };
+    (directory_of(&directory), reply)
+}
+
+/// The list maker: its answer, and the buffer.
+pub fn make_list(working: &[u32], twins: &[u32], buffer: &[u32], flush: Flush) -> Reply {
+    let working = Guarded::new(working, flush);
+    let twins = Guarded::new(twins, flush);
+    let mut buffer = Guarded::new(buffer, flush);
+    // SAFETY: as in `make`.
+    let given = unsafe {
+        let (list, room) = (buffer.as_mut_ptr(), buffer.len());
+        rack_make_list(working.as_ptr(), working.len(), twins.as_ptr(), twins.len(), list, room)
+    };
+    Reply { answer: answer(given.number, given.value), beside: buffer.to_vec() }
+}

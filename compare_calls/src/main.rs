@@ -1,0 +1,97 @@
+//! Makes the same calls of the proved library and of the second implementation, and compares answers, directories and
+//! every lent word; the book is held beside both.
+//!
+//!     compare_calls [--seed N] [--calls N]
+
+mod calls;
+mod damage;
+mod guard;
+mod library;
+mod lists;
+mod play;
+mod random;
+mod sweep;
+
+use guard::Flush;
+use play::Play;
+use random::Random;
+use std::process::ExitCode;
+
+struct Options {
+    seed: u64,
+    calls: u64,
+}
+
+fn options() -> Result<Options, String> {
+    let mut options = Options { seed: 20_260, calls: 100_000 };
+    let mut words = std::env::args().skip(1);
+    while let Some(word) = words.next() {
+        let text = words.next().ok_or(format!("{word} needs a number"))?;
+        let number = text.parse().map_err(|_| format!("{word}: {text} is no number"))?;
+        match word.as_str() {
+            "--seed" => options.seed = number,
+            "--calls" => options.calls = number,
+            _ => return Err(format!("unknown word {word}")),
+        }
+    }
+    Ok(options)
+}
+
+fn main() -> ExitCode {
+    let compared = options().and_then(|options| compare(&options));
+    match compared {
+        Ok(report) => {
+            println!("compare_calls: {report}");
+            ExitCode::SUCCESS
+        }
+        Err(error) => {
+            eprintln!("compare_calls: {error}");
+            ExitCode::FAILURE
+        }
+    }
+}
+
+/// Half of the calls in lists on formatted racks, a third on damaged ones, the rest of the list maker; the sweep comes on
+/// top.
+fn compare(options: &Options) -> Result<String, String> {
+    let mut seen = [0; 19];
+    let swept = sweep::compare(Flush::Right)? + sweep::compare(Flush::Left)?;
+    let played = play_all(options, &mut seen)?;
+    let mut random = Random::new(options.seed);
+    let mut damaged = 0;
+    while damaged < options.calls / 3 {
+        let flush = random.of(&[Flush::Left, Flush::Right]);
+        damaged += damage::compare(&mut random, flush, &mut seen)?;
+    }
+    let made = options.calls / 6;
+    for _ in 0..made {
+        let flush = random.of(&[Flush::Left, Flush::Right]);
+        lists::compare_makers(&mut random, flush)?;
+    }
+    // 18 is shelfrun's alone
+    if let Some(number) = (1..18).find(|&number| seen[number] == 0) {
+        return Err(format!("no call was refused with {number}"));
+    }
+    Ok(format!(
+        "{swept} swept, {played} played with the book, {damaged} on damaged racks, {made} lists made: all equal (seed {})\n\
+         compare_calls: calls by refusal (0: accepted): {seen:?}",
+        options.seed
+    ))
+}
+
+fn play_all(options: &Options, seen: &mut [u64; 19]) -> Result<u64, String> {
+    let mut played = 0;
+    for at in 0.. {
+        if played >= options.calls / 2 {
+            break;
+        }
+        let mut random = Random::new(options.seed ^ at);
+        let (cards, flush) = (random.within(3, 8), random.of(&[Flush::Left, Flush::Right]));
+        let pages = if random.one_in(8) { random.within(1, 64) } else { random.within(1, 4) };
+        let calls = random.within(50, 1_000);
+        let mut play = Play::new(options.seed ^ at, cards, pages, flush)?;
+        play.run(calls, seen).map_err(|error| format!("{cards} cards, {pages} pages, play {at}: {error}"))?;
+        played += u64::from(calls);
+    }
+    Ok(played)
+}

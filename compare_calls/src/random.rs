@@ -1,0 +1,48 @@
+//! A generator that gives the same numbers on every machine, and words at the edges of their meaning.
+
+pub struct Random(u64);
+
+impl Random {
+    pub fn new(seed: u64) -> Self {
+        Self(seed.wrapping_mul(0x9E37_79B9_7F4A_7C15) ^ 0x2545_F491_4F6C_DD1D | 1)
+    }
+
+    pub fn word(&mut self) -> u32 {
+        self.0 ^= self.0 << 13;
+        self.0 ^= self.0 >> 7;
+        self.0 ^= self.0 << 17;
+        (self.0 >> 16) as u32
+    }
+
+    pub fn below(&mut self, limit: u32) -> u32 {
+        self.word() % limit
+    }
+
+    pub fn within(&mut self, low: u32, high: u32) -> u32 {
+        low + self.below(high - low + 1)
+    }
+
+    pub fn one_in(&mut self, chances: u32) -> bool {
+        self.below(chances) == 0
+    }
+
+    pub fn desk(&mut self) -> [u32; 8] {
+        std::array::from_fn(|_| self.word())
+    }
+
+    pub fn of<T: Copy>(&mut self, items: &[T]) -> T {
+        items[self.below(items.len() as u32) as usize]
+    }
+
+    /// A word that means something in a list or a directory, a small one, or any.
+    pub fn odd_word(&mut self) -> u32 {
+        match self.below(6) {
+            0 => self.below(9),
+            1 => u32::MAX - self.below(2),
+            2 => 0x1000_0000 | self.below(66),
+            3 => 0x2000_0000 | self.below(34) << 16 | self.below(4),
+            4 => 0xF000_0000 | self.below(9),
+            _ => self.word(),
+        }
+    }
+}
