@@ -2,18 +2,16 @@
 use Prim.Native.Nat.{ℕ, _*_, _+_, _<_}
 use mathlib.Core.Path.{_≡_}
 use mathlib.Core.List.{List}
-use mathlib.Core.Bool.{Bool, true}
-use Rattle.laws.specs.Search.{inTurn}
+use mathlib.Core.Bool.{true}
 use Rattle.memory.specs.Layout.{areaSize}
 use Rattle.directory.specs.declared.Directory.{Directory}
-use Rattle.directory.specs.Directory.{nextLiveOf, backupOf}
+use Rattle.directory.specs.Directory.{nextLiveOf}
 use Rattle.diff.specs.declared.Verdict.the-variants.{Good}
 use Rattle.diff.specs.Reading.{readDiff}
-use Rattle.protocol.specs.Release.{sizeOf, openList, stepsOf, isOpen}
-use Rattle.protocol.specs.Record.{recordedRelease, underWay, writeOwnRecord}
-use Rattle.protocol.specs.Recovery.{restorePages, copyToNewHomes, writeFailed}
+use Rattle.protocol.specs.Release.{Release, sizeOf, openList, stepsOf, isOpen}
+use Rattle.protocol.specs.Record.{recordedRelease, underWay}
+use Rattle.protocol.specs.Recovery.{restorePages, copyToNewHomes, writeRecords}
 use Rattle.release.specs.Stepping.{GoodRelease}
-use Rattle.recovery.specs.Rack.{backedBy}
 
 -- a release whose list reads well, and which has so many steps left, the close among them
 pub record StepsLeft (pages : ℕ) (m : List ℕ) (card left : ℕ) : Type 0 where
@@ -26,10 +24,12 @@ pub record StepsLeft (pages : ℕ) (m : List ℕ) (card left : ℕ) : Type 0 whe
 pub record ReleasesIn (d : Directory) (m : List ℕ) : Type 0 where
   pub good : (c : ℕ) → c < d .cards → isOpen (d .live) (sizeOf d) m c ≡ true → GoodRelease (d .pages) m c
 
--- the memory after recovery, from one whose releases are closed and by the marks from before the failure
-unfoldable pub recoveredClosed : Directory → List Bool → ℕ → List ℕ → List ℕ
-recoveredClosed d before f closed =
-    let holder : ℕ = nextLiveOf d f in
-    inTurn (writeOwnRecord (sizeOf d) (backedBy (d .live) before (d .cards) f) (backupOf d)) (d .cards)
-    (inTurn (writeFailed d f (recordedRelease (sizeOf d) closed holder f)) (d .cards)
-    (copyToNewHomes d f (restorePages d (underWay (sizeOf d) closed holder f) closed)))
+-- what a card's record tells, at the next live after it
+abbrev pub recordOf : Directory → ℕ → List ℕ → Release
+recordOf d f m = recordedRelease (sizeOf d) m (nextLiveOf d f) f
+
+-- the memory after recovery, from one whose releases are closed
+unfoldable pub recoveredClosed : Directory → ℕ → List ℕ → List ℕ
+recoveredClosed d f closed =
+    writeRecords d f (recordOf d f closed)
+    (copyToNewHomes d f (restorePages d (underWay (sizeOf d) closed (nextLiveOf d f) f) closed))

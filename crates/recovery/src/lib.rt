@@ -1,18 +1,16 @@
 // Recovery of a failed card, and a dead card that joins again: what they write in the memory of a
 // rack that passed its checks; which calls are refused is decided above.
 ghost use mathlib.Core.Path.{_≡_};
-ghost use mathlib.Core.Bool.{true, false};
+ghost use mathlib.Core.Bool.{false};
 ghost use Prim.Native.Nat.{_<_, _≤_};
-ghost use lib.ListN.{length, set};
-ghost use Rattle.memory.specs.Layout.{areaSize};
-ghost use Rattle.directory.specs.Live.{liveAt, nextLive};
-ghost use Rattle.protocol.specs.Record.{recordedRelease};
+ghost use lib.ListN.{length};
+ghost use Rattle.directory.specs.Live.{liveAt};
 ghost use Rattle.protocol.specs.Recovery.{restorePages, copyToNewHomes, recoveredDirectory};
 ghost use Rattle.protocol.specs.Recovery.{failedRelease, recoveredMemory};
 ghost use Rattle.protocol.specs.Join.{joinedMemory};
-ghost use Rattle.release.specs.Stepping.{HomesIn, homesOf};
-ghost use Rattle.recovery.specs.Closing.{ReleasesIn, recoveredClosed};
-ghost use Rattle.recovery.specs.Rack.{RackIn, TwoLive, rackOf};
+ghost use Rattle.release.specs.Stepping.{HomesIn};
+ghost use Rattle.recovery.specs.Closing.{ReleasesIn, recordOf, recoveredClosed};
+ghost use Rattle.recovery.specs.Rack.{RackIn, TwoLive};
 
 mod closing;
 mod homes;
@@ -26,84 +24,48 @@ pub use records::load_record;
 pub use records::write_record;
 
 // Rolls all pages forward or back, and gives those that lost a home their copies at the new one.
-fn restore_copies(
-    memory: &mut [u32],
-    cards: u32,
-    pages: u32,
-    live: &[bool],
-    primary: &[u32],
-    secondary: &[u32],
-    failed: u32,
-    forward: bool,
-)
-    requires { ⌜ RackIn (now live) cards pages (length (now memory)) ⌝ }
-    requires { ⌜ HomesIn (now live) pages (now primary) (now secondary) (length (now memory)) ⌝ }
-    requires { ⌜ TwoLive (now live) cards ⌝ }
+fn restore_copies(memory: &mut [u32], directory: Directory, failed: u32, forward: bool)
+    requires { ⌜ RackIn (directory .live) (directory .cards) (directory .pages)
+        (length (now memory)) ⌝ }
+    requires { ⌜ HomesIn (directory .live) (directory .pages) (directory .primary)
+        (directory .secondary) (length (now memory)) ⌝ }
+    requires { ⌜ TwoLive (directory .live) (directory .cards) ⌝ }
     ensures { λ _. ⌜ now (memory .exit)
-        ≡ copyToNewHomes
-        (rackOf cards pages (now (live .entry)) (now (primary .entry)) (now (secondary .entry)))
-        failed
-        (restorePages
-        (homesOf pages (now (live .entry)) (now (primary .entry)) (now (secondary .entry)))
-        forward (now (memory .entry))) ⌝ }
+        ≡ copyToNewHomes directory failed
+        (restorePages directory forward (now (memory .entry))) ⌝ }
 {
-    restoring::restore_pages(memory, pages, live, primary, secondary, forward);
-    homes::copy_to_new_homes(memory, cards, pages, live, primary, secondary, failed);
+    let cards = directory.cards;
+    let pages = directory.pages;
+    let live = directory.live;
+    let primary = directory.primary;
+    let secondary = directory.secondary;
+    restoring::restore_pages(memory, pages, &live, &primary, &secondary, forward);
+    homes::copy_to_new_homes(memory, cards, pages, &live, &primary, &secondary, failed);
 }
 
 // Recovers a rack whose releases are closed: reads the failed card's record, restores the copies
 // and writes the records. Gives the release that the record tells.
-fn recover_closed(
-    memory: &mut [u32],
-    cards: u32,
-    pages: u32,
-    live: &[bool],
-    before: &[bool],
-    primary: &[u32],
-    secondary: &[u32],
-    failed: u32,
-    desk: &mut [u32],
-) -> u32
-    requires { ⌜ RackIn (now live) cards pages (length (now memory)) ⌝ }
-    requires { ⌜ HomesIn (now live) pages (now primary) (now secondary) (length (now memory)) ⌝ }
-    requires { ⌜ TwoLive (now live) cards ⌝ }
+fn recover_closed(memory: &mut [u32], directory: Directory, failed: u32, desk: &mut [u32]) -> u32
+    requires { ⌜ RackIn (directory .live) (directory .cards) (directory .pages)
+        (length (now memory)) ⌝ }
+    requires { ⌜ HomesIn (directory .live) (directory .pages) (directory .primary)
+        (directory .secondary) (length (now memory)) ⌝ }
+    requires { ⌜ TwoLive (directory .live) (directory .cards) ⌝ }
     requires { ⌜ (failed < 8) × (length (now desk) ≡ 8) ⌝ }
-    ensures number { λ r. ⌜ r
-        ≡ recordedRelease (areaSize pages) (now (memory .entry))
-        (nextLive (now (live .entry)) cards failed) failed .number ⌝ }
+    ensures number { λ r. ⌜ r ≡ recordOf directory failed (now (memory .entry)) .number ⌝ }
     ensures desk { λ _. ⌜ now (desk .exit)
-        ≡ recordedRelease (areaSize pages) (now (memory .entry))
-        (nextLive (now (live .entry)) cards failed) failed .desk ⌝ }
+        ≡ recordOf directory failed (now (memory .entry)) .desk ⌝ }
     ensures memory { λ _. ⌜ now (memory .exit)
-        ≡ recoveredClosed
-        (rackOf cards pages (now (live .entry)) (now (primary .entry)) (now (secondary .entry)))
-        (now (before .entry)) failed (now (memory .entry)) ⌝ }
+        ≡ recoveredClosed directory failed (now (memory .entry)) ⌝ }
 {
-    let size = memory::area_size(pages);
+    let size = memory::area_size(directory.pages);
     let at = failed as usize;
-    let holder = directory::next_live_after(live, cards, failed) as usize;
+    let holder = directory.next_live(failed) as usize;
     let number = records::load_record(memory, size, holder, at, desk);
     let forward = records::under_way(memory, size, holder, at);
-    restore_copies(
-        memory,
-        cards,
-        pages,
-        live,
-        primary,
-        secondary,
-        failed,
-        forward,
-    );
-    records::write_records(memory, cards, pages, live, before, failed, number, desk);
+    restore_copies(memory, directory, failed, forward);
+    records::write_records(memory, directory, failed, number, desk);
     number
-}
-
-// The marks with the failed card counted as live.
-fn marks_before(directory: Directory, failed: u32) -> [bool; 8]
-    ensures { λ r. ⌜ r ≡ set (directory .live) failed true ⌝ }
-{
-    let before = directory.mark_live(failed);
-    before.live
 }
 
 // Recovers a failed card: closes the open releases, restores the copies and writes the records.
@@ -127,22 +89,8 @@ pub fn recover_memory(
     ensures memory { λ _. ⌜ now (memory .exit)
         ≡ recoveredMemory directory failed (now (memory .entry)) ⌝ }
 {
-    let live = directory.live;
-    let primary = directory.primary;
-    let secondary = directory.secondary;
-    let before = marks_before(directory, failed);
     closing::close_releases(memory, directory, failed);
-    recover_closed(
-        memory,
-        directory.cards,
-        directory.pages,
-        &live,
-        &before,
-        &primary,
-        &secondary,
-        failed,
-        desk,
-    )
+    recover_closed(memory, directory, failed, desk)
 }
 
 // Every page that lost a home gets its new homes, and the rack is running.

@@ -8,10 +8,11 @@ ghost use Rattle.protocol.specs.Release.{releaseOf, ownRelease};
 ghost use Rattle.laws.specs.Search.{inTurn};
 ghost use Rattle.memory.specs.Layout.{areaSize};
 ghost use Rattle.directory.specs.Live.{nextLive};
-ghost use Rattle.protocol.specs.Record.{recordedRelease, underWay, settledRecord};
-ghost use Rattle.protocol.specs.Record.{writeRecord, writeOwnRecord};
-ghost use Rattle.protocol.specs.Recovery.{writeFailed};
+ghost use Rattle.protocol.specs.Record.{recordedRelease, underWay, settledRecord, writeRecord};
+ghost use Rattle.protocol.specs.Record.{writeOwnRecord};
+ghost use Rattle.protocol.specs.Recovery.{writeFailed, writeRecords};
 ghost use Rattle.recovery.specs.Rack.{RackIn, Covers, marksOf, backedBy};
+use directory::Directory;
 
 // Reads the release that the record of a card on its holder tells: its number, and its desk by the
 // number's evenness.
@@ -207,30 +208,26 @@ pub(crate) fn write_own_records(
 }
 
 // Writes the record of the failed card on every live card, and the records of the cards whose
-// backup it was, by the marks `before`, on their new backups.
+// backup it was on their new backups.
 pub(crate) fn write_records(
     memory: &mut [u32],
-    cards: u32,
-    pages: u32,
-    live: &[bool],
-    before: &[bool],
+    directory: Directory,
     failed: u32,
     number: u32,
     desk: &[u32],
 )
-    requires { ⌜ RackIn (now live) cards pages (length (now memory)) ⌝ }
+    requires { ⌜ RackIn (directory .live) (directory .cards) (directory .pages)
+        (length (now memory)) ⌝ }
     requires { ⌜ (failed < 8) × (length (now desk) ≡ 8) ⌝ }
     ensures { λ _. ⌜ now (memory .exit)
-        ≡ inTurn
-        (writeOwnRecord (areaSize pages)
-        (backedBy (now (live .entry)) (now (before .entry)) cards failed)
-        (nextLive (now (live .entry)) cards))
-        cards
-        (inTurn
-        (writeFailed (marksOf cards pages (now (live .entry))) failed
-        (releaseOf number (now (desk .entry))))
-        cards (now (memory .entry))) ⌝ }
+        ≡ writeRecords directory failed (releaseOf number (now (desk .entry)))
+        (now (memory .entry)) ⌝ }
 {
-    write_failed_records(memory, cards, pages, live, failed as usize, number, desk);
-    write_own_records(memory, cards, pages, live, before, live, failed);
+    let cards = directory.cards;
+    let pages = directory.pages;
+    let live = directory.live;
+    let marked = directory.mark_live(failed);
+    let before = marked.live;
+    write_failed_records(memory, cards, pages, &live, failed as usize, number, desk);
+    write_own_records(memory, cards, pages, &live, &before, &live, failed);
 }

@@ -1,4 +1,5 @@
-// Pages rolled forward or back: at each live home tentative to committed, or committed to tentative.
+// Pages rolled forward or back: at each live home tentative is copied to committed, or committed to
+// tentative.
 ghost use mathlib.Core.Path.{_≡_};
 ghost use Prim.Native.Nat.{_<_, _≤_};
 ghost use lib.ListN.{length};

@@ -1,5 +1,5 @@
 -- The runs that records and own words are stored as.
-use Prim.Native.Nat.{ℕ, _+_, _*_, _%_, _<_}
+use Prim.Native.Nat.{ℕ, _+_, _*_, _%_}
 use mathlib.Core.Path.{_≡_, _∙_}
 use mathlib.Core.List.{List, _∷_, append-nil}
 use native.Mathlib.Omega.{arith}

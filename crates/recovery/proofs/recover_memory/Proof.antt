@@ -9,29 +9,23 @@ use Rattle.recovery.proofs.recover_memory.Tie as tie
 
 recover-closed-requires : tie.Need-recover-closed-requires
 recover-closed-requires c κs =
-    let closed = c .before .before .before .before .before .before .before in
+    let closed = c .before .before .before in
     let same = closed .memory .given in
-    let pre = closed .before .before .before .before .before .before .before .before .before .pre in
+    let pre = closed .before .before .before .before .before .pre in
     (rack-kept (pre .0) same, (homes-kept (pre .1 .0) same, (pre .1 .1 .0, pre .1 .1 .1 .0)))
 
 returns : tie.Need-returns
 unfolding failedRelease
 returns c =
     let rest = c .before .before .before .before in
-    let closed = rest .before .before .before .before .before .before .before .before .before in
-    let marks = closed .before .before in
-    let a = marks .before .before .before .before .before .before .args in
+    let closed = rest .before .before .before .before .before in
+    let a = closed .before .before .before .before .args in
     let recovered = rw (closed .close-releases .ensures) at (rest .recover-closed .ensures) in (
       recovered .0,
-      (
-        recovered .1 .0,
-        (rw (marks .marks-before .ensures) at (recovered .1 .1))
-            ∙ recovered-by-parts (a .directory) (a .failed) (a .memory .now),
-      ),
+      (recovered .1 .0, recovered .1 .1 ∙ recovered-by-parts (a .directory) (a .failed) (a .memory .now)),
     )
 
 pub recover-memory-spec : {M : Type 1} → statement M
 recover-memory-spec =
     tie.close
-    (tie.spec (λ c κs. search needs) (λ c κs. search needs) (λ c. search needs) (λ c. search needs)
-    (λ c. search needs) (λ c. search needs) recover-closed-requires (λ c. search needs) (λ c. search needs) returns)
+    (tie.spec (λ c κs. search needs) recover-closed-requires (λ c. search needs) (λ c. search needs) returns)

@@ -1,14 +1,29 @@
--- Rests on what `write_failed_records` and `write_own_records` ensure.
+-- Rests on `records-by-marks`: the records by the marks before and after the failure are those of the directory.
+use mathlib.Core.Path.{_∙_}
+use Rattle.protocol.specs.Release.{releaseOf}
+use Rattle.recovery.proofs.Kept.{rack-kept}
+use Rattle.recovery.proofs.Recovering.{records-by-marks}
 use borrow.Author.Needs.{needs}
 use Rattle.recovery.proofs.records.write_records.Statement.{statement}
 use Rattle.recovery.proofs.records.write_records.Tie as tie
 
+write-own-records-requires : tie.Need-write-own-records-requires
+write-own-records-requires c κs =
+    let failed = c .before .before .before .before .before in
+    let pre = failed .before .before .before .before .before .before .before .before .before .pre in
+    (rack-kept (pre .0) (failed .memory .given), record { live-too = λ x up. up })
+
 returns : tie.Need-returns
 returns c =
-    let first = c .before .before .before .before .before .before in
-    rw (first .write-failed-records .ensures) at (c .before .before .write-own-records .ensures)
+    let own = c .before .before in
+    let failed = own .before .before .before .before .before .before .before in
+    let marked = failed .before .before .before .before in
+    let a = marked .before .before .before .before .args in
+    (rw (failed .write-failed-records .ensures, marked .mark-live .ensures) at (own .write-own-records .ensures))
+    ∙ records-by-marks (a .directory) (a .failed) (releaseOf (a .number) (a .desk .now)) (a .memory .now)
 
 pub write-records-spec : {M : Type 1} → statement M
 write-records-spec =
     tie.close
-    (tie.spec (λ c κs. search needs) (λ c κs. search needs) (λ c. search needs) returns)
+    (tie.spec (λ c κs. search needs) (λ c. search needs) (λ c κs. search needs) (λ c. search needs)
+    (λ c. search needs) (λ c. search needs) write-own-records-requires (λ c. search needs) returns)
