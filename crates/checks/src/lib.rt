@@ -255,9 +255,9 @@ pub fn running(memory: &[u32], directory: Directory) -> u32
     ensures { λ r. ⌜ r
         ≡ firstRefusal (runningChecks directory (now (memory .entry))) 0 .number ⌝ }
 {
-    let refused = fitting(memory, directory);
-    if refused != 0 {
-        return refused;
+    let unfit = fitting(memory, directory);
+    if unfit != 0 {
+        return unfit;
     }
     let status = directory.status;
     match status {
