@@ -1,6 +1,6 @@
 -- One turn of the loop that makes steps: the steps that are left, made from here, give the whole.
-use Prim.Native.Nat.{ℕ, zero, suc, _+_, _-_, _≤_, _<_}
-use mathlib.Core.Path.{_≡_, sym}
+use Prim.Native.Nat.{ℕ, suc, _+_, _-_, _≤_, _<_}
+use mathlib.Core.Path.{_≡_}
 use mathlib.Core.Logic.{_≢_}
 use mathlib.Core.List.{List}
 use native.Mathlib.Omega.{arith}
@@ -8,7 +8,6 @@ use borrow.Author.Tests.{eq-eqb, ne-eqb}
 use Rattle.answer.specs.declared.Outcome.{Outcome}
 use Rattle.answer.specs.Outcome.{given, refusedAt}
 use Rattle.directory.specs.declared.Directory.{Directory}
-use Rattle.protocol.specs.Result.{Result}
 use Rattle.protocol.specs.Step.{step}
 use Rattle.commands.specs.Execute.{shown, stepsFrom}
 

@@ -1,2 +1,3 @@
 -- Laws that the interpreter's proofs cite.
 pub mod Parts
+pub mod Transcript

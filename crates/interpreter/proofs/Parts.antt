@@ -1,5 +1,5 @@
 -- A part of the input up to a line feed: what it leaves to print, and where it ends.
-use Prim.Native.Nat.{ℕ, zero, suc, _+_, _-_, _≤_, _<_}
+use Prim.Native.Nat.{ℕ, suc, _+_, _-_, _≤_, _<_}
 use mathlib.Core.Path.{_≡_, refl, sym, ap, _∙_}
 use mathlib.Core.List.{List, [], _∷_, _++_, append-assoc}
 use mathlib.Core.Bool.{Bool, true, false}
@@ -9,15 +9,10 @@ use lib.Dec.{eqb}
 use lib.ListN.{length, drop, getD, length-drop}
 use lib.Seq.{drop-cons, drop-drop, getD-drop}
 use native.Mathlib.Numerals.{add-one}
-use Rattle.lines.specs.declared.Line.{Line}
 use Rattle.lines.specs.Line.{byteRead}
 use Rattle.lines.specs.declared.Part.{Part}
 use Rattle.lines.specs.Command.{partFrom}
-use Rattle.interpreter.specs.Transcript.{Session, sessionOf, executed, answered, nextLine, replies}
-
--- the session with this much of its line read
-abbrev pub withLine : Session → Line → Session
-withLine s line = sessionOf (s .directory) (s .number) line
+use Rattle.interpreter.specs.Transcript.{Session, withLine, executed, answered, nextLine, replies}
 
 -- where a part of a list that starts at an index ends
 pub record Ends (s : Session) (m list : List ℕ) (at : ℕ) (p : Part) : Type 0 where

@@ -5,9 +5,9 @@ ghost use Prim.Native.Nat.{ℕ, _+_, _≤_, _<_};
 ghost use mathlib.Core.List.{List, [], _++_};
 ghost use lib.ListN.{length, take, drop};
 ghost use Rattle.protocol.specs.Formatting.{formatting};
-ghost use Rattle.lines.specs.Line.{freshLine};
-ghost use Rattle.interpreter.specs.Transcript.{sessionOf, executed, answered, nextLine};
-ghost use Rattle.interpreter.specs.Transcript.{replies, lastMemory};
+ghost use Rattle.interpreter.specs.Transcript.{executed, answered, nextLine, replies};
+ghost use Rattle.interpreter.specs.Transcript.{withLine, lastMemory, firstSession, header};
+ghost use Rattle.interpreter.specs.Transcript.{PrintsTranscript};
 use directory::Directory;
 use lines::Line;
 
@@ -17,6 +17,20 @@ pub struct Session {
     // Of the line that is being read, from 1 on.
     pub number: u64,
     pub line: Line,
+}
+
+impl Session {
+    // With this much of its line read.
+    fn with_line(self, line: Line) -> Self
+        ensures { λ r. ⌜ r ≡ withLine self line ⌝ }
+    {
+        let directory = self.directory;
+        Session {
+            directory,
+            number: self.number,
+            line,
+        }
+    }
 }
 
 // ---- the input
@@ -94,14 +108,9 @@ fn feed(
 {
     let line = session.line;
     let part = lines::read_part(line, input, from);
-    let directory = session.directory;
     let line = part.line;
-    let read = Session {
-        directory,
-        number: session.number,
-        line,
-    };
     let at = part.at;
+    let read = session.with_line(line);
     if at < input.len() {
         let ended = end_line(memory, read, output, written);
         let session = ended.session;
@@ -163,10 +172,22 @@ pub fn finish(memory: &mut [u32], session: Session, output: &mut [u8; 80]) -> us
     0
 }
 
+// Whatever the input holds, the header and what is printed from the first byte on are document 01's
+// transcript. It does nothing when it is called.
+pub fn prints_transcript()
+    ensures { λ _. ⌜ PrintsTranscript ⌝ }
+{}
+
+// The line that the program prints first.
+pub fn header() -> [u8; 9]
+    ensures { λ r. ⌜ r ≡ header ⌝ }
+{
+    [b'r', b'a', b'c', b'k', b' ', b'3', b' ', b'4', b'\n']
+}
+
 // Formats a rack of 3 cards and 4 pages; before the first line.
 pub fn start(memory: &mut [u32]) -> Session
-    ensures session { λ r. ⌜ r
-        ≡ sessionOf (formatting (now (memory .entry)) 3 4 .directory) 1 freshLine ⌝ }
+    ensures session { λ r. ⌜ r ≡ firstSession (now (memory .entry)) ⌝ }
     ensures memory { λ _. ⌜ now (memory .exit)
         ≡ formatting (now (memory .entry)) 3 4 .memory ⌝ }
 {

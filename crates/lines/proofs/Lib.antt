@@ -1,3 +1,10 @@
--- Laws that the loops over lines cite.
+-- Laws on lines and answers.
 pub mod Parts
 pub mod Digits
+pub mod Forms
+pub mod Unreadable
+pub mod Numbers
+pub mod Held
+pub mod Resuming
+pub mod Grammar
+pub mod Begun

@@ -7,7 +7,7 @@ use borrow.Author.Tests.{eq-eqb, ne-eqb}
 use lib.ListN.{length, drop, getD, drop-of-length-le}
 use lib.Seq.{drop-cons}
 use Rattle.lines.specs.Line.{Line, byteRead}
-use Rattle.lines.specs.Command.{Part, partFrom}
+use Rattle.lines.specs.Command.{partFrom}
 
 module _ (line : Line) (input : List ℕ) (at : ℕ) where
   -- at the end of the input, at a line feed, and at any other byte

@@ -3,8 +3,8 @@
 -- Assumes nothing: these are definitions.
 use Prim.Native.Nat.{ℕ, _+_}
 use mathlib.Core.List.{List, [], _∷_}
-use mathlib.Core.Bool.{cond}
-use lib.ListN.{drop, getD}
+use mathlib.Core.Bool.{Bool, cond, _&&_}
+use lib.ListN.{getD}
 use lib.Dec.{leb, eqb}
 pub use Rattle.lines.specs.declared.Command.{Command}
 pub use Rattle.lines.specs.declared.Part.{Part}
@@ -15,32 +15,36 @@ use Rattle.lines.specs.Line.{endedField, byteRead}
 abbrev pub field : List ℕ → ℕ → ℕ
 field fields i = getD fields i 0
 
+-- "Pages above 63, words above 31 .. are unreadable"
+unfoldable pub isLabel : ℕ → ℕ → Bool
+isLabel page word = leb page 63 && leb word 31
+
 -- B card number page word price
 unfoldable pub openForm : List ℕ → ℕ → Command
 openForm f count =
     cond (eqb count 6)
-    (cond (leb (field f 3) 63)
-    (cond (leb (field f 4) 31) (Open (field f 1) (field f 2) (field f 3) (field f 4) (field f 5)) Unreadable)
+    (cond (isLabel (field f 3) (field f 4))
+    (Open (field f 1) (field f 2) (field f 3) (field f 4) (field f 5))
     Unreadable)
     Unreadable
 
 -- S card count
-abbrev pub stepForm : List ℕ → ℕ → Command
+unfoldable pub stepForm : List ℕ → ℕ → Command
 stepForm f count = cond (eqb count 3) (Step (field f 1) (field f 2)) Unreadable
 
 -- X card
-abbrev pub failForm : List ℕ → ℕ → Command
+unfoldable pub failForm : List ℕ → ℕ → Command
 failForm f count = cond (eqb count 2) (Fail (field f 1)) Unreadable
 
 -- J card
-abbrev pub joinForm : List ℕ → ℕ → Command
+unfoldable pub joinForm : List ℕ → ℕ → Command
 joinForm f count = cond (eqb count 2) (Join (field f 1)) Unreadable
 
 -- F page word
 unfoldable pub fetchForm : List ℕ → ℕ → Command
 fetchForm f count =
     cond (eqb count 3)
-    (cond (leb (field f 1) 63) (cond (leb (field f 2) 31) (Fetch (field f 1) (field f 2)) Unreadable) Unreadable)
+    (cond (isLabel (field f 1) (field f 2)) (Fetch (field f 1) (field f 2)) Unreadable)
     Unreadable
 
 -- by the letter: B, S, X, J or F

@@ -1,4 +1,5 @@
 -- What the contracts of lines cite.
 pub mod Line
 pub mod Command
+pub mod Grammar
 pub mod Answer

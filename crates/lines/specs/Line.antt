@@ -3,7 +3,7 @@
 -- Assumes nothing: these are definitions.
 use Prim.Native.Nat.{ℕ, _+_, _-_, _*_}
 use mathlib.Core.List.{List, [], _∷_}
-use mathlib.Core.Bool.{Bool, true, false, cond, _&&_, _||_, not}
+use mathlib.Core.Bool.{Bool, true, false, cond}
 use lib.ListN.{set, replicate}
 use lib.Dec.{ltb, leb, eqb}
 pub use Rattle.lines.specs.declared.Line.{Line}
@@ -61,3 +61,8 @@ byteRead s b =
 -- "nothing after the last line feed is no line": whether a byte of the line has been read
 abbrev pub hasBegun : Line → Bool
 hasBegun s = cond (s .readable) (cond (eqb (s .count) 0) (ltb 0 (s .bytes)) true) true
+
+-- the bytes of a line, one after the other
+unfoldable pub lineRead : Line → List ℕ → Line
+lineRead s [] = s
+lineRead s (b ∷ bs) = lineRead (byteRead s b) bs

@@ -7,9 +7,11 @@ ghost use lib.ListN.{length, take, drop};
 ghost use lib.Seq.{sets};
 ghost use Rattle.lines.specs.Line.{freshLine, unreadableLine, endedField, letterRead};
 ghost use Rattle.lines.specs.Line.{digitRead, byteRead, hasBegun};
-ghost use Rattle.lines.specs.Command.{openForm, stepForm, failForm, joinForm, fetchForm};
+ghost use Rattle.lines.specs.Command.{isLabel, openForm, stepForm, failForm, joinForm};
+ghost use Rattle.lines.specs.Command.{fetchForm};
 ghost use Rattle.lines.specs.Command.{formOf, commandOf, partFrom};
-ghost use Rattle.lines.specs.Answer.{digitsBefore, decimalBefore, answerLine};
+ghost use Rattle.lines.specs.Grammar.{ReadsCommands};
+ghost use Rattle.lines.specs.Answer.{decimalBefore, answerLine};
 
 // What a line asks for.
 pub enum Command {
@@ -152,22 +154,30 @@ impl Line {
 
 // ---- the command of a line
 
+// Whether a line may name this page and this word.
+fn is_label(page: u32, word: u32) -> bool
+    ensures { λ r. ⌜ r ≡ isLabel page word ⌝ }
+{
+    if page <= 63 {
+        return word <= 31;
+    }
+    false
+}
+
 fn open_form(fields: &[u32; 6], count: usize) -> Command
     ensures { λ r. ⌜ r ≡ openForm (now (fields .entry)) count ⌝ }
 {
+    let page = fields[3];
+    let word = fields[4];
     if count == 6 {
-        let page = fields[3];
-        let word = fields[4];
-        if page <= 63 {
-            if word <= 31 {
-                return Command::Open {
-                    card: fields[1],
-                    number: fields[2],
-                    page: page as u8,
-                    word: word as u8,
-                    price: fields[5],
-                };
-            }
+        if is_label(page, word) {
+            return Command::Open {
+                card: fields[1],
+                number: fields[2],
+                page: page as u8,
+                word: word as u8,
+                price: fields[5],
+            };
         }
     }
     Command::Unreadable
@@ -206,16 +216,14 @@ fn join_form(fields: &[u32; 6], count: usize) -> Command
 fn fetch_form(fields: &[u32; 6], count: usize) -> Command
     ensures { λ r. ⌜ r ≡ fetchForm (now (fields .entry)) count ⌝ }
 {
+    let page = fields[1];
+    let word = fields[2];
     if count == 3 {
-        let page = fields[1];
-        let word = fields[2];
-        if page <= 63 {
-            if word <= 31 {
-                return Command::Fetch {
-                    page: page as u8,
-                    word: word as u8,
-                };
-            }
+        if is_label(page, word) {
+            return Command::Fetch {
+                page: page as u8,
+                word: word as u8,
+            };
         }
     }
     Command::Unreadable
@@ -248,6 +256,12 @@ impl Line {
         Command::Unreadable
     }
 }
+
+// Whatever a line holds, the command that is read byte by byte is the one that document 01's
+// grammar has for it. It does nothing when it is called.
+pub fn reads_commands()
+    ensures { λ _. ⌜ ReadsCommands ⌝ }
+{}
 
 // A part of the input that holds no line feed.
 pub struct Part {

@@ -8,15 +8,6 @@ use Rattle.commands.proofs.Results.{failure-keeps, failure-refused, fai
 use Rattle.commands.proofs.fail_and_recover.Statement.{statement}
 use Rattle.commands.proofs.fail_and_recover.Tie as tie
 
-fail-card-requires : tie.Need-fail-card-requires
-fail-card-requires c κs = search needs
-
-outcome-of-requires : tie.Need-outcome-of-requires
-outcome-of-requires c κs = search needs
-
-same-length : tie.Need-same-length
-same-length c = search needs
-
 returns : tie.Need-returns
 returns c =
     let a = c .before .before .before .before .before .before .before .args in
@@ -25,15 +16,6 @@ returns c =
     let failed = c .before .before .before .before .fail-card .ensures in
     let comes = c .before .before .outcome-of .ensures ∙ told (failure d m (a .card) .outcome) (failed .0) in
     rw (failure-refused d m (a .card) comes (c .if1 .taken)) (comes, (failed .1, sym (failure-keeps d m (a .card))))
-
-recover-card-requires : tie.Need-recover-card-requires
-recover-card-requires c κs = search needs
-
-outcome-of-requires-2 : tie.Need-outcome-of-requires-2
-outcome-of-requires-2 c κs = search needs
-
-same-length-2 : tie.Need-same-length-2
-same-length-2 c = search needs
 
 returns-2 : tie.Need-returns-2
 returns-2 c =
@@ -56,11 +38,11 @@ pub fail-and-recover-spec : {M : Type 1} → statement M
 fail-and-recover-spec =
     tie.close
     (tie.spec
-    fail-card-requires
-    outcome-of-requires
-    same-length
+    (λ c κs. search needs)
+    (λ c κs. search needs)
+    (λ c. search needs)
     returns
-    recover-card-requires
-    outcome-of-requires-2
-    same-length-2
+    (λ c κs. search needs)
+    (λ c κs. search needs)
+    (λ c. search needs)
     returns-2)

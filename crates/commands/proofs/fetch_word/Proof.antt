@@ -10,15 +10,6 @@ use Rattle.commands.specs.Execute.{fetchWord}
 use Rattle.commands.proofs.fetch_word.Statement.{statement}
 use Rattle.commands.proofs.fetch_word.Tie as tie
 
-slice-aggregate-fetch-page : tie.Need-slice-aggregate-fetch-page
-slice-aggregate-fetch-page c = search needs
-
-fetch-page-requires : tie.Need-fetch-page-requires
-fetch-page-requires c κs = search needs
-
-outcome-of-requires : tie.Need-outcome-of-requires
-outcome-of-requires c κs = search needs
-
 returns : tie.Need-returns
 unfolding fetchWord zeros
 returns c =
@@ -27,15 +18,6 @@ returns c =
     let came = fetch (a .directory) (a .memory .now) (a .page) (zeros pageSize) .outcome in
     let comes = c .before .before .outcome-of .ensures ∙ told came (fetched .0) in
     (rw (← comes) (simp (ne-eqb _ _ (c .if1 .taken))), fetched .1 .0)
-
-slice-aggregate-price-in : tie.Need-slice-aggregate-price-in
-slice-aggregate-price-in c = search needs
-
-price-in-requires : tie.Need-price-in-requires
-price-in-requires c κs = search needs
-
-cast-t17 : tie.Need-cast-t17
-cast-t17 c = search needs
 
 returns-2 : tie.Need-returns-2
 unfolding fetchWord zeros
@@ -52,11 +34,11 @@ pub fetch-word-spec : {M : Type 1} → statement M
 fetch-word-spec =
     tie.close
     (tie.spec
-    slice-aggregate-fetch-page
-    fetch-page-requires
-    outcome-of-requires
+    (λ c. search needs)
+    (λ c κs. search needs)
+    (λ c κs. search needs)
     returns
-    slice-aggregate-price-in
-    price-in-requires
-    cast-t17
+    (λ c. search needs)
+    (λ c κs. search needs)
+    (λ c. search needs)
     returns-2)

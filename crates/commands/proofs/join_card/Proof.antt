@@ -6,15 +6,6 @@ use Rattle.protocol.specs.Join.{join}
 use Rattle.commands.proofs.join_card.Statement.{statement}
 use Rattle.commands.proofs.join_card.Tie as tie
 
-join-card-requires : tie.Need-join-card-requires
-join-card-requires c κs = search needs
-
-outcome-of-requires : tie.Need-outcome-of-requires
-outcome-of-requires c κs = search needs
-
-same-length : tie.Need-same-length
-same-length c = search needs
-
 returns : tie.Need-returns
 returns c =
     let a = c .before .before .before .before .before .before .before .args in
@@ -24,4 +15,4 @@ returns c =
     )
 
 pub join-card-spec : {M : Type 1} → statement M
-join-card-spec = tie.close (tie.spec join-card-requires outcome-of-requires same-length returns)
+join-card-spec = tie.close (tie.spec (λ c κs. search needs) (λ c κs. search needs) (λ c. search needs) returns)

@@ -25,18 +25,6 @@ loop-holds c =
     let whole : count - 0 ≡ count = omega arith in
     (search needs, search needs, rw whole)
 
-make-step-requires : tie.Need-make-step-requires Inv-loop μ-loop
-make-step-requires c κs = search needs
-
-outcome-of-requires : tie.Need-outcome-of-requires Inv-loop μ-loop
-outcome-of-requires c κs = search needs
-
-cast-t15 : tie.Need-cast-t15 Inv-loop μ-loop
-cast-t15 c = search needs
-
-same-length : tie.Need-same-length Inv-loop μ-loop
-same-length c = search needs
-
 returns : tie.Need-returns Inv-loop μ-loop
 returns c =
     let at = c .before .before .before .before .before .before .before .before .before .loop in
@@ -45,12 +33,6 @@ returns c =
     let some = c .before .before .before .before .before .before .before .before .loop-test .taken in
     let whole = sym (step-refused _ _ _ _ _ some comes (stepped .1 .0) (stepped .1 .1) (c .if1 .taken)) ∙ at .inv .2 in
     all-parts whole
-
-add-made : tie.Need-add-made Inv-loop μ-loop
-add-made c = search needs
-
-loop-less : tie.Need-loop-less Inv-loop μ-loop
-loop-less c = search needs
 
 loop-again : tie.Need-loop-again Inv-loop μ-loop
 loop-again c =
@@ -62,12 +44,6 @@ loop-again c =
       search needs,
       sym (step-made _ _ _ _ _ some comes (stepped .1 .0) (stepped .1 .1) (c .if1 .left)) ∙ at .inv .2,
     )
-
-cast-t16 : tie.Need-cast-t16 Inv-loop μ-loop
-cast-t16 c = search needs
-
-same-length-2 : tie.Need-same-length-2 Inv-loop μ-loop
-same-length-2 c = search needs
 
 returns-2 : tie.Need-returns-2 Inv-loop μ-loop
 returns-2 c =
@@ -82,14 +58,14 @@ make-steps-spec =
     Inv-loop
     μ-loop
     loop-holds
-    make-step-requires
-    outcome-of-requires
-    cast-t15
-    same-length
+    (λ c κs. search needs)
+    (λ c κs. search needs)
+    (λ c. search needs)
+    (λ c. search needs)
     returns
-    add-made
-    loop-less
+    (λ c. search needs)
+    (λ c. search needs)
     loop-again
-    cast-t16
-    same-length-2
+    (λ c. search needs)
+    (λ c. search needs)
     returns-2)

@@ -5,12 +5,6 @@ use lib.ListN.{List·getD-eq-default}
 use Rattle.commands.proofs.price_in.Statement.{statement}
 use Rattle.commands.proofs.price_in.Tie as tie
 
-mul-result : tie.Need-mul-result
-mul-result c = search needs
-
-shared-slice-read-result : tie.Need-shared-slice-read-result
-shared-slice-read-result c = search needs
-
 returns : tie.Need-returns
 returns c = search needs
 
@@ -18,4 +12,4 @@ returns-2 : tie.Need-returns-2
 returns-2 c = sym (List·getD-eq-default (c .before .args .page .now) 0 {n = c .before .args .word} (c .if1 .left))
 
 pub price-in-spec : {M : Type 1} → statement M
-price-in-spec = tie.close (tie.spec mul-result shared-slice-read-result returns returns-2)
+price-in-spec = tie.close (tie.spec (λ c. search needs) (λ c. search needs) returns returns-2)

@@ -5,30 +5,6 @@ use Rattle.interpreter.specs.Transcript.{answered}
 use Rattle.interpreter.proofs.end_line.Statement.{statement}
 use Rattle.interpreter.proofs.end_line.Tie as tie
 
-command-requires : tie.Need-command-requires
-command-requires c κs = search needs
-
-execute-requires : tie.Need-execute-requires
-execute-requires c κs = search needs
-
-letter-of-requires : tie.Need-letter-of-requires
-letter-of-requires c κs = search needs
-
-append-answer-requires : tie.Need-append-answer-requires
-append-answer-requires c κs = search needs
-
-wrapping-add-u64-requires : tie.Need-wrapping-add-u64-requires
-wrapping-add-u64-requires c κs = search needs
-
-fresh-requires : tie.Need-fresh-requires
-fresh-requires c κs = search needs
-
-same-length : tie.Need-same-length
-same-length c = search needs
-
-same-length-2 : tie.Need-same-length-2
-same-length-2 c = search needs
-
 returns : tie.Need-returns
 unfolding answered
 returns c =
@@ -49,12 +25,12 @@ pub end-line-spec : {M : Type 1} → statement M
 end-line-spec =
     tie.close
     (tie.spec
-    command-requires
-    execute-requires
-    letter-of-requires
-    append-answer-requires
-    wrapping-add-u64-requires
-    fresh-requires
-    same-length
-    same-length-2
+    (λ c κs. search needs)
+    (λ c κs. search needs)
+    (λ c κs. search needs)
+    (λ c κs. search needs)
+    (λ c κs. search needs)
+    (λ c κs. search needs)
+    (λ c. search needs)
+    (λ c. search needs)
     returns)

@@ -6,28 +6,17 @@ use Rattle.interpreter.proofs.Parts.{part-places, part-left, part-fed}
 use Rattle.interpreter.proofs.feed.Statement.{statement}
 use Rattle.interpreter.proofs.feed.Tie as tie
 
-read-part-requires : tie.Need-read-part-requires
-read-part-requires c κs = search needs
-
-end-line-requires : tie.Need-end-line-requires
-end-line-requires c κs = search needs
-
-add-t21 : tie.Need-add-t21
-add-t21 c =
+add-t20 : tie.Need-add-t20
+add-t20 c =
     let test = c .before .before .before .before .before .before .before .before in
     let start = test .before .before .before .before .before .before .before .before in
     omega (arith, test .if1 .taken, start .good .1 .1 .0 .0)
-
-same-length : tie.Need-same-length
-same-length c = search needs
-
-same-length-2 : tie.Need-same-length-2
-same-length-2 c = search needs
 
 returns : tie.Need-returns
 returns c =
     let ended = c .before .before .before .before .before .end-line .ensures in
     let test = c .before .before .before .before .before .before .before .before in
+    let read = test .before .with-line .ensures in
     let part = test .before .before .before .read-part in
     let start = test .before .before .before .before .before .before .before .before in
     let a = start .args in
@@ -37,13 +26,14 @@ returns c =
     let places = part-places s m input (a .from) (part .result) (part .ensures) (start .pre .0) in (
       (omega arith, omega arith, ended .0),
       λ rest.
-          rw (ended .1 .0, ended .1 .1 .0, ended .1 .1 .1)
+          rw (ended .1 .0, ended .1 .1 .0, ended .1 .1 .1, read)
           (part-fed s m input (a .from) (part .result) (part .ensures) (start .pre .0) (test .if1 .taken)
           (take (a .written) (a .output .now)) rest),
     )
 
 returns-2 : tie.Need-returns-2
 returns-2 c =
+    let read = c .before .with-line .ensures in
     let part = c .before .before .before .read-part in
     let start = c .before .before .before .before .before .before .before .before in
     let a = start .args in
@@ -53,18 +43,20 @@ returns-2 c =
     let places = part-places s m input (a .from) (part .result) (part .ensures) (start .pre .0) in (
       (omega arith, omega arith, omega arith),
       λ rest.
-          part-left s m input (a .from) (part .result) (part .ensures) (start .pre .0)
-          (take (a .written) (a .output .now)) rest,
+          rw read
+          (part-left s m input (a .from) (part .result) (part .ensures) (start .pre .0)
+          (take (a .written) (a .output .now)) rest),
     )
 
 pub feed-spec : {M : Type 1} → statement M
 feed-spec =
     tie.close
     (tie.spec
-    read-part-requires
-    end-line-requires
-    add-t21
-    same-length
-    same-length-2
+    (λ c κs. search needs)
+    (λ c κs. search needs)
+    (λ c κs. search needs)
+    add-t20
+    (λ c. search needs)
+    (λ c. search needs)
     returns
     returns-2)

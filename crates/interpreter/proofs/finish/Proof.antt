@@ -5,15 +5,6 @@ use Rattle.interpreter.specs.Transcript.{replies}
 use Rattle.interpreter.proofs.finish.Statement.{statement}
 use Rattle.interpreter.proofs.finish.Tie as tie
 
-has-begun-requires : tie.Need-has-begun-requires
-has-begun-requires c κs = search needs
-
-end-line-requires : tie.Need-end-line-requires
-end-line-requires c κs = search needs
-
-same-length : tie.Need-same-length
-same-length c = search needs
-
 returns : tie.Need-returns
 unfolding replies
 returns c =
@@ -30,4 +21,4 @@ returns-2 c =
 
 pub finish-spec : {M : Type 1} → statement M
 finish-spec =
-    tie.close (tie.spec has-begun-requires end-line-requires same-length returns returns-2)
+    tie.close (tie.spec (λ c κs. search needs) (λ c κs. search needs) (λ c. search needs) returns returns-2)

@@ -5,24 +5,6 @@ use Rattle.lines.specs.Command.{formOf}
 use Rattle.lines.proofs.form.Statement.{statement}
 use Rattle.lines.proofs.form.Tie as tie
 
-element-copy-out-letter : tie.Need-element-copy-out-letter
-element-copy-out-letter c = search needs
-
-open-form-requires : tie.Need-open-form-requires
-open-form-requires c κs = search needs
-
-step-form-requires : tie.Need-step-form-requires
-step-form-requires c κs = search needs
-
-fail-form-requires : tie.Need-fail-form-requires
-fail-form-requires c κs = search needs
-
-join-form-requires : tie.Need-join-form-requires
-join-form-requires c κs = search needs
-
-fetch-form-requires : tie.Need-fetch-form-requires
-fetch-form-requires c κs = search needs
-
 returns : tie.Need-returns
 unfolding formOf
 returns c = simp (c .before .match .keys1) (c .open-form .ensures)
@@ -59,12 +41,12 @@ pub form-spec : {M : Type 1} → statement M
 form-spec =
     tie.close
     (tie.spec
-    element-copy-out-letter
-    open-form-requires
-    step-form-requires
-    fail-form-requires
-    join-form-requires
-    fetch-form-requires
+    (λ c. search needs)
+    (λ c κs. search needs)
+    (λ c κs. search needs)
+    (λ c κs. search needs)
+    (λ c κs. search needs)
+    (λ c κs. search needs)
     returns
     returns-2
     returns-3

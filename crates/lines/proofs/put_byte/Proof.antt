@@ -7,15 +7,6 @@ use Rattle.lines.proofs.Digits.{stored-before}
 use Rattle.lines.proofs.put_byte.Statement.{statement}
 use Rattle.lines.proofs.put_byte.Tie as tie
 
-sub-at : tie.Need-sub-at
-sub-at c = search needs
-
-slice-write-text : tie.Need-slice-write-text
-slice-write-text c = search needs
-
-same-length : tie.Need-same-length
-same-length c = search needs
-
 returns : tie.Need-returns
 returns c =
     let a = c .args in
@@ -23,4 +14,4 @@ returns c =
     (next, stored-before (a .text .now) (a .end - 1) (a .end) (a .b) next (omega arith))
 
 pub put-byte-spec : {M : Type 1} → statement M
-put-byte-spec = tie.close (tie.spec sub-at slice-write-text same-length returns)
+put-byte-spec = tie.close (tie.spec (λ c. search needs) (λ c. search needs) (λ c. search needs) returns)

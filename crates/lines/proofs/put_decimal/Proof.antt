@@ -16,21 +16,6 @@ Inv-loop text₀ end n at₀ left₀ rest₀ text at left rest =
 abbrev μ-loop : tie.MeasureT-loop
 μ-loop text₀ end n at₀ left₀ rest₀ text at left rest = left
 
-loop-holds : tie.Need-loop-holds Inv-loop μ-loop
-loop-holds c = search needs
-
-cast-put-byte : tie.Need-cast-put-byte Inv-loop μ-loop
-cast-put-byte c = search needs
-
-add-put-byte : tie.Need-add-put-byte Inv-loop μ-loop
-add-put-byte c = search needs
-
-put-byte-requires : tie.Need-put-byte-requires Inv-loop μ-loop
-put-byte-requires c κs = search needs
-
-same-length : tie.Need-same-length Inv-loop μ-loop
-same-length c = search needs
-
 returns : tie.Need-returns Inv-loop μ-loop
 returns c =
     let test = c .before .before .before .before in
@@ -39,21 +24,6 @@ returns c =
       c .before .before .put-byte .ensures .1
           ∙ sym (digits-last _ _ _ (test .before .loop-test .taken) (test .if1 .taken)) ∙ at .inv .3,
     )
-
-cast-put-byte-2 : tie.Need-cast-put-byte-2 Inv-loop μ-loop
-cast-put-byte-2 c = search needs
-
-add-put-byte-2 : tie.Need-add-put-byte-2 Inv-loop μ-loop
-add-put-byte-2 c = search needs
-
-put-byte-requires-2 : tie.Need-put-byte-requires-2 Inv-loop μ-loop
-put-byte-requires-2 c κs = search needs
-
-sub-left : tie.Need-sub-left Inv-loop μ-loop
-sub-left c = search needs
-
-loop-less : tie.Need-loop-less Inv-loop μ-loop
-loop-less c = search needs
 
 loop-again : tie.Need-loop-again Inv-loop μ-loop
 loop-again c =
@@ -66,9 +36,6 @@ loop-again c =
           ∙ sym (digits-more _ _ _ (test .before .loop-test .taken) (test .if1 .left)) ∙ at .inv .3,
     )
 
-same-length-2 : tie.Need-same-length-2 Inv-loop μ-loop
-same-length-2 c = search needs
-
 returns-2 : tie.Need-returns-2 Inv-loop μ-loop
 returns-2 c = (search needs, sym (digits-none _ _ _ (c .loop-test .left)) ∙ c .before .loop .inv .3)
 
@@ -78,17 +45,17 @@ put-decimal-spec =
     (tie.spec
     Inv-loop
     μ-loop
-    loop-holds
-    cast-put-byte
-    add-put-byte
-    put-byte-requires
-    same-length
+    (λ c. search needs)
+    (λ c. search needs)
+    (λ c. search needs)
+    (λ c κs. search needs)
+    (λ c. search needs)
     returns
-    cast-put-byte-2
-    add-put-byte-2
-    put-byte-requires-2
-    sub-left
-    loop-less
+    (λ c. search needs)
+    (λ c. search needs)
+    (λ c κs. search needs)
+    (λ c. search needs)
+    (λ c. search needs)
     loop-again
-    same-length-2
+    (λ c. search needs)
     returns-2)

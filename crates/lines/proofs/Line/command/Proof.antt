@@ -4,12 +4,6 @@ use Rattle.lines.specs.Command.{commandOf}
 use Rattle.lines.proofs.Line.command.Statement.{statement}
 use Rattle.lines.proofs.Line.command.Tie as tie
 
-end-field-requires : tie.Need-end-field-requires
-end-field-requires c κs = search needs
-
-form-requires : tie.Need-form-requires
-form-requires c κs = search needs
-
 returns : tie.Need-returns
 unfolding commandOf
 returns c =
@@ -21,4 +15,4 @@ unfolding commandOf
 returns-2 c = rw (← c .before .before .end-field .ensures) (simp (c .if1 .left))
 
 pub command-spec : {M : Type 1} → statement M
-command-spec = tie.close (tie.spec end-field-requires form-requires returns returns-2)
+command-spec = tie.close (tie.spec (λ c κs. search needs) (λ c κs. search needs) returns returns-2)

@@ -5,28 +5,13 @@ use Rattle.lines.specs.Line.{endedField}
 use Rattle.lines.proofs.Line.end_field.Statement.{statement}
 use Rattle.lines.proofs.Line.end_field.Tie as tie
 
-unreadable-requires : tie.Need-unreadable-requires
-unreadable-requires c κs = search needs
-
 returns : tie.Need-returns
 unfolding endedField
 returns c = simp (eq-eqb _ _ (c .before .if1 .taken)) (c .unreadable .ensures)
 
-mul-self : tie.Need-mul-self
-mul-self c = search needs
-
-element-write-self : tie.Need-element-write-self
-element-write-self c = search needs
-
-add-self : tie.Need-add-self
-add-self c = search needs
-
 returns-2 : tie.Need-returns-2
 unfolding endedField
 returns-2 c = simp (ne-eqb _ _ (c .before .if1 .left), lt-ltb _ _ (c .if2 .taken))
-
-unreadable-requires-2 : tie.Need-unreadable-requires-2
-unreadable-requires-2 c κs = search needs
 
 returns-3 : tie.Need-returns-3
 unfolding endedField
@@ -37,11 +22,11 @@ pub end-field-spec : {M : Type 1} → statement M
 end-field-spec =
     tie.close
     (tie.spec
-    unreadable-requires
+    (λ c κs. search needs)
     returns
-    mul-self
-    element-write-self
-    add-self
+    (λ c. search needs)
+    (λ c. search needs)
+    (λ c. search needs)
     returns-2
-    unreadable-requires-2
+    (λ c κs. search needs)
     returns-3)

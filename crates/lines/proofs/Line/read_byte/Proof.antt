@@ -6,15 +6,9 @@ use Rattle.lines.specs.Line.{byteRead}
 use Rattle.lines.proofs.Line.read_byte.Statement.{statement}
 use Rattle.lines.proofs.Line.read_byte.Tie as tie
 
-end-field-requires : tie.Need-end-field-requires
-end-field-requires c κs = search needs
-
 returns : tie.Need-returns
 unfolding byteRead
 returns c = c .end-field .ensures ∙ simp (c .before .before .if1 .taken, eq-eqb _ _ (c .before .if2 .taken))
-
-read-letter-requires : tie.Need-read-letter-requires
-read-letter-requires c κs = search needs
 
 returns-2 : tie.Need-returns-2
 unfolding byteRead
@@ -22,9 +16,6 @@ returns-2 c =
     let test = c .before .before .before in
     c .read-letter .ensures
     ∙ simp (test .before .if1 .taken, ne-eqb _ _ (test .if2 .left), eq-eqb _ _ (c .before .if3 .taken))
-
-read-digit-requires : tie.Need-read-digit-requires
-read-digit-requires c κs = search needs
 
 returns-3 : tie.Need-returns-3
 unfolding byteRead
@@ -41,10 +32,10 @@ pub read-byte-spec : {M : Type 1} → statement M
 read-byte-spec =
     tie.close
     (tie.spec
-    end-field-requires
+    (λ c κs. search needs)
     returns
-    read-letter-requires
+    (λ c κs. search needs)
     returns-2
-    read-digit-requires
+    (λ c κs. search needs)
     returns-3
     returns-4)

@@ -5,23 +5,14 @@ use Rattle.lines.specs.Line.{digitRead}
 use Rattle.lines.proofs.Line.read_digit.Statement.{statement}
 use Rattle.lines.proofs.Line.read_digit.Tie as tie
 
-unreadable-requires : tie.Need-unreadable-requires
-unreadable-requires c κs = search needs
-
 returns : tie.Need-returns
 unfolding digitRead
 returns c = simp (lt-ltb _ _ (c .before .if1 .taken)) (c .unreadable .ensures)
-
-unreadable-requires-2 : tie.Need-unreadable-requires-2
-unreadable-requires-2 c κs = search needs
 
 returns-2 : tie.Need-returns-2
 unfolding digitRead
 returns-2 c =
     simp (le-ltb _ _ (c .before .before .if1 .left), lt-ltb _ _ (c .before .if2 .taken)) (c .unreadable2 .ensures)
-
-unreadable-requires-3 : tie.Need-unreadable-requires-3
-unreadable-requires-3 c κs = search needs
 
 returns-3 : tie.Need-returns-3
 unfolding digitRead
@@ -29,21 +20,6 @@ returns-3 c =
     let test = c .before .before .before in
     simp (le-ltb _ _ (test .before .if1 .left), le-ltb _ _ (test .if2 .left), le-leb _ _ (c .before .if3 .taken))
     (c .unreadable3 .ensures)
-
-cast-value : tie.Need-cast-value
-cast-value c = search needs
-
-mul-value : tie.Need-mul-value
-mul-value c = search needs
-
-cast-value-2 : tie.Need-cast-value-2
-cast-value-2 c = search needs
-
-add-value : tie.Need-add-value
-add-value c = search needs
-
-unreadable-requires-4 : tie.Need-unreadable-requires-4
-unreadable-requires-4 c κs = search needs
 
 returns-4 : tie.Need-returns-4
 unfolding digitRead
@@ -57,12 +33,6 @@ returns-4 c =
       lt-ltb _ _ (c .before .if4 .taken),
     )
     (c .unreadable4 .ensures)
-
-add-self : tie.Need-add-self
-add-self c = search needs
-
-cast-self : tie.Need-cast-self
-cast-self c = search needs
 
 returns-5 : tie.Need-returns-5
 unfolding digitRead
@@ -80,18 +50,18 @@ pub read-digit-spec : {M : Type 1} → statement M
 read-digit-spec =
     tie.close
     (tie.spec
-    unreadable-requires
+    (λ c κs. search needs)
     returns
-    unreadable-requires-2
+    (λ c κs. search needs)
     returns-2
-    unreadable-requires-3
+    (λ c κs. search needs)
     returns-3
-    cast-value
-    mul-value
-    cast-value-2
-    add-value
-    unreadable-requires-4
+    (λ c. search needs)
+    (λ c. search needs)
+    (λ c. search needs)
+    (λ c. search needs)
+    (λ c κs. search needs)
     returns-4
-    add-self
-    cast-self
+    (λ c. search needs)
+    (λ c. search needs)
     returns-5)

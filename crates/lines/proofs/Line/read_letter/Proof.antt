@@ -9,12 +9,9 @@ returns : tie.Need-returns
 unfolding letterRead
 returns c = simp (eq-eqb _ _ (c .if1 .taken))
 
-unreadable-requires : tie.Need-unreadable-requires
-unreadable-requires c κs = search needs
-
 returns-2 : tie.Need-returns-2
 unfolding letterRead
 returns-2 c = simp (ne-eqb _ _ (c .before .if1 .left)) (c .unreadable .ensures)
 
 pub read-letter-spec : {M : Type 1} → statement M
-read-letter-spec = tie.close (tie.spec returns unreadable-requires returns-2)
+read-letter-spec = tie.close (tie.spec returns (λ c κs. search needs) returns-2)
