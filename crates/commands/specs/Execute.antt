@@ -1,5 +1,5 @@
--- What a command of shelfrun does (document 01, "Numbers to hold it against": the lines B, S, X, J and F; "The value is
--- steps made (S), stamp found (X), the price (F), else 0; a refusal shows its place, but S its steps made").
+-- What a command of shelfrun does (document 01, "Numbers to hold it against": the lines B, S, X, J and F; "The value
+-- is steps made (S), stamp found (X), the price (F), else 0; a refusal shows its place, but S its steps made").
 -- Assumes nothing: these are definitions.
 use Prim.Native.Nat.{ℕ, zero, suc, _+_}
 use mathlib.Core.List.{List, [], _∷_}

@@ -1,5 +1,5 @@
--- A line read byte by byte (document 01, "Numbers to hold it against": "fields split by one space", "a number is one to
--- ten digits").
+-- A line read byte by byte (document 01, "Numbers to hold it against": "fields split by one space", "a number is one
+-- to ten digits").
 -- Assumes nothing: these are definitions.
 use Prim.Native.Nat.{ℕ, _+_, _-_, _*_}
 use mathlib.Core.List.{List, [], _∷_}

@@ -23,7 +23,9 @@ returns-3 c =
 
 returns-4 : tie.Need-returns-4
 unfolding execute
-returns-4 c = rw (c .before .before .before .before .before .command4 .given .1) (c .before .before .join-card .ensures)
+returns-4 c =
+    rw (c .before .before .before .before .before .command4 .given .1)
+    (c .before .before .join-card .ensures)
 
 returns-5 : tie.Need-returns-5
 unfolding execute fetchWord

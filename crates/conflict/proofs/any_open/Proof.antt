@@ -18,19 +18,26 @@ abbrev μ-loop : tie.MeasureT-loop
 
 is-open-requires : tie.Need-is-open-requires Inv-loop μ-loop
 is-open-requires c κs =
-    let area = area-in _ (c .loop-test .taken) (c .before .before .before .before .before .pre .0 .1) in
-    rw (c .before .before .area-size .ensures) ((omega arith, area), omega arith)
+    let sized = c .before .before in
+    let start = sized .before .before .before in
+    let area = area-in _ (c .loop-test .taken) (start .pre .0 .1) in
+    rw (sized .area-size .ensures) ((omega arith, area), omega arith)
 
 returns : tie.Need-returns Inv-loop μ-loop
 returns c =
-    let opened = sym (rw (c .before .before .before .before .area-size .ensures) at (c .before .is-open .ensures)) ∙ c .if1 .taken in
-    some-found (c .before .before .before .loop .inv) (c .before .before .loop-test .taken) opened
+    let turn = c .before .before in
+    let loop-at = turn .before in
+    let sized = loop-at .before in
+    let opened = sym (rw (sized .area-size .ensures) at (c .before .is-open .ensures)) ∙ c .if1 .taken in
+    some-found (loop-at .loop .inv) (turn .loop-test .taken) opened
 
 loop-again : tie.Need-loop-again Inv-loop μ-loop
 loop-again c =
-    let sized = c .before .before .before .before in
+    let turn = c .before .before in
+    let loop-at = turn .before in
+    let sized = loop-at .before in
     let closed = sym (rw (sized .area-size .ensures) at (c .before .is-open .ensures)) ∙ c .if1 .left in
-    passed-more (c .before .before .before .loop .inv) (c .before .before .loop-test .taken) closed
+    passed-more (loop-at .loop .inv) (turn .loop-test .taken) closed
 
 returns-2 : tie.Need-returns-2 Inv-loop μ-loop
 returns-2 c = none-found (c .before .loop .inv) (c .loop-test .left)
