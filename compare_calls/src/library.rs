@@ -1,43 +1,9 @@
-//! The proved library's calls, through its C interface (include/bandsawpink.h).
+//! The proved library's calls, through its C interface.
 
 use crate::calls::{Call, Reply};
 use crate::guard::{Flush, Guarded};
+use crate::raw::*;
 use second::{Answer, Directory, Status};
-
-/// The awaited card of a rack that awaits none.
-pub const RUNNING: u32 = u32::MAX;
-
-/// The words of a directory: cards, pages, the awaited card, 8 marks, 64 primary and 64 secondary homes.
-const DIRECTORY: usize = 139;
-
-#[repr(C)]
-struct RackAnswer {
-    number: u32,
-    value: u64,
-}
-
-#[repr(C)]
-struct RackDeskAnswer {
-    number: u32,
-    value: u64,
-    desk: [u32; 8],
-}
-
-type Words = *mut u32;
-type Lent = *const u32;
-
-#[rustfmt::skip]
-extern "C" {
-    fn rack_format(memory: Words, len: usize, cards: u32, pages: u32, directory: Words) -> RackAnswer;
-    fn rack_open(memory: Words, len: usize, directory: Lent, card: u32, number: u32, desk: Lent, list: Lent, words: usize) -> RackAnswer;
-    fn rack_step(memory: Words, len: usize, directory: Lent, card: u32) -> RackAnswer;
-    fn rack_fetch(memory: Lent, len: usize, directory: Lent, page: u32, buffer: Words, words: usize) -> RackAnswer;
-    fn rack_fail(memory: Lent, len: usize, directory: Words, card: u32) -> RackAnswer;
-    fn rack_recover(memory: Words, len: usize, directory: Words) -> RackDeskAnswer;
-    fn rack_join(memory: Words, len: usize, directory: Words, card: u32) -> RackAnswer;
-    fn rack_desk(memory: Lent, len: usize, directory: Lent, card: u32) -> RackDeskAnswer;
-    fn rack_make_list(working: Lent, len: usize, twins: Lent, twin_len: usize, buffer: Words, words: usize) -> RackAnswer;
-}
 
 fn answer(number: u32, value: u64) -> Answer {
     match number {

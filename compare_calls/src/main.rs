@@ -3,18 +3,10 @@
 //!
 //!     compare_calls [--seed N] [--calls N]
 
-mod calls;
-mod damage;
-mod guard;
-mod library;
-mod lists;
-mod play;
-mod random;
-mod sweep;
-
-use guard::Flush;
-use play::Play;
-use random::Random;
+use compare_calls::guard::Flush;
+use compare_calls::play::Play;
+use compare_calls::random::Random;
+use compare_calls::{damage, lists, sweep};
 use std::process::ExitCode;
 
 struct Options {

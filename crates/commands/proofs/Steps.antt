@@ -19,7 +19,8 @@ module _ (card count made : ℕ) (d : Directory) (m : List ℕ) where
 
   -- a step, by what it comes to
   module _ {came : Outcome} {d′ : Directory} {m′ : List ℕ} (some : made < count)
-      (comes : came ≡ step d m card .outcome) (leaves : d′ ≡ step d m card .directory) (stores : m′ ≡ step d m card .memory) where
+      (comes : came ≡ step d m card .outcome) (leaves : d′ ≡ step d m card .directory)
+      (stores : m′ ≡ step d m card .memory) where
     pub step-refused : came .number ≢ 0
         → stepsFrom card (count - made) made d m ≡ shown (refusedAt (came .number) made) d′ m′
     unfolding stepsFrom

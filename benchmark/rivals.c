@@ -1,0 +1,188 @@
+/* What a shop would use instead: LMDB without syncing, and SQLite in memory. Each holds two copies of 64 pages of 32
+ * prices. Timed: forty prices changed in one transaction, and one page read. Prints rows of a table. */
+#define _POSIX_C_SOURCE 200809L
+#include <lmdb.h>
+#include <sqlite3.h>
+#include <stdint.h>
+#include <stdio.h>
+#include <stdlib.h>
+#include <string.h>
+#include <time.h>
+#include <unistd.h>
+
+enum { PAGES = 64, WORDS = 32, PRICES = 40, ROUNDS = 41, RUNS = 400 };
+
+static void check(int failed, const char *what) {
+    if (failed) {
+        fprintf(stderr, "rivals: %s\n", what);
+        exit(1);
+    }
+}
+
+static double now(void) {
+    struct timespec t;
+    clock_gettime(CLOCK_MONOTONIC, &t);
+    return (double)t.tv_sec * 1e9 + (double)t.tv_nsec;
+}
+
+static int ascending(const void *a, const void *b) {
+    double x = *(const double *)a, y = *(const double *)b;
+    return (x > y) - (x < y);
+}
+
+/* The median of all rounds, and the distance between the quartiles. */
+static void row(const char *name, void (*run)(uint32_t)) {
+    double times[ROUNDS];
+    uint32_t turn = 0;
+    for (int round = 0; round < ROUNDS; round++) {
+        double start = now();
+        for (int i = 0; i < RUNS; i++) run(turn++);
+        times[round] = (now() - start) / RUNS;
+    }
+    qsort(times, ROUNDS, sizeof times[0], ascending);
+    printf("| %s | %.0f ns | %.0f |\n", name, times[ROUNDS / 2], times[3 * ROUNDS / 4] - times[ROUNDS / 4]);
+}
+
+static uint32_t page_words[WORDS];
+
+/* Forty prices from word 0 on: page 0 whole, and 8 words of page 1. */
+static void change(uint32_t *words, int page, uint32_t price) {
+    for (int word = 0; word < WORDS && page * WORDS + word < PRICES; word++) words[word] = price;
+}
+
+/* ---- LMDB */
+
+static MDB_env *env;
+static MDB_dbi dbi;
+static MDB_txn *reading;
+
+static uint32_t key_of(int copy, int page) { return (uint32_t)(copy << 8 | page); }
+
+static void put(MDB_txn *txn, int copy, int page) {
+    uint32_t key = key_of(copy, page);
+    MDB_val k = {sizeof key, &key}, v = {sizeof page_words, page_words};
+    check(mdb_put(txn, dbi, &k, &v, 0), "mdb_put");
+}
+
+static void get(MDB_txn *txn, int copy, int page) {
+    uint32_t key = key_of(copy, page);
+    MDB_val k = {sizeof key, &key}, v;
+    check(mdb_get(txn, dbi, &k, &v), "mdb_get");
+    memcpy(page_words, v.mv_data, sizeof page_words);
+}
+
+static void lmdb_release(uint32_t price) {
+    MDB_txn *txn;
+    check(mdb_txn_begin(env, NULL, 0, &txn), "mdb_txn_begin");
+    for (int copy = 0; copy < 2; copy++)
+        for (int page = 0; page < 2; page++) {
+            get(txn, copy, page);
+            change(page_words, page, price);
+            put(txn, copy, page);
+        }
+    check(mdb_txn_commit(txn), "mdb_txn_commit");
+}
+
+static void lmdb_read(uint32_t turn) {
+    check(mdb_txn_renew(reading), "mdb_txn_renew");
+    get(reading, 0, (int)(turn % PAGES));
+    mdb_txn_reset(reading);
+}
+
+static void lmdb(void) {
+    char folder[] = "/tmp/rivals.XXXXXX", file[64];
+    MDB_txn *txn;
+    check(mkdtemp(folder) == NULL, "mkdtemp");
+    snprintf(file, sizeof file, "%s/rack", folder);
+    check(mdb_env_create(&env), "mdb_env_create");
+    check(mdb_env_set_mapsize(env, 1 << 26), "mdb_env_set_mapsize");
+    check(mdb_env_open(env, file, MDB_NOSYNC | MDB_NOSUBDIR, 0600), "mdb_env_open");
+    check(mdb_txn_begin(env, NULL, 0, &txn), "mdb_txn_begin");
+    check(mdb_dbi_open(txn, NULL, MDB_INTEGERKEY, &dbi), "mdb_dbi_open");
+    for (int copy = 0; copy < 2; copy++)
+        for (int page = 0; page < PAGES; page++) put(txn, copy, page);
+    check(mdb_txn_commit(txn), "mdb_txn_commit");
+    check(mdb_txn_begin(env, NULL, MDB_RDONLY, &reading), "mdb_txn_begin");
+    mdb_txn_reset(reading);
+    row("LMDB without sync: forty prices in one transaction", lmdb_release);
+    row("LMDB: one page read", lmdb_read);
+    mdb_txn_abort(reading);
+    mdb_env_close(env);
+    unlink(file);
+    strcat(file, "-lock");
+    unlink(file);
+    rmdir(folder);
+}
+
+/* ---- SQLite */
+
+static sqlite3 *db;
+static sqlite3_stmt *insert, *selecting, *begin, *commit;
+
+static sqlite3_stmt *prepared(const char *sql) {
+    sqlite3_stmt *statement;
+    check(sqlite3_prepare_v2(db, sql, -1, &statement, NULL), sql);
+    return statement;
+}
+
+static void stepped(sqlite3_stmt *statement, int expected) {
+    check(sqlite3_step(statement) != expected, "sqlite3_step");
+}
+
+static void bind(sqlite3_stmt *statement, int copy, int page) {
+    sqlite3_bind_int(statement, 1, (int)key_of(copy, page));
+}
+
+static void sqlite_put(int copy, int page) {
+    bind(insert, copy, page);
+    sqlite3_bind_blob(insert, 2, page_words, sizeof page_words, SQLITE_STATIC);
+    stepped(insert, SQLITE_DONE);
+    sqlite3_reset(insert);
+}
+
+static void sqlite_get(int copy, int page) {
+    bind(selecting, copy, page);
+    stepped(selecting, SQLITE_ROW);
+    memcpy(page_words, sqlite3_column_blob(selecting, 0), sizeof page_words);
+    sqlite3_reset(selecting);
+}
+
+static void sqlite_release(uint32_t price) {
+    stepped(begin, SQLITE_DONE);
+    sqlite3_reset(begin);
+    for (int copy = 0; copy < 2; copy++)
+        for (int page = 0; page < 2; page++) {
+            sqlite_get(copy, page);
+            change(page_words, page, price);
+            sqlite_put(copy, page);
+        }
+    stepped(commit, SQLITE_DONE);
+    sqlite3_reset(commit);
+}
+
+static void sqlite_read(uint32_t turn) { sqlite_get(0, (int)(turn % PAGES)); }
+
+static void sqlite(void) {
+    check(sqlite3_open(":memory:", &db), "sqlite3_open");
+    check(sqlite3_exec(db, "create table page (id integer primary key, words blob)", NULL, NULL, NULL), "create");
+    insert = prepared("insert or replace into page values (?, ?)");
+    selecting = prepared("select words from page where id = ?");
+    begin = prepared("begin");
+    commit = prepared("commit");
+    for (int copy = 0; copy < 2; copy++)
+        for (int page = 0; page < PAGES; page++) sqlite_put(copy, page);
+    row("SQLite in memory: forty prices in one transaction", sqlite_release);
+    row("SQLite: one page read", sqlite_read);
+    sqlite3_finalize(insert);
+    sqlite3_finalize(selecting);
+    sqlite3_finalize(begin);
+    sqlite3_finalize(commit);
+    sqlite3_close(db);
+}
+
+int main(void) {
+    printf("| instead | time | spread |\n|---|---|---|\n");
+    lmdb();
+    sqlite();
+    return 0;
+}
