@@ -1,0 +1,16 @@
+-- An answer that tells an outcome, in numbers.
+use Prim.Native.Nat.{ℕ}
+use mathlib.Core.Path.{_≡_}
+use mathlib.Core.List.{List}
+use Rattle.answer.specs.declared.Outcome.{Outcome}
+use Rattle.answer.specs.declared.Answer.{Answer}
+use Rattle.answer.specs.Outcome.{outcome, answerOf}
+use Rattle.answer.proofs.Told.{told}
+use Rattle.bandsawpink.specs.Answers.{answered, answeredDesk}
+
+module _ {a : Answer} (o : Outcome) (tells : a ≡ answerOf o) where
+  pub answer-told : answered (outcome a) ≡ answered o
+  answer-told = rw (told o tells)
+
+  pub desk-told : {desk words : List ℕ} → desk ≡ words → answeredDesk (outcome a) desk ≡ answeredDesk o words
+  desk-told same = rw (told o tells, same)

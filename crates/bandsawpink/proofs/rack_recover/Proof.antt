@@ -1,0 +1,20 @@
+-- Rests on the call of the rack.
+use mathlib.Core.Path.{_∙_}
+use borrow.Author.Needs.{needs}
+use Rattle.bandsawpink.proofs.Answers.{desk-told}
+use Rattle.bandsawpink.proofs.rack_recover.Statement.{statement}
+use Rattle.bandsawpink.proofs.rack_recover.Tie as tie
+
+returns : tie.Need-returns
+returns c =
+    let told-at = c .before .before .before in
+    let called = told-at .before .before .before .before in
+    let recovered = rw (called .before .before .directory-in .ensures) at (called .recover-card .ensures) in
+    let answers = told-at .with-desk .ensures ∙ desk-told _ (recovered .0) (recovered .1 .1 .0) in
+    (answers, (c .hand-back .ensures ∙ rw (answers, recovered .1 .0), recovered .1 .1 .1))
+
+pub rack-recover-spec : {M : Type 1} → statement M
+rack-recover-spec =
+    tie.close
+    (tie.spec (λ c κs. search needs) (λ c κs. search needs) (λ c κs. search needs) (λ c κs. search needs)
+    (λ c. search needs) returns)

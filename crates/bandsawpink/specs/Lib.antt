@@ -1,0 +1,3 @@
+-- What the contracts of the exported functions cite.
+pub mod Words
+pub mod Answers

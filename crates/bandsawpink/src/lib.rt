@@ -1,0 +1,236 @@
+// The rack's calls for programs in C and Rust: the functions of include/bandsawpink.h. Each does
+// what the call of `rack` does, on any argument; C hands in a slice as a pointer and a length.
+ghost use mathlib.Core.Path.{_≡_};
+ghost use mathlib.Core.Bool.{cond};
+ghost use lib.Dec.{eqb};
+ghost use lib.ListN.{length};
+ghost use Rattle.answer.specs.Outcome.{outcome};
+ghost use Rattle.diff.specs.Making.{makeDiff, bufferAfter};
+ghost use Rattle.protocol.specs.Release.{releaseOf};
+ghost use Rattle.protocol.specs.Formatting.{formatting};
+ghost use Rattle.protocol.specs.Opening.{opening};
+ghost use Rattle.protocol.specs.Step.{step};
+ghost use Rattle.protocol.specs.Fetch.{fetch};
+ghost use Rattle.protocol.specs.Failure.{failure};
+ghost use Rattle.protocol.specs.Recovery.{recovery};
+ghost use Rattle.protocol.specs.Join.{join};
+ghost use Rattle.protocol.specs.DeskQuestion.{deskQuestion};
+ghost use Rattle.bandsawpink.specs.Words.{directoryIn, wordsOf};
+ghost use Rattle.bandsawpink.specs.Answers.{answered, answeredDesk, directoryAfter};
+use answer::Answer;
+use directory::Directory;
+
+mod words;
+
+// 0 and what the call gives, or the refusal and its place.
+#[repr(C)]
+pub struct RackAnswer {
+    pub number: u32,
+    pub value: u64,
+}
+
+// An answer with desk words: all zero if it is refused.
+#[repr(C)]
+pub struct RackDeskAnswer {
+    pub number: u32,
+    pub value: u64,
+    pub desk: [u32; 8],
+}
+
+// An answer in numbers.
+fn in_numbers(answer: Answer) -> RackAnswer
+    ensures { λ r. ⌜ r ≡ answered (outcome answer) ⌝ }
+{
+    let o = answer::outcome_of(answer);
+    RackAnswer {
+        number: o.number,
+        value: o.value,
+    }
+}
+
+fn with_desk(answer: Answer, desk: [u32; 8]) -> RackDeskAnswer
+    ensures { λ r. ⌜ r ≡ answeredDesk (outcome answer) desk ⌝ }
+{
+    let o = answer::outcome_of(answer);
+    RackDeskAnswer {
+        number: o.number,
+        value: o.value,
+        desk,
+    }
+}
+
+// Writes the directory that a call left, unless it was refused.
+fn hand_back(words: &mut [u32], number: u32, directory: Directory)
+    requires { ⌜ length (now words) ≡ 139 ⌝ }
+    ensures { λ _. ⌜ now (words .exit)
+        ≡ cond (eqb number 0) (wordsOf directory) (now (words .entry)) ⌝ }
+{
+    if number == 0 {
+        words::write_directory(words, directory);
+    }
+}
+
+#[no_mangle]
+pub extern "C" fn rack_format(
+    memory: &mut [u32],
+    cards: u32,
+    pages: u32,
+    directory: &mut [u32; 139],
+) -> RackAnswer
+    ensures answer { λ r. ⌜ r
+        ≡ answered (formatting (now (memory .entry)) cards pages .outcome) ⌝ }
+    ensures directory { λ _. ⌜ now (directory .exit)
+        ≡ wordsOf (formatting (now (memory .entry)) cards pages .directory) ⌝ }
+    ensures memory { λ _. ⌜ now (memory .exit)
+        ≡ formatting (now (memory .entry)) cards pages .memory ⌝ }
+{
+    let reply = rack::format_rack(memory, cards, pages);
+    let answer = reply.answer;
+    let formatted = reply.directory;
+    words::write_directory(directory, formatted);
+    in_numbers(answer)
+}
+
+#[no_mangle]
+pub extern "C" fn rack_open(
+    memory: &mut [u32],
+    directory: &[u32; 139],
+    card: u32,
+    number: u32,
+    desk: &[u32; 8],
+    list: &[u32],
+) -> RackAnswer
+    ensures answer { λ r. ⌜ r
+        ≡ answered
+        (opening (directoryIn (now (directory .entry))) (now (memory .entry)) card
+        (releaseOf number (now (desk .entry))) (now (list .entry)) .outcome) ⌝ }
+    ensures memory { λ _. ⌜ now (memory .exit)
+        ≡ opening (directoryIn (now (directory .entry))) (now (memory .entry)) card
+        (releaseOf number (now (desk .entry))) (now (list .entry)) .memory ⌝ }
+{
+    let taken = words::directory_in(directory);
+    let reply = rack::open_release(memory, taken, card, number, *desk, list);
+    let answer = reply.answer;
+    in_numbers(answer)
+}
+
+#[no_mangle]
+pub extern "C" fn rack_step(memory: &mut [u32], directory: &[u32; 139], card: u32) -> RackAnswer
+    ensures answer { λ r. ⌜ r
+        ≡ answered
+        (step (directoryIn (now (directory .entry))) (now (memory .entry)) card .outcome) ⌝ }
+    ensures memory { λ _. ⌜ now (memory .exit)
+        ≡ step (directoryIn (now (directory .entry))) (now (memory .entry)) card .memory ⌝ }
+{
+    let taken = words::directory_in(directory);
+    let reply = rack::make_step(memory, taken, card);
+    let answer = reply.answer;
+    in_numbers(answer)
+}
+
+#[no_mangle]
+pub extern "C" fn rack_fetch(
+    memory: &[u32],
+    directory: &[u32; 139],
+    page: u32,
+    buffer: &mut [u32],
+) -> RackAnswer
+    ensures answer { λ r. ⌜ r
+        ≡ answered
+        (fetch (directoryIn (now (directory .entry))) (now (memory .entry)) page
+        (now (buffer .entry)) .outcome) ⌝ }
+    ensures buffer { λ _. ⌜ now (buffer .exit)
+        ≡ fetch (directoryIn (now (directory .entry))) (now (memory .entry)) page
+        (now (buffer .entry)) .words ⌝ }
+{
+    let taken = words::directory_in(directory);
+    let reply = rack::fetch_page(memory, taken, page, buffer);
+    let answer = reply.answer;
+    in_numbers(answer)
+}
+
+#[no_mangle]
+pub extern "C" fn rack_fail(memory: &[u32], directory: &mut [u32; 139], card: u32) -> RackAnswer
+    ensures answer { λ r. ⌜ r
+        ≡ answered
+        (failure (directoryIn (now (directory .entry))) (now (memory .entry)) card .outcome) ⌝ }
+    ensures directory { λ _. ⌜ now (directory .exit)
+        ≡ directoryAfter (now (directory .entry))
+        (failure (directoryIn (now (directory .entry))) (now (memory .entry)) card) ⌝ }
+{
+    let taken = words::directory_in(directory);
+    let reply = rack::fail_card(memory, taken, card);
+    let told = reply.answer;
+    let answer = in_numbers(told);
+    let failed = reply.directory;
+    hand_back(directory, answer.number, failed);
+    answer
+}
+
+#[no_mangle]
+pub extern "C" fn rack_recover(memory: &mut [u32], directory: &mut [u32; 139]) -> RackDeskAnswer
+    ensures answer { λ r. ⌜ r
+        ≡ answeredDesk
+        (recovery (directoryIn (now (directory .entry))) (now (memory .entry)) .outcome)
+        (recovery (directoryIn (now (directory .entry))) (now (memory .entry)) .words) ⌝ }
+    ensures directory { λ _. ⌜ now (directory .exit)
+        ≡ directoryAfter (now (directory .entry))
+        (recovery (directoryIn (now (directory .entry))) (now (memory .entry))) ⌝ }
+    ensures memory { λ _. ⌜ now (memory .exit)
+        ≡ recovery (directoryIn (now (directory .entry))) (now (memory .entry)) .memory ⌝ }
+{
+    let taken = words::directory_in(directory);
+    let reply = rack::recover_card(memory, taken);
+    let told = reply.answer;
+    let desk = reply.desk;
+    let answer = with_desk(told, desk);
+    let recovered = reply.directory;
+    hand_back(directory, answer.number, recovered);
+    answer
+}
+
+#[no_mangle]
+pub extern "C" fn rack_join(memory: &mut [u32], directory: &mut [u32; 139], card: u32) -> RackAnswer
+    ensures answer { λ r. ⌜ r
+        ≡ answered
+        (join (directoryIn (now (directory .entry))) (now (memory .entry)) card .outcome) ⌝ }
+    ensures directory { λ _. ⌜ now (directory .exit)
+        ≡ directoryAfter (now (directory .entry))
+        (join (directoryIn (now (directory .entry))) (now (memory .entry)) card) ⌝ }
+    ensures memory { λ _. ⌜ now (memory .exit)
+        ≡ join (directoryIn (now (directory .entry))) (now (memory .entry)) card .memory ⌝ }
+{
+    let taken = words::directory_in(directory);
+    let reply = rack::join_card(memory, taken, card);
+    let told = reply.answer;
+    let answer = in_numbers(told);
+    let joined = reply.directory;
+    hand_back(directory, answer.number, joined);
+    answer
+}
+
+#[no_mangle]
+pub extern "C" fn rack_desk(memory: &[u32], directory: &[u32; 139], card: u32) -> RackDeskAnswer
+    ensures { λ r. ⌜ r
+        ≡ answeredDesk
+        (deskQuestion (directoryIn (now (directory .entry))) (now (memory .entry)) card .outcome)
+        (deskQuestion (directoryIn (now (directory .entry))) (now (memory .entry)) card .words) ⌝ }
+{
+    let taken = words::directory_in(directory);
+    let reply = rack::ask_desk(memory, taken, card);
+    let told = reply.answer;
+    let desk = reply.desk;
+    with_desk(told, desk)
+}
+
+#[no_mangle]
+pub extern "C" fn rack_make_list(working: &[u32], twins: &[u32], buffer: &mut [u32]) -> RackAnswer
+    ensures answer { λ r. ⌜ r
+        ≡ answered
+        (makeDiff (now (working .entry)) (now (twins .entry)) (length (now (buffer .entry)))) ⌝ }
+    ensures written { λ _. ⌜ now (buffer .exit)
+        ≡ bufferAfter (now (working .entry)) (now (twins .entry)) (now (buffer .entry)) ⌝ }
+{
+    let answer = maker::make(working, twins, buffer);
+    in_numbers(answer)
+}

@@ -1,0 +1,123 @@
+// The directory as words, which is how it crosses to C: cards, pages, the awaited card, 8 marks, 64
+// primary homes, 64 secondary homes. Any words are a directory.
+ghost use mathlib.Core.Path.{_≡_};
+ghost use mathlib.Core.Bool.{cond};
+ghost use Prim.Native.Nat.{_+_, _≤_};
+ghost use lib.Dec.{eqb};
+ghost use lib.ListN.{length, take, drop};
+ghost use lib.Seq.{sets};
+ghost use Rattle.bandsawpink.specs.Words.{statusIn, marksIn, directoryIn};
+ghost use Rattle.bandsawpink.specs.Words.{awaitedWord, headOf, wordsOf};
+use directory::Directory;
+use directory::Status;
+
+// The number of words.
+pub const LENGTH: usize = 139;
+
+// The awaited card of a rack that awaits none.
+pub const RUNNING: u32 = 0xFFFFFFFF;
+
+// ---- read
+
+fn status_in(awaited: u32) -> Status
+    ensures { λ r. ⌜ r ≡ statusIn awaited ⌝ }
+{
+    if awaited == RUNNING {
+        return Status::Running;
+    }
+    Status::Awaiting(awaited)
+}
+
+fn marks_in(words: &[u32]) -> [bool; 8]
+    requires { ⌜ length (now words) ≡ 139 ⌝ }
+    ensures { λ r. ⌜ r ≡ marksIn (now (words .entry)) ⌝ }
+{
+    let mut marks = [false; 8];
+    let mut card: usize = 0;
+    while card < 8 {
+        marks[card] = 0 < words[3 + card];
+        card += 1;
+    }
+    marks
+}
+
+// 64 words from `start` on.
+fn homes_in(words: &[u32], start: usize) -> [u32; 64]
+    requires { ⌜ start + 64 ≤ length (now words) ⌝ }
+    ensures { λ r. ⌜ r ≡ take 64 (drop start (now (words .entry))) ⌝ }
+{
+    let mut homes = [0u32; 64];
+    let end = start + 64;
+    memory::copy_words(&words[start..end], &mut homes);
+    homes
+}
+
+pub fn directory_in(words: &[u32]) -> Directory
+    requires { ⌜ length (now words) ≡ 139 ⌝ }
+    ensures { λ r. ⌜ r ≡ directoryIn (now (words .entry)) ⌝ }
+{
+    let live = marks_in(words);
+    let primary = homes_in(words, 11);
+    let secondary = homes_in(words, 75);
+    let status = status_in(words[2]);
+    Directory {
+        cards: words[0],
+        pages: words[1],
+        live,
+        primary,
+        secondary,
+        status,
+    }
+}
+
+// ---- written
+
+fn awaited_word(status: Status) -> u32
+    ensures { λ r. ⌜ r ≡ awaitedWord status ⌝ }
+{
+    match status {
+        Status::Running => RUNNING,
+        Status::Awaiting(card) => card,
+    }
+}
+
+// The words before the homes.
+fn head_of(directory: Directory) -> [u32; 11]
+    ensures { λ r. ⌜ r ≡ headOf directory ⌝ }
+{
+    let status = directory.status;
+    let live = directory.live;
+    [
+        directory.cards,
+        directory.pages,
+        awaited_word(status),
+        live[0] as u32,
+        live[1] as u32,
+        live[2] as u32,
+        live[3] as u32,
+        live[4] as u32,
+        live[5] as u32,
+        live[6] as u32,
+        live[7] as u32,
+    ]
+}
+
+fn store_part(words: &mut [u32], start: usize, part: &[u32])
+    requires { ⌜ start + length (now part) ≤ length (now words) ⌝ }
+    ensures { λ _. ⌜ now (words .exit) ≡ sets (now (words .entry)) start (now (part .entry)) ⌝ }
+{
+    let end = start + part.len();
+    memory::copy_words(part, &mut words[start..end]);
+}
+
+pub fn write_directory(words: &mut [u32], directory: Directory)
+    requires { ⌜ length (now words) ≡ 139 ⌝ }
+    ensures { λ _. ⌜ now (words .exit) ≡ wordsOf directory ⌝ }
+{
+    let head = head_of(directory);
+    let primary = directory.primary;
+    let secondary = directory.secondary;
+    store_part(words, 0, &head);
+    store_part(words, 11, &primary);
+    store_part(words, 75, &secondary);
+}
