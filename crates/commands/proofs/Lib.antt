@@ -1,3 +1,2 @@
 -- Laws that the commands' proofs cite.
 pub mod Results
-pub mod Steps

@@ -1,6 +1,6 @@
--- A contract tells a result by its parts.
+-- A failure and its recovery, as one command.
 use Prim.Native.Nat.{ℕ}
-use mathlib.Core.Path.{_≡_, refl, ap}
+use mathlib.Core.Path.{_≡_, refl}
 use mathlib.Core.Logic.{_≢_}
 use mathlib.Core.List.{List, []}
 use borrow.Author.Tests.{eq-eqb, ne-eqb}
@@ -12,13 +12,6 @@ use Rattle.protocol.specs.Failure.{failure, failureChecks, failedDirectory}
 use Rattle.protocol.specs.Recovery.{recovery}
 use Rattle.commands.specs.Execute.{failAndRecover}
 use Rattle.protocol.specs.Result.{Result, accepted}
-
-pub all-parts : {r s : Result} → r ≡ s
-    → (r .outcome ≡ s .outcome) × ((r .directory ≡ s .directory) × (r .memory ≡ s .memory))
-all-parts same = (
-  ap (λ (r : Result). r .outcome) same,
-  (ap (λ (r : Result). r .directory) same, ap (λ (r : Result). r .memory) same),
-)
 
 -- a failure changes no word
 pub failure-keeps : (d : Directory) (m : List ℕ) (card : ℕ) → failure d m card .memory ≡ m

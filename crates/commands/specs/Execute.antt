@@ -1,7 +1,7 @@
 -- What a command of shelfrun does (document 01, "Numbers to hold it against": the lines B, S, X, J and F; "The value
 -- is steps made (S), stamp found (X), the price (F), else 0; a refusal shows its place, but S its steps made").
 -- Assumes nothing: these are definitions.
-use Prim.Native.Nat.{ℕ, zero, suc, _+_}
+use Prim.Native.Nat.{ℕ}
 use mathlib.Core.List.{List, [], _∷_}
 use mathlib.Core.Bool.{cond}
 use lib.ListN.{getD}
@@ -14,11 +14,11 @@ use Rattle.diff.specs.Format.{pageWord, runWord, endWord}
 use Rattle.protocol.specs.Release.{releaseOf}
 use Rattle.protocol.specs.Result.{Result, accepted}
 use Rattle.protocol.specs.Opening.{opening}
-use Rattle.protocol.specs.Step.{step}
 use Rattle.protocol.specs.Fetch.{fetch}
 use Rattle.protocol.specs.Failure.{failure}
 use Rattle.protocol.specs.Recovery.{recovery}
 use Rattle.protocol.specs.Join.{join}
+use Rattle.batch.specs.Steps.{Stepped, steps}
 use Rattle.lines.specs.declared.Command.{Command}
 use Rattle.lines.specs.declared.Command.the-variants.{Open, Step, Fail, Join, Fetch, Unreadable}
 
@@ -35,13 +35,11 @@ unfoldable pub openOne : ℕ → ℕ → ℕ → ℕ → ℕ → Directory → L
 openOne card number page word price d m =
     opening d m card (releaseOf number (zeros deskSize)) (onePrice page word price)
 
--- S: "steps until count or a refusal": so many still to make, so many made
-unfoldable pub stepsFrom : ℕ → ℕ → ℕ → Directory → List ℕ → Result
-stepsFrom card zero made d m = shown (given made) d m
-stepsFrom card (suc left) made d m =
-    let r : Result = step d m card in
-    cond (accepted (r .outcome)) (stepsFrom card left (made + 1) (r .directory) (r .memory))
-    (shown (refusedAt (r .outcome .number) made) (r .directory) (r .memory))
+-- S: "steps until count or a refusal"; the value is steps made, refused or not
+unfoldable pub makeSteps : ℕ → ℕ → Directory → List ℕ → Result
+makeSteps card count d m =
+    let s : Stepped = steps d m card count in
+    shown (refusedAt (s .outcome .number) (s .made)) (s .directory) (s .memory)
 
 -- X: "failure, then recovery"
 unfoldable pub failAndRecover : ℕ → Directory → List ℕ → Result
@@ -57,7 +55,7 @@ fetchWord page word d m =
 
 unfoldable pub execute : Command → Directory → List ℕ → Result
 execute (Open card number page word price) d m = openOne card number page word price d m
-execute (Step card count) d m = stepsFrom card count 0 d m
+execute (Step card count) d m = makeSteps card count d m
 execute (Fail card) d m = failAndRecover card d m
 execute (Join card) d m = join d m card
 execute (Fetch page word) d m = fetchWord page word d m

@@ -2,7 +2,7 @@
 ghost use mathlib.Core.Path.{_≡_};
 ghost use lib.ListN.{getD};
 ghost use Rattle.protocol.specs.Join.{join};
-ghost use Rattle.commands.specs.Execute.{openOne, stepsFrom, failAndRecover, fetchWord};
+ghost use Rattle.commands.specs.Execute.{openOne, makeSteps, failAndRecover, fetchWord};
 ghost use Rattle.commands.specs.Execute.{execute, letterOf};
 use answer::Outcome;
 use directory::Directory;
@@ -50,31 +50,19 @@ fn open_one(
 // S: makes steps, up to a count or a refusal.
 fn make_steps(memory: &mut [u32], directory: Directory, card: u32, count: u32) -> Shown
     ensures outcome { λ r. ⌜ r .outcome
-        ≡ stepsFrom card count 0 directory (now (memory .entry)) .outcome ⌝ }
+        ≡ makeSteps card count directory (now (memory .entry)) .outcome ⌝ }
     ensures directory { λ r. ⌜ r .directory
-        ≡ stepsFrom card count 0 directory (now (memory .entry)) .directory ⌝ }
+        ≡ makeSteps card count directory (now (memory .entry)) .directory ⌝ }
     ensures memory { λ _. ⌜ now (memory .exit)
-        ≡ stepsFrom card count 0 directory (now (memory .entry)) .memory ⌝ }
+        ≡ makeSteps card count directory (now (memory .entry)) .memory ⌝ }
 {
-    let mut directory = directory;
-    let mut made: u32 = 0;
-    while made < count {
-        let reply = rack::make_step(memory, directory, card);
-        directory = reply.directory;
-        let answer = reply.answer;
-        let came = answer::outcome_of(answer);
-        if came.number != 0 {
-            let outcome = Outcome {
-                number: came.number,
-                value: made as u64,
-            };
-            return Shown { directory, outcome };
-        }
-        made += 1;
-    }
+    let reply = batch::steps(memory, directory, card, count);
+    let directory = reply.directory;
+    let answer = reply.answer;
+    let came = answer::outcome_of(answer);
     let outcome = Outcome {
-        number: 0,
-        value: made as u64,
+        number: came.number,
+        value: reply.made as u64,
     };
     Shown { directory, outcome }
 }

@@ -5,20 +5,13 @@ use mathlib.Core.Path.{_≡_}
 use mathlib.Core.List.{List}
 use mathlib.Core.Bool.{Bool}
 use Rattle.memory.specs.Layout.{areaSize}
-use Rattle.release.specs.Stepping.{CardIn, HomesIn}
+use Rattle.release.specs.Stepping.{CardIn}
 use Rattle.release.proofs.Callers.{card-in}
 use Rattle.recovery.specs.Rack.{RackIn}
 
-module _ {live : List Bool} {words words′ : ℕ} where
-  pub rack-kept : {cards pages : ℕ} → RackIn live cards pages words → words′ ≡ words → RackIn live cards pages words′
-  rack-kept rack same = rw same rack
-
-  pub homes-kept : {pages : ℕ} {primary secondary : List ℕ} → HomesIn live pages primary secondary words
-      → words′ ≡ words → HomesIn live pages primary secondary words′
-  homes-kept homes same = rw same homes
-
-  pub card-kept : {size card : ℕ} → CardIn live words size card → words′ ≡ words → CardIn live words′ size card
-  card-kept card same = rw same card
+pub rack-kept : {live : List Bool} {cards pages words words′ : ℕ} → RackIn live cards pages words → words′ ≡ words
+    → RackIn live cards pages words′
+rack-kept rack same = rw same rack
 
 pub rack-card : {live : List Bool} {cards pages words card : ℕ} → RackIn live cards pages words → card < cards
     → CardIn live words (areaSize pages) card

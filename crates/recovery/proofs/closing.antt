@@ -1,3 +1,2 @@
 -- Laws on releases run to their close.
-pub mod Steps
 pub mod Releases

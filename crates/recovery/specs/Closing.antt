@@ -1,24 +1,14 @@
 -- What closing the open releases relies on, as a rack that passed its checks has it, and the memory after recovery.
-use Prim.Native.Nat.{ℕ, _*_, _+_, _<_}
+use Prim.Native.Nat.{ℕ, _<_}
 use mathlib.Core.Path.{_≡_}
 use mathlib.Core.List.{List}
 use mathlib.Core.Bool.{true}
-use Rattle.memory.specs.Layout.{areaSize}
 use Rattle.directory.specs.declared.Directory.{Directory}
 use Rattle.directory.specs.Directory.{nextLiveOf}
-use Rattle.diff.specs.declared.Verdict.the-variants.{Good}
-use Rattle.diff.specs.Reading.{readDiff}
-use Rattle.protocol.specs.Release.{Release, sizeOf, openList, stepsOf, isOpen}
+use Rattle.protocol.specs.Release.{Release, sizeOf, isOpen}
 use Rattle.protocol.specs.Record.{recordedRelease, underWay}
 use Rattle.protocol.specs.Recovery.{restorePages, copyToNewHomes, writeRecords}
 use Rattle.release.specs.Stepping.{GoodRelease}
-
--- a release whose list reads well, and which has so many steps left, the close among them
-pub record StepsLeft (pages : ℕ) (m : List ℕ) (card left : ℕ) : Type 0 where
-  pub k : ℕ
-  pub words : ℕ
-  pub reads : readDiff pages (openList (areaSize pages) m card) ≡ Good k words
-  pub counts : stepsOf (areaSize pages) m card + left ≡ 4 * k + 11
 
 -- all open releases are good
 pub record ReleasesIn (d : Directory) (m : List ℕ) : Type 0 where

@@ -1,70 +1,15 @@
 // Open releases, each run to its close.
 ghost use mathlib.Core.Path.{_≡_};
 ghost use mathlib.Core.Bool.{true};
-ghost use Prim.Native.Nat.{_-_, _<_, _≤_};
+ghost use Prim.Native.Nat.{_<_};
 ghost use lib.ListN.{length};
-ghost use Rattle.memory.specs.Area.{AreaIn};
-ghost use Rattle.protocol.specs.Release.{openPrices, stepsOf, stepsIn, sizeOf, isOpen};
+ghost use Rattle.protocol.specs.Release.{sizeOf, isOpen};
 ghost use Rattle.memory.specs.Layout.{areaSize};
 ghost use Rattle.protocol.specs.Recovery.{backupBefore, stepTimes, runToClose, closeReleases};
-ghost use Rattle.release.specs.Stepping.{CardIn, HomesIn, GoodRelease, Counted, homesOf};
-ghost use Rattle.recovery.specs.Closing.{StepsLeft, ReleasesIn};
+ghost use Rattle.release.specs.Stepping.{CardIn, HomesIn, GoodRelease, homesOf, leftOf};
+ghost use Rattle.recovery.specs.Closing.{ReleasesIn};
 ghost use Rattle.recovery.specs.Rack.{RackIn};
-use diff::Verdict;
 use directory::Directory;
-
-// Makes the steps that a release has left.
-fn make_steps(
-    memory: &mut [u32],
-    pages: u32,
-    live: &[bool],
-    primary: &[u32],
-    secondary: &[u32],
-    backup: usize,
-    card: usize,
-    steps: u32,
-)
-    requires { ⌜ HomesIn (now live) pages (now primary) (now secondary) (length (now memory)) ⌝ }
-    requires { ⌜ CardIn (now live) (length (now memory)) (areaSize pages) card ⌝ }
-    requires { ⌜ CardIn (now live) (length (now memory)) (areaSize pages) backup ⌝ }
-    requires { ⌜ StepsLeft pages (now memory) card steps ⌝ }
-    ensures { λ _. ⌜ now (memory .exit)
-        ≡ stepTimes
-        (homesOf pages (now (live .entry)) (now (primary .entry)) (now (secondary .entry))) backup
-        card steps (now (memory .entry)) ⌝ }
-{
-    let mut left = steps;
-    while 0 < left {
-        release::step_release(memory, pages, live, primary, secondary, backup, card);
-        left -= 1;
-    }
-}
-
-// How many prices the release open on a card has.
-fn count_prices(memory: &[u32], size: usize, pages: u32, card: usize) -> u32
-    requires { ⌜ (size ≡ areaSize pages) × AreaIn (length (now memory)) size card ⌝ }
-    requires { ⌜ GoodRelease pages (now memory) card ⌝ }
-    ensures { λ r. ⌜ Counted pages (now (memory .entry)) card r ⌝ }
-{
-    match reader::read_stored(memory, size, card, pages) {
-        Verdict::Good(k, _) => k,
-        Verdict::Faulty(_) => 0,
-    }
-}
-
-// How many steps the release open on a card has left, the close among them.
-fn steps_left(memory: &[u32], pages: u32, card: usize) -> u32
-    requires { ⌜ (pages ≤ 64) × AreaIn (length (now memory)) (areaSize pages) card ⌝ }
-    requires { ⌜ GoodRelease pages (now memory) card ⌝ }
-    ensures { λ r. ⌜ r
-        ≡ stepsIn (length (openPrices pages (now (memory .entry)) card))
-        - stepsOf (areaSize pages) (now (memory .entry)) card ⌝ }
-{
-    let size = memory::area_size(pages);
-    let k = count_prices(memory, size, pages, card);
-    let steps = memory::load_word(memory, size, card, memory::STEPS_MADE);
-    4 * k + 11 - steps
-}
 
 // Makes all the steps that the release open on a card has left.
 fn run_release(
@@ -83,13 +28,10 @@ fn run_release(
     ensures { λ _. ⌜ now (memory .exit)
         ≡ stepTimes
         (homesOf pages (now (live .entry)) (now (primary .entry)) (now (secondary .entry))) backup
-        card
-        (stepsIn (length (openPrices pages (now (memory .entry)) card))
-        - stepsOf (areaSize pages) (now (memory .entry)) card)
-        (now (memory .entry)) ⌝ }
+        card (leftOf pages (now (memory .entry)) card) (now (memory .entry)) ⌝ }
 {
-    let steps = steps_left(memory, pages, card);
-    make_steps(memory, pages, live, primary, secondary, backup, card, steps);
+    let steps = release::steps_left(memory, pages, card);
+    release::make_steps(memory, pages, live, primary, secondary, backup, card, steps);
 }
 
 // The backup of a card from before the failure.

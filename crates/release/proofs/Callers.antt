@@ -1,5 +1,5 @@
 -- For those who call a step: what it relies on, from the checks of a rack; what it looks at in their directory.
-use Prim.Native.Nat.{ℕ, _*_, _<_, _≤_}
+use Prim.Native.Nat.{ℕ, zero, suc, _*_, _<_, _≤_}
 use mathlib.Core.Path.{_≡_, refl, ap}
 use mathlib.Core.List.{List, [], _∷_}
 use mathlib.Core.Bool.{Bool, false, true≢false}
@@ -17,13 +17,23 @@ use Rattle.diff.specs.Reading.{readDiff}
 use Rattle.protocol.specs.Release.{Release, openList, stepsOf, stepMemory}
 use Rattle.protocol.specs.Release.{Write, priceWrite, priceWrites, releaseWrites}
 use Rattle.protocol.specs.Checks.{badRelease}
-use Rattle.release.specs.Stepping.{CardIn, GoodRelease, homesOf}
+use Rattle.protocol.specs.Recovery.{stepTimes}
+use Rattle.release.specs.Stepping.{CardIn, HomesIn, GoodRelease, homesOf}
 
 -- a card below the number of cards
 pub card-in : (live : List Bool) (size : ℕ) {words cards card : ℕ} → length live ≡ 8 → cards ≤ 8 → words ≡ cards * size
     → card < cards → CardIn live words size card
 card-in live size marks few whole below =
     record { eight = omega arith; marked = omega arith; area = area-in size below whole }
+
+-- the length of the memory alone counts
+module _ {live : List Bool} {words words′ : ℕ} where
+  pub homes-kept : {pages : ℕ} {primary secondary : List ℕ} → HomesIn live pages primary secondary words
+      → words′ ≡ words → HomesIn live pages primary secondary words′
+  homes-kept homes same = rw same homes
+
+  pub card-kept : {size card : ℕ} → CardIn live words size card → words′ ≡ words → CardIn live words′ size card
+  card-kept card same = rw same card
 
 -- a release that the checks let pass
 pub good-release : (pages : ℕ) (m : List ℕ) (card : ℕ)
@@ -57,3 +67,8 @@ module _ (d : Directory) where
   pub step-by-homes : (backup : ℕ) (m : List ℕ) (c : ℕ) → stepMemory homes backup m c ≡ stepMemory d backup m c
   unfolding stepMemory
   step-by-homes backup m c = simp same-writes
+
+  pub times-by-homes : (backup c n : ℕ) (m : List ℕ) → stepTimes homes backup c n m ≡ stepTimes d backup c n m
+  unfolding stepTimes
+  times-by-homes backup c zero m = refl
+  times-by-homes backup c (suc n) m = rw (step-by-homes backup m c) (times-by-homes backup c n _)

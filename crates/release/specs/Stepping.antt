@@ -1,6 +1,6 @@
 -- What a step relies on: a memory of its stated length, homes that are cards, and a release whose list reads well.
 -- A rack that passed its checks has it.
-use Prim.Native.Nat.{ℕ, _*_, _+_, _%_, _<_, _≤_}
+use Prim.Native.Nat.{ℕ, _*_, _+_, _-_, _%_, _<_, _≤_}
 use mathlib.Core.Path.{_≡_}
 use mathlib.Core.List.{List}
 use mathlib.Core.Bool.{Bool, cond}
@@ -13,7 +13,7 @@ use Rattle.directory.specs.declared.Status.the-variants.{Running}
 use Rattle.directory.specs.Directory.{directoryOf}
 use Rattle.diff.specs.declared.Verdict.the-variants.{Good}
 use Rattle.diff.specs.Reading.{readDiff}
-use Rattle.protocol.specs.Release.{sizeOf, openRelease, openList, openPrices, stepsOf}
+use Rattle.protocol.specs.Release.{sizeOf, openRelease, openList, openPrices, stepsOf, stepsIn}
 use Rattle.protocol.specs.Release.{Write, noWrite, releaseWrites}
 
 -- a card with a mark, and with an area in a memory of so many words
@@ -36,6 +36,17 @@ pub record GoodRelease (pages : ℕ) (m : List ℕ) (card : ℕ) : Type 0 where
   pub words : ℕ
   pub reads : readDiff pages (openList (areaSize pages) m card) ≡ Good k words
   pub under : stepsOf (areaSize pages) m card ≤ 4 * k + 10
+
+-- a release whose list reads well, and which has so many steps left at least, the close among them
+pub record StepsLeft (pages : ℕ) (m : List ℕ) (card left : ℕ) : Type 0 where
+  pub k : ℕ
+  pub words : ℕ
+  pub reads : readDiff pages (openList (areaSize pages) m card) ≡ Good k words
+  pub counts : stepsOf (areaSize pages) m card + left ≤ 4 * k + 11
+
+-- how many it has left
+abbrev pub leftOf : ℕ → List ℕ → ℕ → ℕ
+leftOf pages m card = stepsIn (length (openPrices pages m card)) - stepsOf (areaSize pages) m card
 
 -- a release of k prices, by its list
 pub record Counted (pages : ℕ) (m : List ℕ) (card k : ℕ) : Type 0 where

@@ -10,8 +10,13 @@ ghost use Rattle.protocol.specs.Release.{priceWrites, makeWrite, close, stepMem
 ghost use Rattle.protocol.specs.Opening.{openMemory};
 ghost use Rattle.release.specs.Stepping.{CardIn, HomesIn, GoodRelease, Counted};
 ghost use Rattle.release.specs.Stepping.{homesOf, storeAfter, homeAt};
+
+mod running;
+
 use diff::Verdict;
 use reader::Found;
+pub use running::make_steps;
+pub use running::steps_left;
 
 // Copies list, desk and number to the card's own area and sets steps to 0.
 pub fn open_release(

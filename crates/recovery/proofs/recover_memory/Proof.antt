@@ -1,7 +1,8 @@
 -- Rests on `recovered-by-parts`: what is done once the releases are closed is the rest of the recovery.
 use mathlib.Core.Path.{_∙_}
 use Rattle.protocol.specs.Recovery.{failedRelease}
-use Rattle.recovery.proofs.Kept.{rack-kept, homes-kept}
+use Rattle.release.proofs.Callers.{homes-kept}
+use Rattle.recovery.proofs.Kept.{rack-kept}
 use Rattle.recovery.proofs.Recovering.{recovered-by-parts}
 use borrow.Author.Needs.{needs}
 use Rattle.recovery.proofs.recover_memory.Statement.{statement}

@@ -1,7 +1,8 @@
 -- Rests on what `restore_pages` and `copy_to_new_homes` ensure of the parts of the directory.
 use mathlib.Core.Path.{ap, _∙_}
 use Rattle.protocol.specs.Recovery.{copyToNewHomes}
-use Rattle.recovery.proofs.Kept.{rack-kept, homes-kept}
+use Rattle.release.proofs.Callers.{homes-kept}
+use Rattle.recovery.proofs.Kept.{rack-kept}
 use Rattle.recovery.proofs.Recovering.{same-pages, same-copies}
 use borrow.Author.Needs.{needs}
 use Rattle.recovery.proofs.restore_copies.Statement.{statement}

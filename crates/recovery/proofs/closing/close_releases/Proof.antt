@@ -2,7 +2,8 @@
 use Prim.Native.Nat.{_-_}
 use native.Mathlib.Omega.{arith}
 use Rattle.protocol.specs.Recovery.{closeReleases}
-use Rattle.recovery.proofs.Kept.{rack-kept, homes-kept}
+use Rattle.release.proofs.Callers.{homes-kept}
+use Rattle.recovery.proofs.Kept.{rack-kept}
 use Rattle.recovery.proofs.Turns.{turn-all}
 use Rattle.recovery.proofs.closing.Releases.{Closed, closed-none, closed-good, closed-more}
 use Rattle.recovery.proofs.closing.close_releases.Statement.{statement}

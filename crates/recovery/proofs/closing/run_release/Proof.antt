@@ -1,5 +1,6 @@
 -- Rests on `all-left`: these are the steps that a good release has left.
-use Rattle.recovery.proofs.closing.Releases.{all-left}
+use native.Mathlib.Omega.{arith}
+use Rattle.release.proofs.Left.{all-left}
 use borrow.Author.Needs.{needs}
 use Rattle.recovery.proofs.closing.run_release.Statement.{statement}
 use Rattle.recovery.proofs.closing.run_release.Tie as tie
@@ -7,7 +8,7 @@ use Rattle.recovery.proofs.closing.run_release.Tie as tie
 make-steps-requires : tie.Need-make-steps-requires
 make-steps-requires c κs =
     let pre = c .before .before .before .before .before .before .before .pre in
-    (pre .0, (pre .1 .0, (pre .1 .1 .0, rw (c .before .steps-left .ensures) (all-left (pre .1 .1 .1)))))
+    (pre .0, (pre .1 .0, (pre .1 .1 .0, rw (c .before .steps-left .ensures) (all-left (pre .1 .1 .1) (omega arith)))))
 
 returns : tie.Need-returns
 returns c = rw (c .before .before .before .before .steps-left .ensures) at (c .before .before .make-steps .ensures)

@@ -1,8 +1,8 @@
 -- Rests on `read-counts`: reading the list of a good release finds its prices.
 use Rattle.release.proofs.Prices.{read-counts, read-not-faulty}
 use borrow.Author.Needs.{needs}
-use Rattle.recovery.proofs.closing.count_prices.Statement.{statement}
-use Rattle.recovery.proofs.closing.count_prices.Tie as tie
+use Rattle.release.proofs.running.count_prices.Statement.{statement}
+use Rattle.release.proofs.running.count_prices.Tie as tie
 
 returns : tie.Need-returns
 returns c =

@@ -2,8 +2,8 @@
 use native.Mathlib.Omega.{arith}
 use Rattle.protocol.specs.Release.{stepsOf}
 use borrow.Author.Needs.{needs}
-use Rattle.recovery.proofs.closing.steps_left.Statement.{statement}
-use Rattle.recovery.proofs.closing.steps_left.Tie as tie
+use Rattle.release.proofs.running.steps_left.Statement.{statement}
+use Rattle.release.proofs.running.steps_left.Tie as tie
 
 count-prices-requires : tie.Need-count-prices-requires
 count-prices-requires c κs =

@@ -1,11 +1,11 @@
 -- Rests on `StepsMade`: what is left of the steps gives what all of them give.
 use native.Mathlib.Omega.{arith}
 use borrow.Author.Needs.{needs}
 use Rattle.release.specs.Stepping.{homesOf}
-use Rattle.recovery.proofs.Kept.{homes-kept, card-kept}
-use Rattle.recovery.proofs.closing.Releases.{StepsMade, good-left, steps-none, steps-one, steps-all}
-use Rattle.recovery.proofs.closing.make_steps.Statement.{statement}
-use Rattle.recovery.proofs.closing.make_steps.Tie as tie
+use Rattle.release.proofs.Callers.{homes-kept, card-kept}
+use Rattle.release.proofs.Left.{StepsMade, good-left, steps-none, steps-one, steps-all}
+use Rattle.release.proofs.running.make_steps.Statement.{statement}
+use Rattle.release.proofs.running.make_steps.Tie as tie
 
 abbrev Inv-loop : tie.InvT-loop
 Inv-loop memory₀ pages live primary secondary backup card steps left₀ memory left =

@@ -1,0 +1,138 @@
+-- A step that was accepted keeps checks 1 and 2: of each card it leaves the words that they look at, but for its own
+-- steps. So the next step is accepted too, and after the close it is refused with 16.
+use Prim.Native.Nat.{ℕ, suc, _+_, _-_, _*_, _<_}
+use mathlib.Core.Path.{_≡_, refl, sym, _∙_}
+use mathlib.Core.List.{List}
+use mathlib.Core.Bool.{Bool, true, false}
+use native.Mathlib.Omega.{arith}
+use native.Mathlib.Decide.{ℕ-discrete}
+use borrow.Author.Tests.{eqb-true, le-ltb}
+use lib.ListN.{length}
+use lib.Dec.{eqb}
+use Rattle.laws.proofs.Bools.{and-first, and-second}
+use Rattle.laws.proofs.Search.{lowest-same}
+use Rattle.memory.specs.Layout.{areaSize, releaseOpen}
+use Rattle.memory.specs.Area.{AreaIn, load}
+use Rattle.memory.proofs.Index.{area-in}
+use Rattle.directory.specs.declared.Directory.{Directory}
+use Rattle.directory.specs.Live.{liveAt}
+use Rattle.directory.specs.Directory.{backupOf}
+use Rattle.protocol.specs.Release.{sizeOf, isOpen, openPrices, stepsOf, stepMemory}
+use Rattle.protocol.specs.Checks.{badRelease, badCard, unfitRack}
+use Rattle.protocol.proofs.Accepting.{Runs, StepPassed}
+use Rattle.protocol.proofs.Shape.{SameOwn, SameRelease, same-own-release, list-kept, is-open-kept, steps-kept}
+use Rattle.protocol.proofs.Stepped.{close-word-9, close-not-open}
+use Rattle.release.specs.Stepping.{GoodRelease, leftOf}
+use Rattle.release.proofs.Stores.{length-desk, step-closes}
+use Rattle.release.proofs.Kept.{steps-more, step-keeps-own, step-keeps-others}
+use Rattle.release.proofs.Left.{prices-counted, all-left, left-after, good-left}
+use Rattle.rack.proofs.Fitting.{fitting}
+
+-- a rack on which the card's release was closed
+pub record Shut (d : Directory) (m : List ℕ) (c : ℕ) : Type 0 where
+  pub runs : Runs d m
+  pub shut : isOpen (d .live) (sizeOf d) m c ≡ false
+
+-- ---- check 2, card by card
+
+good-card : (marks : List Bool) (pages : ℕ) (m : List ℕ) (c : ℕ) → isOpen marks (areaSize pages) m c ≡ true
+    → GoodRelease pages m c → badCard marks pages m c ≡ false
+unfolding badCard badRelease isOpen
+good-card marks pages m c opened good =
+    let word = load (areaSize pages) m c releaseOpen in
+    let one = eqb-true word 1 (and-second (liveAt marks c) (eqb word 1) opened) in
+    rw (and-first (liveAt marks c) (eqb word 1) opened, one, good .reads)
+    (le-ltb (4 * good .k + 10) (stepsOf (areaSize pages) m c) (good .under))
+
+module _ (d : Directory) (m m′ : List ℕ) where
+  same-card : (x : ℕ) → SameOwn (sizeOf d) m m′ x
+      → badCard (d .live) (d .pages) m′ x ≡ badCard (d .live) (d .pages) m x
+  unfolding badCard
+  same-card x same =
+      rw (
+        same .low releaseOpen (omega arith),
+        list-kept (sizeOf d) m m′ x (same-own-release (sizeOf d) m m′ x same),
+        steps-kept (sizeOf d) m m′ x same,
+      )
+
+  runs-kept : length m′ ≡ length m
+      → ((x : ℕ) → badCard (d .live) (d .pages) m′ x ≡ badCard (d .live) (d .pages) m x) → Runs d m → Runs d m′
+  unfolding unfitRack
+  runs-kept long same runs =
+      record {
+        fits = record {
+          limits = rw long (runs .fits .limits);
+          fit = rw (lowest-same (badCard (d .live) (d .pages) m′) (badCard (d .live) (d .pages) m) same 0 (d .cards))
+              (runs .fits .fit);
+        };
+        running = runs .running;
+      }
+
+-- ---- a step
+
+module _ (d : Directory) (m : List ℕ) (c : ℕ) (passed : StepPassed d m c) where
+  abbrev next : List ℕ
+  next = stepMemory d (backupOf d c) m c
+
+  few : c < 8
+  few = let most = fitting (passed .runs .fits) .within .cards-most in omega (arith, passed .below)
+
+  area : AreaIn (length m) (sizeOf d) c
+  area = area-in (sizeOf d) (passed .below) (fitting (passed .runs .fits) .within .whole)
+
+  good : GoodRelease (d .pages) m c
+  good = fitting (passed .runs .fits) .good c (passed .below) (passed .is-open)
+
+  counted : good .k ≡ length (openPrices (d .pages) m c)
+  counted = prices-counted (d .pages) m c (good .reads) (good .under)
+
+  pub some-left : 0 < leftOf (d .pages) m c
+  some-left = omega (arith, counted, good .under)
+
+  others : (x : ℕ) → (x ≡ c → ⊥) → SameOwn (sizeOf d) m next x
+  others = step-keeps-others d (backupOf d c) m c few area (omega (arith, counted, good .under))
+
+  next-runs : badCard (d .live) (d .pages) next c ≡ false → Runs d next
+  next-runs own =
+      runs-kept d m next (others (suc c) (λ e. omega arith) .same-length) (λ x. elim (ℕ-discrete x c) [
+        | yes same ↦ rw same (own ∙ sym (good-card (d .live) (d .pages) m c (passed .is-open) good))
+        | no other ↦ same-card d m next x (others x other)
+      ]) (passed .runs)
+
+  -- before the close
+  module _ (more : 1 < leftOf (d .pages) m c) where
+    own : SameRelease (sizeOf d) m next c
+    own = step-keeps-own d (backupOf d c) m c few area (omega arith)
+
+    next-good : GoodRelease (d .pages) next c
+    next-good =
+        let left = leftOf (d .pages) m c - 1 in
+        good-left {left = left}
+        (left-after d (backupOf d c) c few m area {left = left} (all-left good (omega arith)) (omega arith))
+        (omega arith)
+
+    pub next-passed : StepPassed d next c
+    next-passed =
+        let opened = is-open-kept (sizeOf d) m next c own (d .live) ∙ passed .is-open in
+        record {
+          runs = next-runs (good-card (d .live) (d .pages) next c opened next-good);
+          below = passed .below;
+          live = passed .live;
+          is-open = opened;
+        }
+
+    pub one-fewer : leftOf (d .pages) next c ≡ leftOf (d .pages) m c - 1
+    one-fewer =
+        rw (list-kept (sizeOf d) m next c own, steps-more d (backupOf d c) m c few area (omega arith)) (omega arith)
+
+  -- the close
+  pub next-shut : leftOf (d .pages) m c ≡ 1 → Shut d next c
+  unfolding badCard
+  next-shut last =
+      let eight = length-desk (sizeOf d) m c (omega arith) area in
+      let closes = step-closes d (backupOf d c) m c _ area refl (omega (arith, counted, good .under)) in
+      let zero : badCard (d .live) (d .pages) next c ≡ false
+      = rw (closes, passed .live, close-word-9 (sizeOf d) m c (omega arith) eight area)
+      in
+      let shut = close-not-open (sizeOf d) m c (omega arith) eight area (d .live) in
+      record { runs = next-runs zero; shut = rw closes shut }

@@ -1,0 +1,3 @@
+-- Laws that the proofs of the batched calls cite.
+pub mod Checked
+pub mod Stepping

@@ -1,0 +1,3 @@
+-- What the contracts of the batched calls cite.
+pub mod Steps
+pub mod FetchAll
