@@ -1,9 +1,10 @@
-//! The proved static library, which `rt staticlib bandsawpink` makes. RACK_LIB names the folder that holds it.
+//! Links lib/libbandsawpink.a of the repository, which its script `build` makes.
+
+use std::path::Path;
 
 fn main() {
-    let folder = std::env::var("RACK_LIB").unwrap_or_else(|_| "../build".into());
-    println!("cargo:rustc-link-search=native={folder}");
+    let folder = Path::new(env!("CARGO_MANIFEST_DIR")).join("../lib");
+    println!("cargo:rerun-if-changed={}", folder.join("libbandsawpink.a").display());
+    println!("cargo:rustc-link-search=native={}", folder.display());
     println!("cargo:rustc-link-lib=static=bandsawpink");
-    println!("cargo:rerun-if-env-changed=RACK_LIB");
-    println!("cargo:rerun-if-changed={folder}/libbandsawpink.a");
 }
