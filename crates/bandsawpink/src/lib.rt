@@ -51,10 +51,10 @@ fn in_numbers(answer: Answer) -> RackAnswer
 fn with_desk(answer: Answer, desk: [u32; 8]) -> RackDeskAnswer
     ensures { λ r. ⌜ r ≡ answeredDesk (outcome answer) desk ⌝ }
 {
-    let o = answer::outcome_of(answer);
+    let told = in_numbers(answer);
     RackDeskAnswer {
-        number: o.number,
-        value: o.value,
+        number: told.number,
+        value: told.value,
         desk,
     }
 }

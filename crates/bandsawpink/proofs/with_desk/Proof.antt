@@ -1,10 +1,10 @@
--- Rests on the answer's outcome.
+-- Rests on the answer in numbers.
 use borrow.Author.Needs.{needs}
 use Rattle.bandsawpink.proofs.with_desk.Statement.{statement}
 use Rattle.bandsawpink.proofs.with_desk.Tie as tie
 
 returns : tie.Need-returns
-returns c = rw (c .outcome-of .ensures)
+returns c = rw (c .in-numbers .ensures)
 
 pub with-desk-spec : {M : Type 1} → statement M
 with-desk-spec = tie.close (tie.spec (λ c κs. search needs) returns)

@@ -1,0 +1,29 @@
+#include <bandsawpink.h>
+#include <stdio.h>
+
+enum { CARDS = 3, PAGES = 4, CARD = 1, PAGE = 1, PRICES = PAGES * RACK_PAGE_WORDS };
+static uint32_t memory[RACK_MEMORY_WORDS(CARDS, PAGES)];
+static const size_t words = RACK_MEMORY_WORDS(CARDS, PAGES);
+
+int main(void) {
+    uint32_t twins[PRICES] = { 0 }, working[PRICES] = { 0 };
+    uint32_t desk[RACK_DESK_WORDS] = { 7 }, list[RACK_LIST_WORDS], page[RACK_PAGE_WORDS];
+    rack_directory directory;
+    if (rack_format(memory, words, CARDS, PAGES, &directory).number != RACK_ACCEPTED) return 1;
+
+    working[PAGE * RACK_PAGE_WORDS + 2] = 250; /* two new prices, in cents */
+    working[PAGE * RACK_PAGE_WORDS + 3] = 199;
+    rack_answer made = rack_make_list(working, PRICES, twins, PRICES, list, RACK_LIST_WORDS);
+    rack_answer opened = rack_open(memory, words, &directory, CARD, 1, desk, list, made.value);
+    if (opened.number != RACK_ACCEPTED) return (int)opened.number;
+    for (int step = 0; step < 13; step++) rack_step(memory, words, &directory, CARD);
+
+    rack_fail(memory, words, &directory, CARD); /* between two stores, once the release counts */
+    rack_desk_answer found = rack_recover(memory, words, &directory);
+    printf("card %d: release %u of desk %u\n", CARD, (unsigned)found.value, found.desk[0]);
+    rack_fetch(memory, words, &directory, PAGE, page, RACK_PAGE_WORDS);
+    for (uint32_t word = 0; word < RACK_PAGE_WORDS; word++)
+        if (page[word] != 0)
+            printf("label %u: %u.%02u\n", PAGE * 32 + word, page[word] / 100, page[word] % 100);
+    return 0;
+}

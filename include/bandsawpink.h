@@ -1,0 +1,248 @@
+/*
+** Bandsawpink: a price rack whose behaviour is proved. This header is the manual of the C
+** library.
+**
+** THE RACK
+**
+** A rack has 3 to 8 cards and 1 to 64 pages. A page is 32 words, each one price in cents; the
+** label of a price is 32 * page + word. Each page lives on two cards, its homes. A price desk
+** releases a list of changes through a card, one store at a time; a release shows whole or not at
+** all, also where a card fails between any two stores.
+**
+** MEMORY AND OWNERSHIP
+**
+** The caller owns everything: the memory of RACK_MEMORY_WORDS(cards, pages) words, the directory,
+** the lists, the buffers. The library allocates nothing, keeps no pointer past a call, has no
+** state of its own and does no input or output. What is passed as const is only read. A call is
+** free to run beside calls on other racks; calls on one rack take turns.
+**
+** Memory and directory belong together and go to each call as the last call left them. A caller
+** may store them and load them again: both are plain words, and any words at all may be handed
+** in. A call refuses what does not fit.
+**
+** WHAT THE CALLER MUST SEE TO
+**
+** Each pointer with a count beside it has that many words to read or, where it is not const, to
+** write; it may be null only if the count is 0. A directory and a desk are never null. What a
+** call writes overlaps nothing else that is passed to it. Nothing else is assumed: any number, any
+** word and any length may be handed in.
+**
+** ANSWERS
+**
+** Every call returns. A number of 0 says that it was accepted, and the value is what it gives.
+** Any other number is a refusal, and the value is its place: 0 unless the list below names one. A
+** refusal changes no word of the memory, the directory, the list or the buffer; the one exception
+** is rack_format, which writes the empty directory. Checks run in the order that each function
+** names, and the first that fails is answered.
+**
+** Each function is proved to answer and to leave what the project's specification of the call
+** defines, on any words.
+**
+** EXAMPLE
+**
+**     uint32_t memory[RACK_MEMORY_WORDS(3, 4)];
+**     uint32_t list[] = { 0x10000001, 0x20020001, 250, 0xF0000003 };
+**     uint32_t desk[RACK_DESK_WORDS] = { 0 }, page[RACK_PAGE_WORDS];
+**     size_t words = RACK_MEMORY_WORDS(3, 4);
+**     rack_directory directory;
+**     rack_answer answer = rack_format(memory, words, 3, 4, &directory);
+**     answer = rack_open(memory, words, &directory, 1, 1, desk, list, 4);
+**     if (answer.number != RACK_ACCEPTED) return refuse(answer);
+**     while (rack_step(memory, words, &directory, 1).number == RACK_ACCEPTED) { }
+**     answer = rack_fetch(memory, words, &directory, 1, page, RACK_PAGE_WORDS);
+**
+** and page[2] is 250.
+*/
+#ifndef BANDSAWPINK_H
+#define BANDSAWPINK_H
+
+#include <stddef.h>
+#include <stdint.h>
+
+#ifdef __cplusplus
+extern "C" {
+#endif
+
+/*
+** Limits and lengths
+*/
+#define RACK_MIN_CARDS 3
+#define RACK_MAX_CARDS 8
+#define RACK_MAX_PAGES 64
+#define RACK_PAGE_WORDS 32  /* a page buffer */
+#define RACK_DESK_WORDS 8   /* a desk: words that the price desk wants back */
+#define RACK_LIST_WORDS 512 /* the longest list of changes: a buffer of this length is enough */
+
+/* The memory of a rack, in words of 32 bits. A constant where both arguments are. */
+#define RACK_MEMORY_WORDS(cards, pages) ((size_t)(cards) * (676 + 64 * (size_t)(pages)))
+
+/*
+** The directory: which cards are live, where the pages live, and whether the rack awaits a
+** recovery. rack_format makes it, rack_fail, rack_recover and rack_join change it, all other
+** calls only read it. Marks past the cards and homes past the pages are never read.
+*/
+typedef struct rack_directory {
+    uint32_t cards;
+    uint32_t pages;
+    uint32_t awaited;                   /* the card whose recovery is awaited, or RACK_RUNNING */
+    uint32_t live[RACK_MAX_CARDS];      /* 0: dead; any other word: live, and written as 1 */
+    uint32_t primary[RACK_MAX_PAGES];   /* for each page, the card that fetches read */
+    uint32_t secondary[RACK_MAX_PAGES]; /* for each page, its other home */
+} rack_directory;
+
+#define RACK_RUNNING UINT32_MAX
+
+/* What a call answers. */
+typedef struct rack_answer {
+    uint32_t number; /* RACK_ACCEPTED, or a refusal */
+    uint64_t value;  /* accepted: what the call gives; refused: the place */
+} rack_answer;
+
+/* What a call answers that gives a desk. */
+typedef struct rack_desk_answer {
+    uint32_t number;
+    uint64_t value;
+    uint32_t desk[RACK_DESK_WORDS]; /* all 0 if the call is refused */
+} rack_desk_answer;
+
+/* The library was built for this layout. */
+#ifdef __cplusplus
+#define RACK_ASSERT(fact) static_assert(fact, #fact)
+#else
+#define RACK_ASSERT(fact) _Static_assert(fact, #fact)
+#endif
+RACK_ASSERT(sizeof(rack_directory) == 139 * sizeof(uint32_t));
+RACK_ASSERT(offsetof(rack_directory, pages) == 1 * sizeof(uint32_t));
+RACK_ASSERT(offsetof(rack_directory, awaited) == 2 * sizeof(uint32_t));
+RACK_ASSERT(offsetof(rack_directory, live) == 3 * sizeof(uint32_t));
+RACK_ASSERT(offsetof(rack_directory, primary) == 11 * sizeof(uint32_t));
+RACK_ASSERT(offsetof(rack_directory, secondary) == 75 * sizeof(uint32_t));
+RACK_ASSERT(sizeof(rack_answer) == 16 && offsetof(rack_answer, value) == 8);
+RACK_ASSERT(sizeof(rack_desk_answer) == 48 && offsetof(rack_desk_answer, desk) == 16);
+RACK_ASSERT(sizeof(size_t) == 8);
+#undef RACK_ASSERT
+
+/*
+** Refusals, by who caused them. The number 18, an unreadable line, belongs to the program
+** shelfrun.
+*/
+#define RACK_ACCEPTED 0
+
+/* Whoever fitted the rack */
+#define RACK_LIMITS 1 /* cards or pages outside their limits, or a memory not of RACK_MEMORY_WORDS;
+                         rack_make_list: pages of unequal length, or not 32 words times 1 to 64 */
+#define RACK_UNFIT 2  /* memory and directory do not make a rack: fewer than two live cards; a page
+                         whose homes are equal, no card, or dead and not awaited; an awaited card
+                         that is live or does not exist; a live card whose memory has a release
+                         that is neither open nor closed, a faulty list, or too many steps */
+
+/* The price desk */
+#define RACK_NO_CARD 3      /* no such card, or a dead one; rack_join, rack_desk: no such card */
+#define RACK_RELEASE_OPEN 4 /* a release is open on the card */
+#define RACK_NUMBER_USED 5  /* the number is at or below the card's stamp, as that of a release sent
+                               twice. Place: the stamp */
+#define RACK_NUMBER_AHEAD 6 /* the number is above the card's stamp + 1 */
+#define RACK_FAULTY_LIST 7  /* the list breaks a rule. Place: the first word that does, the length
+                               if the list stops early, 512 if it is longer */
+#define RACK_WORD_IN_USE 8  /* a label of the list is in another card's open release. Place: the
+                               lowest such card */
+#define RACK_NONE_OPEN 16   /* a step on a card with no release open; also after the last step */
+
+/* The reader */
+#define RACK_NO_PAGE 9         /* no such page */
+#define RACK_PAGE_IN_MOTION 10 /* the page is in an open release that already counts: fetch again
+                                  once it is closed or recovered. Place: the lowest such card */
+#define RACK_WRONG_BUFFER 17   /* a page buffer not of 32 words; a list buffer shorter than the
+                                  list; a list over 512 words */
+
+/* The rack's state */
+#define RACK_RECOVERY_AWAITED 11 /* a card has failed: rack_recover comes next */
+#define RACK_NONE_AWAITED 12     /* a recovery, and none is awaited */
+#define RACK_TWO_LIVE 13         /* a failure with two live cards */
+#define RACK_CARD_LIVE 14        /* a join of a live card */
+#define RACK_JOIN_WHILE_OPEN 15  /* a join while a release is open on a live card */
+
+/*
+** THE LIST OF CHANGES
+**
+** The top four bits of a word are its kind. Kind 1 names a page in its low 28 bits. Kind 2 is a
+** run: offset in bits 27 to 16, count in bits 15 to 0, then that many prices as plain words. Kind
+** 15 ends the list, with its own index in the low 28 bits. Pages ascend, each with at least one
+** run; the runs of a page ascend and do not touch. rack_make_list makes the one list for a change
+** of pages; a list of k prices takes 4k + 11 steps.
+*/
+
+/*
+** Formats a rack: all memory 0, all cards live, page p on card p mod cards and the next. The
+** directory that was there is not read. Gives 0. Refusals: 1, and then the memory is kept and the
+** directory is the empty one, which every call refuses.
+*/
+rack_answer rack_format(uint32_t *memory, size_t words, uint32_t cards, uint32_t pages,
+                        rack_directory *directory);
+
+/*
+** Opens a release on a live card: its number, which is the card's stamp + 1, its desk and its
+** list of list_words words. It stores the release in the card's own memory and no price yet.
+** Gives 0. Refusals: 1, 2, 11, 3, 4, 5, 6, 7, 8.
+*/
+rack_answer rack_open(uint32_t *memory, size_t words, const rack_directory *directory,
+                      uint32_t card, uint32_t number, const uint32_t desk[RACK_DESK_WORDS],
+                      const uint32_t *list, size_t list_words);
+
+/*
+** Makes one step, which is one store, of the release that is open on a card. From step 2k + 9 on
+** the release counts; step 4k + 11 closes it, and one more is refused with 16. Gives 0. Refusals:
+** 1, 2, 11, 3, 16.
+*/
+rack_answer rack_step(uint32_t *memory, size_t words, const rack_directory *directory,
+                      uint32_t card);
+
+/*
+** Copies the 32 prices of a page into a buffer of 32 words. Gives 0. Refusals: 1, 2, 11, 9, 10,
+** 17.
+*/
+rack_answer rack_fetch(const uint32_t *memory, size_t words, const rack_directory *directory,
+                       uint32_t page, uint32_t *buffer, size_t buffer_words);
+
+/*
+** A card fails: it is marked dead, and its recovery awaited. From here to its join its memory may
+** hold anything. Gives 0. Refusals: 1, 2, 11, 3, 13.
+*/
+rack_answer rack_fail(const uint32_t *memory, size_t words, rack_directory *directory,
+                      uint32_t card);
+
+/*
+** Recovers the card that failed: releases that are open on live cards are run to their close, the
+** failed card's release is completed if it counted and taken back if not, and each page gets two
+** live homes. Gives the failed card's stamp and its desk, which say which of its releases was the
+** last to count. Refusals: 1, 2, 12.
+*/
+rack_desk_answer rack_recover(uint32_t *memory, size_t words, rack_directory *directory);
+
+/*
+** A dead card joins again: its memory is made anew, with its stamp and desk. Pages do not move.
+** Gives 0. Refusals: 1, 2, 11, 3, 14, 15.
+*/
+rack_answer rack_join(uint32_t *memory, size_t words, rack_directory *directory, uint32_t card);
+
+/*
+** The desk of a card's last release that is closed or recovered, live or dead. Gives 0 and the
+** desk. Refusals: 1, 2, 11, 3.
+*/
+rack_desk_answer rack_desk(const uint32_t *memory, size_t words, const rack_directory *directory,
+                           uint32_t card);
+
+/*
+** Makes the list of changes from the twins, the pages as they were fetched, to the working pages,
+** and names exactly the prices that differ. Both hold all pages of the rack, or the first of
+** them, one after the other. Gives the length of the list; words of the buffer past it are kept.
+** Refusals: 1, 17.
+*/
+rack_answer rack_make_list(const uint32_t *working, size_t working_words, const uint32_t *twins,
+                           size_t twins_words, uint32_t *buffer, size_t buffer_words);
+
+#ifdef __cplusplus
+}
+#endif
+
+#endif

@@ -1,0 +1,29 @@
+use bandsawpink::{make_list, Rack, Refusal};
+
+fn main() -> Result<(), Refusal> {
+    let mut rack = Rack::format(3, 4)?;
+    let twins = [0; 4 * 32];
+    let mut working = twins;
+    working[34] = 250; // two new prices, in cents
+    working[35] = 199;
+    let list = make_list(&working, &twins)?;
+    rack.open(1, 1, &[7; 8], &list)?;
+    for _ in 0..13 {
+        rack.step(1)?;
+    }
+
+    rack.fail(1)?; // between two stores, once the release counts
+    let found = rack.recover()?;
+    println!("card 1: release {} of desk {}", found.stamp, found.desk[0]);
+    for (word, price) in rack.fetch(1)?.iter().enumerate() {
+        if *price != 0 {
+            println!("label {}: {}.{:02}", 32 + word, price / 100, price % 100);
+        }
+    }
+
+    rack.join(1)?;
+    if let Err(refusal) = rack.release(1, 1, &[7; 8], &list) {
+        println!("sent again: {refusal}");
+    }
+    Ok(())
+}

@@ -1,0 +1,106 @@
+//! The functions and types of `include/bandsawpink.h`.
+
+use std::mem::{offset_of, size_of};
+
+/// The awaited card of a rack that awaits none.
+pub const RUNNING: u32 = u32::MAX;
+
+#[repr(C)]
+#[derive(Clone, Debug, PartialEq, Eq)]
+pub struct Directory {
+    pub cards: u32,
+    pub pages: u32,
+    pub awaited: u32,
+    pub live: [u32; 8],
+    pub primary: [u32; 64],
+    pub secondary: [u32; 64],
+}
+
+#[repr(C)]
+#[derive(Clone, Copy)]
+pub struct Answer {
+    pub number: u32,
+    pub value: u64,
+}
+
+#[repr(C)]
+#[derive(Clone, Copy)]
+pub struct DeskAnswer {
+    pub number: u32,
+    pub value: u64,
+    pub desk: [u32; 8],
+}
+
+// The library was built for this layout.
+const _: () = {
+    assert!(size_of::<Directory>() == 139 * 4);
+    assert!(offset_of!(Directory, pages) == 4);
+    assert!(offset_of!(Directory, awaited) == 2 * 4);
+    assert!(offset_of!(Directory, live) == 3 * 4);
+    assert!(offset_of!(Directory, primary) == 11 * 4);
+    assert!(offset_of!(Directory, secondary) == 75 * 4);
+    assert!(size_of::<Answer>() == 16 && offset_of!(Answer, value) == 8);
+    assert!(size_of::<DeskAnswer>() == 48 && offset_of!(DeskAnswer, desk) == 16);
+    assert!(size_of::<usize>() == 8);
+};
+
+extern "C" {
+    pub fn rack_format(
+        memory: *mut u32,
+        words: usize,
+        cards: u32,
+        pages: u32,
+        directory: *mut Directory,
+    ) -> Answer;
+    pub fn rack_open(
+        memory: *mut u32,
+        words: usize,
+        directory: *const Directory,
+        card: u32,
+        number: u32,
+        desk: *const [u32; 8],
+        list: *const u32,
+        list_words: usize,
+    ) -> Answer;
+    pub fn rack_step(
+        memory: *mut u32,
+        words: usize,
+        directory: *const Directory,
+        card: u32,
+    ) -> Answer;
+    pub fn rack_fetch(
+        memory: *const u32,
+        words: usize,
+        directory: *const Directory,
+        page: u32,
+        buffer: *mut u32,
+        buffer_words: usize,
+    ) -> Answer;
+    pub fn rack_fail(
+        memory: *const u32,
+        words: usize,
+        directory: *mut Directory,
+        card: u32,
+    ) -> Answer;
+    pub fn rack_recover(memory: *mut u32, words: usize, directory: *mut Directory) -> DeskAnswer;
+    pub fn rack_join(
+        memory: *mut u32,
+        words: usize,
+        directory: *mut Directory,
+        card: u32,
+    ) -> Answer;
+    pub fn rack_desk(
+        memory: *const u32,
+        words: usize,
+        directory: *const Directory,
+        card: u32,
+    ) -> DeskAnswer;
+    pub fn rack_make_list(
+        working: *const u32,
+        working_words: usize,
+        twins: *const u32,
+        twins_words: usize,
+        buffer: *mut u32,
+        buffer_words: usize,
+    ) -> Answer;
+}

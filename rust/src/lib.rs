@@ -1,0 +1,224 @@
+//! A price rack whose behaviour is proved: 3 to 8 cards, 1 to 64 pages of 32 prices, each page on two
+//! cards. A [`Rack`] owns its memory and directory; every call answers what the rack's specification
+//! defines, and one that is refused has changed nothing. `include/bandsawpink.h` is the manual.
+
+mod calls;
+mod refusal;
+
+pub use refusal::Refusal;
+
+use calls::{Answer, DeskAnswer, Directory, RUNNING};
+
+/// The words of a page, one price in cents each.
+pub const PAGE_WORDS: usize = 32;
+
+/// The longest list of changes.
+pub const LIST_WORDS: usize = 512;
+
+/// The prices of a page, in cents.
+pub type Page = [u32; PAGE_WORDS];
+
+/// Words that the price desk wants back.
+pub type Desk = [u32; 8];
+
+/// What a recovery finds: the failed card's last release that counts.
+#[derive(Clone, Copy, Debug, PartialEq, Eq)]
+pub struct Recovered {
+    /// The release's number, 0 if there was none.
+    pub stamp: u64,
+    pub desk: Desk,
+}
+
+/// A rack, with its memory and directory.
+#[derive(Clone, Debug, PartialEq, Eq)]
+pub struct Rack {
+    memory: Vec<u32>,
+    directory: Directory,
+}
+
+fn accepted(answer: Answer) -> Result<u64, Refusal> {
+    Refusal::of(answer.number, answer.value).map_or(Ok(answer.value), Err)
+}
+
+fn accepted_desk(answer: DeskAnswer) -> Result<Recovered, Refusal> {
+    let found = Recovered {
+        stamp: answer.value,
+        desk: answer.desk,
+    };
+    Refusal::of(answer.number, answer.value).map_or(Ok(found), Err)
+}
+
+// Each call below lends slices that it owns or was lent, with their lengths, a directory of the
+// library's layout, and nothing twice if it is written: what the header asks of a caller.
+impl Rack {
+    /// A newly formatted rack: all prices 0, all cards live.
+    pub fn format(cards: u32, pages: u32) -> Result<Rack, Refusal> {
+        // A memory of any length would be refused; none is allocated.
+        if cards > 8 || pages > 64 {
+            return Err(Refusal::Limits);
+        }
+        let words = cards as usize * (676 + 64 * pages as usize);
+        let mut memory = vec![0; words];
+        let mut directory = Directory {
+            cards: 0,
+            pages: 0,
+            awaited: RUNNING,
+            live: [0; 8],
+            primary: [0; 64],
+            secondary: [0; 64],
+        };
+        // SAFETY: see above.
+        accepted(unsafe {
+            calls::rack_format(memory.as_mut_ptr(), words, cards, pages, &mut directory)
+        })?;
+        Ok(Rack { memory, directory })
+    }
+
+    pub fn cards(&self) -> u32 {
+        self.directory.cards
+    }
+
+    pub fn pages(&self) -> u32 {
+        self.directory.pages
+    }
+
+    pub fn is_live(&self, card: u32) -> bool {
+        card < self.cards() && self.directory.live[card as usize] != 0
+    }
+
+    /// The card whose recovery is awaited.
+    pub fn awaited(&self) -> Option<u32> {
+        (self.directory.awaited != RUNNING).then_some(self.directory.awaited)
+    }
+
+    /// The primary and the secondary of a page.
+    pub fn homes(&self, page: u32) -> Option<(u32, u32)> {
+        let at = page as usize;
+        (page < self.pages()).then(|| (self.directory.primary[at], self.directory.secondary[at]))
+    }
+
+    /// Opens a release on a card. Its number is the one after the card's last.
+    pub fn open(
+        &mut self,
+        card: u32,
+        number: u32,
+        desk: &Desk,
+        list: &[u32],
+    ) -> Result<(), Refusal> {
+        let words = self.memory.len();
+        // SAFETY: see above.
+        accepted(unsafe {
+            let memory = self.memory.as_mut_ptr();
+            calls::rack_open(
+                memory,
+                words,
+                &self.directory,
+                card,
+                number,
+                desk,
+                list.as_ptr(),
+                list.len(),
+            )
+        })
+        .map(|_| ())
+    }
+
+    /// Makes one step of the release that is open on a card.
+    pub fn step(&mut self, card: u32) -> Result<(), Refusal> {
+        let words = self.memory.len();
+        // SAFETY: see above.
+        accepted(unsafe {
+            calls::rack_step(self.memory.as_mut_ptr(), words, &self.directory, card)
+        })
+        .map(|_| ())
+    }
+
+    /// Opens a release and makes its steps to the close; gives their number.
+    pub fn release(
+        &mut self,
+        card: u32,
+        number: u32,
+        desk: &Desk,
+        list: &[u32],
+    ) -> Result<u64, Refusal> {
+        self.open(card, number, desk, list)?;
+        let mut steps = 0;
+        loop {
+            match self.step(card) {
+                Ok(()) => steps += 1,
+                Err(Refusal::NoneOpen) => return Ok(steps),
+                Err(refusal) => return Err(refusal),
+            }
+        }
+    }
+
+    /// The prices of a page.
+    pub fn fetch(&self, page: u32) -> Result<Page, Refusal> {
+        let mut prices = [0; PAGE_WORDS];
+        let (memory, words) = (self.memory.as_ptr(), self.memory.len());
+        // SAFETY: see above.
+        accepted(unsafe {
+            calls::rack_fetch(
+                memory,
+                words,
+                &self.directory,
+                page,
+                prices.as_mut_ptr(),
+                PAGE_WORDS,
+            )
+        })
+        .map(|_| prices)
+    }
+
+    /// A card fails: it is dead, and its recovery awaited.
+    pub fn fail(&mut self, card: u32) -> Result<(), Refusal> {
+        let (memory, words) = (self.memory.as_ptr(), self.memory.len());
+        // SAFETY: see above.
+        accepted(unsafe { calls::rack_fail(memory, words, &mut self.directory, card) }).map(|_| ())
+    }
+
+    /// Recovers the card that failed.
+    pub fn recover(&mut self) -> Result<Recovered, Refusal> {
+        let words = self.memory.len();
+        // SAFETY: see above.
+        accepted_desk(unsafe {
+            calls::rack_recover(self.memory.as_mut_ptr(), words, &mut self.directory)
+        })
+    }
+
+    /// A dead card joins again.
+    pub fn join(&mut self, card: u32) -> Result<(), Refusal> {
+        let words = self.memory.len();
+        // SAFETY: see above.
+        accepted(unsafe {
+            calls::rack_join(self.memory.as_mut_ptr(), words, &mut self.directory, card)
+        })
+        .map(|_| ())
+    }
+
+    /// The desk of a card's last release.
+    pub fn desk(&self, card: u32) -> Result<Desk, Refusal> {
+        let (memory, words) = (self.memory.as_ptr(), self.memory.len());
+        // SAFETY: see above.
+        accepted_desk(unsafe { calls::rack_desk(memory, words, &self.directory, card) })
+            .map(|found| found.desk)
+    }
+}
+
+/// The list of changes from the twins, the pages as they were fetched, to the working pages.
+pub fn make_list(working: &[u32], twins: &[u32]) -> Result<Vec<u32>, Refusal> {
+    let mut list = vec![0; LIST_WORDS];
+    // SAFETY: the slices are lent with their lengths, and the list is not one of them.
+    let length = accepted(unsafe {
+        calls::rack_make_list(
+            working.as_ptr(),
+            working.len(),
+            twins.as_ptr(),
+            twins.len(),
+            list.as_mut_ptr(),
+            list.len(),
+        )
+    })?;
+    list.truncate(length as usize);
+    Ok(list)
+}

@@ -1,0 +1,144 @@
+use std::fmt;
+
+/// Why a call was refused. It has changed nothing.
+#[derive(Clone, Copy, Debug, PartialEq, Eq, Hash)]
+pub enum Refusal {
+    /// Cards, pages or lengths outside their limits.
+    Limits,
+    /// Memory and directory do not make a rack.
+    Unfit,
+    NoCard,
+    ReleaseOpen,
+    /// The number is at or below the card's stamp, as that of a release sent twice.
+    NumberUsed {
+        stamp: u64,
+    },
+    NumberAhead,
+    /// The first word of the list that breaks a rule.
+    FaultyList {
+        word: u64,
+    },
+    /// A label of the list is in the open release of another card, this one the lowest.
+    WordInUse {
+        card: u64,
+    },
+    NoPage,
+    /// The page is in an open release that already counts, this card's the lowest.
+    PageInMotion {
+        card: u64,
+    },
+    RecoveryAwaited,
+    NoneAwaited,
+    TwoLive,
+    CardLive,
+    JoinWhileOpen,
+    /// A step with no release open.
+    NoneOpen,
+    /// A buffer of the wrong length, or a list over 512 words.
+    WrongBuffer,
+}
+
+impl Refusal {
+    /// Of a number and a place that a call answered; none if it was accepted.
+    pub(crate) fn of(number: u32, place: u64) -> Option<Refusal> {
+        Some(match number {
+            0 => return None,
+            1 => Refusal::Limits,
+            2 => Refusal::Unfit,
+            3 => Refusal::NoCard,
+            4 => Refusal::ReleaseOpen,
+            5 => Refusal::NumberUsed { stamp: place },
+            6 => Refusal::NumberAhead,
+            7 => Refusal::FaultyList { word: place },
+            8 => Refusal::WordInUse { card: place },
+            9 => Refusal::NoPage,
+            10 => Refusal::PageInMotion { card: place },
+            11 => Refusal::RecoveryAwaited,
+            12 => Refusal::NoneAwaited,
+            13 => Refusal::TwoLive,
+            14 => Refusal::CardLive,
+            15 => Refusal::JoinWhileOpen,
+            16 => Refusal::NoneOpen,
+            17 => Refusal::WrongBuffer,
+            _ => unreachable!("no call answers the number {number}"),
+        })
+    }
+
+    /// The number that the rack's specification gives it.
+    pub fn number(self) -> u32 {
+        match self {
+            Refusal::Limits => 1,
+            Refusal::Unfit => 2,
+            Refusal::NoCard => 3,
+            Refusal::ReleaseOpen => 4,
+            Refusal::NumberUsed { .. } => 5,
+            Refusal::NumberAhead => 6,
+            Refusal::FaultyList { .. } => 7,
+            Refusal::WordInUse { .. } => 8,
+            Refusal::NoPage => 9,
+            Refusal::PageInMotion { .. } => 10,
+            Refusal::RecoveryAwaited => 11,
+            Refusal::NoneAwaited => 12,
+            Refusal::TwoLive => 13,
+            Refusal::CardLive => 14,
+            Refusal::JoinWhileOpen => 15,
+            Refusal::NoneOpen => 16,
+            Refusal::WrongBuffer => 17,
+        }
+    }
+
+    /// 0 for a refusal that names no place.
+    pub fn place(self) -> u64 {
+        match self {
+            Refusal::NumberUsed { stamp } => stamp,
+            Refusal::FaultyList { word } => word,
+            Refusal::WordInUse { card } | Refusal::PageInMotion { card } => card,
+            _ => 0,
+        }
+    }
+}
+
+impl fmt::Display for Refusal {
+    fn fmt(&self, f: &mut fmt::Formatter<'_>) -> fmt::Result {
+        match self {
+            Refusal::Limits => write!(f, "cards, pages or lengths are outside their limits"),
+            Refusal::Unfit => write!(f, "memory and directory do not make a rack"),
+            Refusal::NoCard => write!(f, "there is no such card, or it is dead"),
+            Refusal::ReleaseOpen => write!(f, "a release is open on the card"),
+            Refusal::NumberUsed { stamp } => {
+                write!(
+                    f,
+                    "the release's number is used: the card's last is {stamp}"
+                )
+            }
+            Refusal::NumberAhead => write!(f, "the release's number is not the card's next"),
+            Refusal::FaultyList { word } => {
+                write!(f, "the list of changes is faulty at word {word}")
+            }
+            Refusal::WordInUse { card } => {
+                write!(
+                    f,
+                    "a label of the list is in the open release of card {card}"
+                )
+            }
+            Refusal::NoPage => write!(f, "there is no such page"),
+            Refusal::PageInMotion { card } => {
+                write!(
+                    f,
+                    "the page is in motion: the release of card {card} is being committed"
+                )
+            }
+            Refusal::RecoveryAwaited => write!(f, "a card has failed and awaits recovery"),
+            Refusal::NoneAwaited => write!(f, "no recovery is awaited"),
+            Refusal::TwoLive => write!(f, "only two cards are live: none may fail"),
+            Refusal::CardLive => write!(f, "the card is live already"),
+            Refusal::JoinWhileOpen => write!(f, "no card joins while a release is open"),
+            Refusal::NoneOpen => write!(f, "no release is open on the card"),
+            Refusal::WrongBuffer => {
+                write!(f, "the buffer does not fit, or the list is over 512 words")
+            }
+        }
+    }
+}
+
+impl std::error::Error for Refusal {}

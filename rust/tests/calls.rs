@@ -1,0 +1,171 @@
+//! Each call through the static library: what is accepted, each refusal with its place, and that a
+//! refusal changes nothing.
+
+use bandsawpink::{make_list, Desk, Page, Rack, Recovered, Refusal};
+
+const DESK: Desk = [1, 2, 3, 4, 5, 6, 7, 8];
+const LIST: [u32; 5] = [0x1000_0001, 0x2002_0002, 250, 199, 0xF000_0004];
+
+fn page_1() -> Page {
+    let mut page = [0; 32];
+    page[2] = 250;
+    page[3] = 199;
+    page
+}
+
+fn rack() -> Rack {
+    Rack::format(3, 4).expect("3 cards and 4 pages are within the limits")
+}
+
+fn opened(steps: usize) -> Rack {
+    let mut rack = rack();
+    rack.open(1, 1, &DESK, &LIST).unwrap();
+    for _ in 0..steps {
+        rack.step(1).unwrap();
+    }
+    rack
+}
+
+fn refused<T>(rack: &mut Rack, call: impl FnOnce(&mut Rack) -> Result<T, Refusal>) -> Refusal {
+    let before = rack.clone();
+    let refusal = call(rack).err().expect("the call is refused");
+    assert!(*rack == before, "a refusal changes nothing");
+    refusal
+}
+
+#[test]
+fn formatting() {
+    let rack = rack();
+    assert_eq!((rack.cards(), rack.pages(), rack.awaited()), (3, 4, None));
+    assert_eq!(rack.homes(2), Some((2, 0)));
+    assert_eq!(rack.homes(4), None);
+    assert!(rack.is_live(2) && !rack.is_live(3));
+    for (cards, pages) in [
+        (2, 4),
+        (9, 4),
+        (3, 0),
+        (3, 65),
+        (0, 0),
+        (u32::MAX, u32::MAX),
+    ] {
+        assert_eq!(Rack::format(cards, pages), Err(Refusal::Limits));
+    }
+    assert!(Rack::format(8, 64).is_ok());
+}
+
+#[test]
+fn a_list_and_its_release() {
+    let (twins, mut working) = ([0; 128], [0; 128]);
+    working[34] = 250;
+    working[35] = 199;
+    assert_eq!(make_list(&working, &twins).unwrap(), LIST);
+    assert_eq!(make_list(&twins, &twins).unwrap(), [0xF000_0000]);
+    assert_eq!(make_list(&working, &twins[..96]), Err(Refusal::Limits));
+    let all: Vec<u32> = (1..=2048).collect();
+    assert_eq!(make_list(&all, &[0; 2048]), Err(Refusal::WrongBuffer));
+
+    let mut rack = rack();
+    assert_eq!(rack.release(1, 1, &DESK, &LIST), Ok(19));
+    assert_eq!(rack.fetch(1), Ok(page_1()));
+    assert_eq!(rack.desk(1), Ok(DESK));
+    assert_eq!(rack.release(1, 2, &DESK, &[0xF000_0000]), Ok(11));
+}
+
+#[test]
+fn a_card_fails_between_two_steps() {
+    for (steps, shown, found) in [
+        (
+            12,
+            [0; 32],
+            Recovered {
+                stamp: 0,
+                desk: [0; 8],
+            },
+        ),
+        (
+            13,
+            page_1(),
+            Recovered {
+                stamp: 1,
+                desk: DESK,
+            },
+        ),
+    ] {
+        let mut rack = opened(steps);
+        rack.fail(1).unwrap();
+        assert_eq!((rack.awaited(), rack.is_live(1)), (Some(1), false));
+        assert_eq!(refused(&mut rack, |r| r.fetch(1)), Refusal::RecoveryAwaited);
+        assert_eq!(rack.recover(), Ok(found));
+        assert_eq!(rack.fetch(1), Ok(shown));
+        let homes: Vec<_> = (0..4).map(|page| rack.homes(page).unwrap()).collect();
+        assert_eq!(homes, [(0, 2), (2, 0), (2, 0), (0, 2)]);
+        assert_eq!(refused(&mut rack, |r| r.fail(0)), Refusal::TwoLive);
+        rack.join(1).unwrap();
+        assert_eq!(rack.desk(1), Ok(found.desk));
+    }
+}
+
+#[test]
+fn refusals_of_a_desk() {
+    let mut rack = rack();
+    assert_eq!(
+        refused(&mut rack, |r| r.open(3, 1, &DESK, &LIST)),
+        Refusal::NoCard
+    );
+    assert_eq!(
+        refused(&mut rack, |r| r.open(1, 0, &DESK, &LIST)),
+        Refusal::NumberUsed { stamp: 0 }
+    );
+    assert_eq!(
+        refused(&mut rack, |r| r.open(1, 2, &DESK, &LIST)),
+        Refusal::NumberAhead
+    );
+    assert_eq!(
+        refused(&mut rack, |r| r.open(1, 1, &DESK, &[])),
+        Refusal::FaultyList { word: 0 }
+    );
+    let late = Refusal::FaultyList { word: 4 };
+    assert_eq!(
+        refused(&mut rack, |r| r.open(1, 1, &DESK, &LIST[..4])),
+        late
+    );
+    assert_eq!(refused(&mut rack, |r| r.step(1)), Refusal::NoneOpen);
+    assert_eq!(refused(&mut rack, |r| r.desk(3)), Refusal::NoCard);
+
+    let mut rack = opened(13);
+    assert_eq!(
+        refused(&mut rack, |r| r.open(1, 1, &DESK, &LIST)),
+        Refusal::ReleaseOpen
+    );
+    assert_eq!(
+        refused(&mut rack, |r| r.open(2, 1, &DESK, &LIST)),
+        Refusal::WordInUse { card: 1 }
+    );
+    assert_eq!(
+        refused(&mut rack, |r| r.fetch(1)),
+        Refusal::PageInMotion { card: 1 }
+    );
+    assert_eq!(refused(&mut rack, |r| r.fetch(4)), Refusal::NoPage);
+}
+
+#[test]
+fn refusals_of_the_rack() {
+    let mut rack = Rack::format(4, 4).unwrap();
+    assert_eq!(refused(&mut rack, |r| r.recover()), Refusal::NoneAwaited);
+    assert_eq!(refused(&mut rack, |r| r.join(1)), Refusal::CardLive);
+    assert_eq!(refused(&mut rack, |r| r.join(4)), Refusal::NoCard);
+    rack.fail(1).unwrap();
+    rack.recover().unwrap();
+    rack.open(0, 1, &DESK, &LIST).unwrap();
+    assert_eq!(refused(&mut rack, |r| r.join(1)), Refusal::JoinWhileOpen);
+}
+
+#[test]
+fn a_refusal_has_a_number_a_place_and_a_sentence() {
+    let refusal = Refusal::NumberUsed { stamp: 7 };
+    assert_eq!((refusal.number(), refusal.place()), (5, 7));
+    assert_eq!(
+        refusal.to_string(),
+        "the release's number is used: the card's last is 7"
+    );
+}

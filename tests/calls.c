@@ -1,0 +1,198 @@
+/*
+** The exported functions called from C: each refusal of document 01 with its number and place, and that a refusal keeps
+** memory, directory and buffer. Ends with status 0 if all is as expected.
+*/
+#include <bandsawpink.h>
+#include <stdio.h>
+#include <string.h>
+
+enum { WORDS = 2796 };
+
+static uint32_t memory[WORDS + 1], memory_before[WORDS + 1];
+static rack_directory directory, directory_before;
+static const uint32_t desk[RACK_DESK_WORDS] = { 1, 2, 3, 4, 5, 6, 7, 8 };
+static const uint32_t list[] = { 0x10000001, 0x20020002, 250, 199, 0xF0000004 };
+static int failed;
+
+#define EXPECT(fact) \
+    do { \
+        if (!(fact)) { \
+            printf("%s:%d: not so: %s\n", __FILE__, __LINE__, #fact); \
+            failed = 1; \
+        } \
+    } while (0)
+
+/* A call's number and place, and that it kept memory and directory. */
+#define REFUSED(call, expected_number, expected_place) \
+    do { \
+        memcpy(memory_before, memory, sizeof memory); \
+        directory_before = directory; \
+        rack_answer answer = (call); \
+        EXPECT(answer.number == (expected_number) && answer.value == (expected_place)); \
+        EXPECT(memcmp(memory, memory_before, sizeof memory) == 0); \
+        EXPECT(memcmp(&directory, &directory_before, sizeof directory) == 0); \
+    } while (0)
+
+#define ACCEPTED(call) EXPECT((call).number == RACK_ACCEPTED)
+
+/* Two answers with desks, as answers whose desks are checked. */
+static rack_answer checked(rack_desk_answer found) {
+    uint32_t zeros[RACK_DESK_WORDS] = { 0 };
+    if (found.number != RACK_ACCEPTED) EXPECT(memcmp(found.desk, zeros, sizeof zeros) == 0);
+    rack_answer answer = { found.number, found.value };
+    return answer;
+}
+
+static void format(void) {
+    ACCEPTED(rack_format(memory, WORDS, 3, 4, &directory));
+}
+
+static void formatting(void) {
+    memset(&directory, 0xA5, sizeof directory);
+    memset(memory, 0xA5, sizeof memory);
+    memcpy(memory_before, memory, sizeof memory);
+    rack_answer answer = rack_format(memory, WORDS - 1, 3, 4, &directory);
+    EXPECT(answer.number == RACK_LIMITS && answer.value == 0);
+    EXPECT(memcmp(memory, memory_before, sizeof memory) == 0);
+    EXPECT(directory.cards == 0 && directory.pages == 0 && directory.awaited == RACK_RUNNING);
+    EXPECT(directory.live[0] == 0 && directory.primary[63] == 0 && directory.secondary[63] == 0);
+    EXPECT(rack_step(memory, WORDS, &directory, 0).number == RACK_LIMITS);
+    EXPECT(rack_format(memory, WORDS + 1, 3, 4, &directory).number == RACK_LIMITS);
+    EXPECT(rack_format(NULL, 0, 0, 0, &directory).number == RACK_LIMITS);
+    format();
+    EXPECT(memory[0] == 0 && memory[WORDS - 1] == 0 && memory[WORDS] == 0xA5A5A5A5);
+    EXPECT(directory.cards == 3 && directory.pages == 4 && directory.awaited == RACK_RUNNING);
+    EXPECT(directory.live[2] == 1 && directory.live[3] == 0);
+    EXPECT(directory.primary[2] == 2 && directory.secondary[2] == 0 && directory.primary[4] == 0);
+    EXPECT(RACK_MEMORY_WORDS(3, 4) == WORDS);
+}
+
+static void desk_calls(void) {
+    format();
+    REFUSED(rack_open(memory, WORDS - 1, &directory, 1, 1, desk, list, 5), RACK_LIMITS, 0);
+    REFUSED(rack_open(memory, WORDS, &directory, 3, 1, desk, list, 5), RACK_NO_CARD, 0);
+    REFUSED(rack_open(memory, WORDS, &directory, 1, 0, desk, list, 5), RACK_NUMBER_USED, 0);
+    REFUSED(rack_open(memory, WORDS, &directory, 1, 2, desk, list, 5), RACK_NUMBER_AHEAD, 0);
+    REFUSED(rack_open(memory, WORDS, &directory, 1, 1, desk, list, 4), RACK_FAULTY_LIST, 4);
+    REFUSED(rack_open(memory, WORDS, &directory, 1, 1, desk, NULL, 0), RACK_FAULTY_LIST, 0);
+    REFUSED(rack_step(memory, WORDS, &directory, 1), RACK_NONE_OPEN, 0);
+    memory[932 + 9] = 2;
+    REFUSED(rack_step(memory, WORDS, &directory, 1), RACK_UNFIT, 0);
+    memory[932 + 9] = 0;
+    memory[932] = 4294967295;
+    REFUSED(rack_open(memory, WORDS, &directory, 1, 7, desk, list, 5), RACK_NUMBER_USED, 4294967295);
+    memory[932] = 0;
+    ACCEPTED(rack_open(memory, WORDS, &directory, 1, 1, desk, list, 5));
+    REFUSED(rack_open(memory, WORDS, &directory, 1, 1, desk, list, 5), RACK_RELEASE_OPEN, 0);
+    REFUSED(rack_open(memory, WORDS, &directory, 2, 1, desk, list, 5), RACK_WORD_IN_USE, 1);
+    for (int step = 0; step < 19; step++) ACCEPTED(rack_step(memory, WORDS, &directory, 1));
+    REFUSED(rack_step(memory, WORDS, &directory, 1), RACK_NONE_OPEN, 0);
+    REFUSED(rack_open(memory, WORDS, &directory, 1, 1, desk, list, 5), RACK_NUMBER_USED, 1);
+    rack_desk_answer asked = rack_desk(memory, WORDS, &directory, 1);
+    EXPECT(asked.number == RACK_ACCEPTED && memcmp(asked.desk, desk, sizeof desk) == 0);
+    REFUSED(checked(rack_desk(memory, WORDS, &directory, 3)), RACK_NO_CARD, 0);
+}
+
+static void reader_calls(void) {
+    uint32_t page[RACK_PAGE_WORDS + 1], page_before[RACK_PAGE_WORDS + 1];
+    format();
+    ACCEPTED(rack_open(memory, WORDS, &directory, 1, 1, desk, list, 5));
+    for (int step = 0; step < 13; step++) ACCEPTED(rack_step(memory, WORDS, &directory, 1));
+    memset(page, 0xA5, sizeof page);
+    memcpy(page_before, page, sizeof page);
+    REFUSED(rack_fetch(memory, WORDS, &directory, 4, page, 32), RACK_NO_PAGE, 0);
+    REFUSED(rack_fetch(memory, WORDS, &directory, 1, page, 32), RACK_PAGE_IN_MOTION, 1);
+    REFUSED(rack_fetch(memory, WORDS, &directory, 0, page, 31), RACK_WRONG_BUFFER, 0);
+    REFUSED(rack_fetch(memory, WORDS, &directory, 0, page, 33), RACK_WRONG_BUFFER, 0);
+    REFUSED(rack_fetch(memory, WORDS, &directory, 0, NULL, 0), RACK_WRONG_BUFFER, 0);
+    EXPECT(memcmp(page, page_before, sizeof page) == 0);
+    ACCEPTED(rack_fetch(memory, WORDS, &directory, 0, page, 32));
+    EXPECT(page[0] == 0 && page[31] == 0 && page[32] == 0xA5A5A5A5);
+}
+
+static void card_calls(void) {
+    uint32_t page[RACK_PAGE_WORDS];
+    format();
+    ACCEPTED(rack_open(memory, WORDS, &directory, 1, 1, desk, list, 5));
+    for (int step = 0; step < 13; step++) ACCEPTED(rack_step(memory, WORDS, &directory, 1));
+    REFUSED(checked(rack_recover(memory, WORDS, &directory)), RACK_NONE_AWAITED, 0);
+    REFUSED(rack_join(memory, WORDS, &directory, 1), RACK_CARD_LIVE, 0);
+    REFUSED(rack_fail(memory, WORDS, &directory, 3), RACK_NO_CARD, 0);
+    directory.live[2] = 2; /* any word but 0 says live; a refusal keeps it, an accepted call writes 1 */
+    REFUSED(rack_fail(memory, WORDS, &directory, 3), RACK_NO_CARD, 0);
+    ACCEPTED(rack_fail(memory, WORDS, &directory, 1));
+    EXPECT(directory.live[1] == 0 && directory.live[2] == 1 && directory.awaited == 1);
+    memset(memory + 932, 0xA5, 932 * sizeof *memory); /* the failed card's memory may hold anything */
+    REFUSED(rack_step(memory, WORDS, &directory, 0), RACK_RECOVERY_AWAITED, 0);
+    rack_desk_answer found = rack_recover(memory, WORDS, &directory);
+    EXPECT(found.number == RACK_ACCEPTED && found.value == 1 && memcmp(found.desk, desk, sizeof desk) == 0);
+    EXPECT(directory.awaited == RACK_RUNNING && directory.primary[1] == 2 && directory.secondary[1] == 0);
+    ACCEPTED(rack_fetch(memory, WORDS, &directory, 1, page, 32));
+    EXPECT(page[1] == 0 && page[2] == 250 && page[3] == 199);
+    REFUSED(rack_fail(memory, WORDS, &directory, 0), RACK_TWO_LIVE, 0);
+    ACCEPTED(rack_open(memory, WORDS, &directory, 0, 1, desk, list, 5));
+    REFUSED(rack_join(memory, WORDS, &directory, 1), RACK_JOIN_WHILE_OPEN, 0);
+    while (rack_step(memory, WORDS, &directory, 0).number == RACK_ACCEPTED) { }
+    ACCEPTED(rack_join(memory, WORDS, &directory, 1));
+    EXPECT(directory.live[1] == 1);
+}
+
+static void list_maker(void) {
+    static uint32_t working[128], twins[128], buffer[6];
+    working[34] = 250;
+    working[35] = 199;
+    memset(buffer, 0xA5, sizeof buffer);
+    rack_answer made = rack_make_list(working, 128, twins, 128, buffer, 4);
+    EXPECT(made.number == RACK_WRONG_BUFFER && made.value == 0 && buffer[0] == 0xA5A5A5A5);
+    made = rack_make_list(working, 127, twins, 127, buffer, 6);
+    EXPECT(made.number == RACK_LIMITS && made.value == 0 && buffer[0] == 0xA5A5A5A5);
+    EXPECT(rack_make_list(NULL, 0, NULL, 0, NULL, 0).number == RACK_LIMITS);
+    made = rack_make_list(working, 128, twins, 128, buffer, 6);
+    EXPECT(made.number == RACK_ACCEPTED && made.value == 5);
+    EXPECT(memcmp(buffer, list, sizeof list) == 0 && buffer[5] == 0xA5A5A5A5);
+}
+
+/* Any words at all: whatever stands in memory and directory, each call returns, and a refused one keeps both. */
+static void any_words(void) {
+    uint32_t page[RACK_PAGE_WORDS], state = 1;
+    for (int round = 0; round < 2000; round++) {
+        format();
+        for (int change = 0; change <= round % 5; change++) {
+            state = state * 1664525 + 1013904223;
+            uint32_t word = state >> 8, value = state >> (state % 32);
+            if (round % 2 == 0) ((uint32_t *)&directory)[word % 139] = value;
+            else memory[word % WORDS] = value;
+        }
+        memcpy(memory_before, memory, sizeof memory);
+        directory_before = directory;
+        uint32_t card = state % 5;
+        uint32_t numbers[] = {
+            rack_fetch(memory, WORDS, &directory, card, page, 32).number,
+            rack_desk(memory, WORDS, &directory, card).number,
+        };
+        EXPECT(numbers[0] <= RACK_WRONG_BUFFER && numbers[1] <= RACK_RECOVERY_AWAITED);
+        uint32_t number = rack_open(memory, WORDS, &directory, card, 1, desk, list, 5).number;
+        if (number != 0) EXPECT(memcmp(memory, memory_before, sizeof memory) == 0);
+        memcpy(memory_before, memory, sizeof memory);
+        number = rack_step(memory, WORDS, &directory, card).number;
+        if (number != 0) EXPECT(memcmp(memory, memory_before, sizeof memory) == 0);
+        number = rack_fail(memory, WORDS, &directory, card).number;
+        if (number != 0) EXPECT(memcmp(&directory, &directory_before, sizeof directory) == 0);
+        memcpy(memory_before, memory, sizeof memory);
+        directory_before = directory;
+        number = rack_recover(memory, WORDS, &directory).number;
+        if (number != 0) EXPECT(memcmp(memory, memory_before, sizeof memory) == 0);
+        if (number != 0) EXPECT(memcmp(&directory, &directory_before, sizeof directory) == 0);
+        rack_join(memory, WORDS, &directory, card);
+    }
+}
+
+int main(void) {
+    formatting();
+    desk_calls();
+    reader_calls();
+    card_calls();
+    list_maker();
+    any_words();
+    return failed;
+}
