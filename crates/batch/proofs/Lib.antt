@@ -1,3 +1,4 @@
 -- Laws that the proofs of the batched calls cite.
 pub mod Checked
+pub mod Fetching
 pub mod Stepping

@@ -1,14 +1,20 @@
 // Several calls in one. Each answers and leaves what the single calls, made one after the other,
 // would; inside, the rack is checked once.
 ghost use mathlib.Core.Path.{_≡_};
-ghost use Prim.Native.Nat.{min};
-ghost use lib.ListN.{length};
+ghost use mathlib.Core.Bool.{not};
+ghost use Prim.Native.Nat.{_*_, _<_, _≤_, min};
+ghost use lib.ListN.{length, getD};
+ghost use Rattle.laws.specs.Search.{inTurn};
 ghost use Rattle.answer.specs.Outcome.{answerOf};
+ghost use Rattle.memory.specs.Layout.{areaSize};
 ghost use Rattle.directory.specs.Directory.{backupOf};
 ghost use Rattle.protocol.specs.Release.{sizeOf};
+ghost use Rattle.protocol.specs.Checks.{firstRefusal};
 ghost use Rattle.protocol.specs.Recovery.{stepTimes};
 ghost use Rattle.release.specs.Stepping.{CardIn, HomesIn, GoodRelease, leftOf};
 ghost use Rattle.batch.specs.Steps.{steps, stoppedAt};
+ghost use Rattle.batch.specs.FetchAll.{fetchAllChecks, fetchAll, pagesOf, PrimariesIn};
+ghost use Rattle.batch.specs.FetchAll.{isMoving, wordsAfter, showNext, primariesOf};
 use answer::Answer;
 use directory::Directory;
 
@@ -94,5 +100,121 @@ pub fn steps(memory: &mut [u32], directory: Directory, card: u32, count: u32) ->
         directory,
         made,
         answer,
+    }
+}
+
+// ---- fetches
+
+// Which pages were shown: none if the call is refused.
+pub struct FetchAllReply {
+    pub directory: Directory,
+    pub answer: Answer,
+    pub shown: [bool; 64],
+}
+
+// 1, 2, 11, and 17 of a buffer that has not 32 words for each page; 0 if none.
+fn fetch_refusal(memory: &[u32], directory: Directory, room: usize) -> u32
+    ensures { λ r. ⌜ r
+        ≡ firstRefusal (fetchAllChecks directory (now (memory .entry)) room) 0 .number ⌝ }
+{
+    let first = checks::running(memory, directory);
+    if first != 0 {
+        return first;
+    }
+    if room != 32 * (directory.pages as usize) {
+        return answer::WRONG_BUFFER;
+    }
+    0
+}
+
+// Copies a page into its part of the buffer, unless it is in motion: whether it is shown.
+fn fetch_next(
+    memory: &[u32],
+    cards: u32,
+    pages: u32,
+    live: &[bool],
+    primary: &[u32],
+    page: u32,
+    buffer: &mut [u32],
+) -> bool
+    requires { ⌜ (pages ≤ 64) × (length (now memory) ≡ cards * areaSize pages) ⌝ }
+    requires { ⌜ (cards ≤ length (now live)) × (page < pages) × (page < length (now primary)) ⌝ }
+    requires { ⌜ (getD (now primary) page 0 < cards) × (length (now buffer) ≡ 32 * pages) ⌝ }
+    ensures shown { λ r. ⌜ r
+        ≡ not (isMoving (primariesOf cards pages (now (live .entry)) (now (primary .entry)))
+        (now (memory .entry)) page) ⌝ }
+    ensures buffer { λ _. ⌜ now (buffer .exit)
+        ≡ wordsAfter (primariesOf cards pages (now (live .entry)) (now (primary .entry)))
+        (now (memory .entry)) page (now (buffer .entry)) ⌝ }
+{
+    if conflict::lowest_in_motion(memory, cards, pages, live, page) < cards {
+        return false;
+    }
+    let size = memory::area_size(pages);
+    let at = page as usize;
+    let home = primary[at] as usize;
+    let start = memory::PAGES_START + 64 * at + 32;
+    let from = 32 * at;
+    let end = from + 32;
+    memory::load_run(memory, size, home, start, &mut buffer[from..end]);
+    true
+}
+
+// Copies each page that is not in motion.
+fn fetch_pages(
+    memory: &[u32],
+    cards: u32,
+    pages: u32,
+    live: &[bool],
+    primary: &[u32],
+    buffer: &mut [u32],
+    shown: &mut [bool],
+)
+    requires { ⌜ (pages ≤ 64) × (length (now memory) ≡ cards * areaSize pages) ⌝ }
+    requires { ⌜ (cards ≤ length (now live)) × PrimariesIn cards pages (now primary) ⌝ }
+    requires { ⌜ (length (now buffer) ≡ 32 * pages) × (length (now shown) ≡ 64) ⌝ }
+    ensures { λ _. ⌜ pagesOf (now (buffer .exit)) (now (shown .exit))
+        ≡ inTurn
+        (showNext (primariesOf cards pages (now (live .entry)) (now (primary .entry)))
+        (now (memory .entry)))
+        pages (pagesOf (now (buffer .entry)) (now (shown .entry))) ⌝ }
+{
+    for page in 0..pages {
+        let seen = fetch_next(memory, cards, pages, live, primary, page, buffer);
+        let at = page as usize;
+        shown[at] = seen;
+    }
+}
+
+// Fetches every page into its part of one buffer of 32 words for each page. The words of a page in
+// motion are kept.
+pub fn fetch_all(memory: &[u32], directory: Directory, buffer: &mut [u32]) -> FetchAllReply
+    ensures answer { λ r. ⌜ r .answer
+        ≡ answerOf (fetchAll directory (now (memory .entry)) (now (buffer .entry)) .outcome) ⌝ }
+    ensures directory { λ r. ⌜ r .directory
+        ≡ fetchAll directory (now (memory .entry)) (now (buffer .entry)) .directory ⌝ }
+    ensures pages { λ r. ⌜ pagesOf (now (buffer .exit)) (r .shown)
+        ≡ fetchAll directory (now (memory .entry)) (now (buffer .entry)) .pages ⌝ }
+{
+    let mut shown = [false; 64];
+    let first = fetch_refusal(memory, directory, buffer.len());
+    if first != 0 {
+        let answer = Answer::Refused(first, 0);
+        return FetchAllReply {
+            directory,
+            answer,
+            shown,
+        };
+    }
+    let cards = directory.cards;
+    let pages = directory.pages;
+    let live = directory.live;
+    let primary = directory.primary;
+    fetch_pages(memory, cards, pages, &live, &primary, buffer, &mut shown);
+    let answer = Answer::Given(0);
+    FetchAllReply {
+        directory,
+        answer,
+        shown,
     }
 }

@@ -47,7 +47,8 @@ module _ (d : Directory) (f c : ℕ) (few : c < 8) (m : List ℕ) (area : AreaIn
   unfolding runToClose
   run-keeps-others x other =
       by-cond (λ (m′ : List ℕ). SameOwn (sizeOf d) m m′ x) (isOpen (d .live) (sizeOf d) m c) _ _
-      (λ opened. times-keep-others d (backupBefore d f c) c few _ m area (λ _. all-left (good opened) (omega arith)) x other)
+      (λ opened.
+      times-keep-others d (backupBefore d f c) c few _ m area (λ _. all-left (good opened) (omega arith)) x other)
       (λ _. same-own (sizeOf d) m x)
 
 module _ (d : Directory) (f c : ℕ) (m : List ℕ) where

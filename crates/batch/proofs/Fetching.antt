@@ -1,0 +1,119 @@
+-- On a rack that passed checks 1, 2 and 11, a fetch of one of its pages into 32 words is refused if the page is in
+-- motion, and only then.
+use Prim.Native.Nat.{ℕ, zero, suc, _+_, _*_, _≤_, _<_}
+use mathlib.Core.Path.{_≡_, refl, sym, _∙_}
+use mathlib.Core.Logic.{_≢_}
+use mathlib.Core.List.{List}
+use mathlib.Core.Bool.{Bool, true, false, cond}
+use native.Mathlib.Omega.{arith}
+use borrow.Author.Tests.{eq-eqb, ne-eqb, eqb-true, not-false, lt-leb}
+use lib.ListN.{length, take, drop, length-take, length-drop, take-append-drop}
+use lib.Seq.{sets, length-sets, sets-eq, take-add}
+use lib.Dec.{eqb}
+use Rattle.laws.specs.Search.{lowest, inTurn}
+use Rattle.laws.proofs.Bools.{by-cond}
+use Rattle.answer.specs.Outcome.{given, refused, refusedAt, pageInMotion}
+use Rattle.memory.specs.Layout.{pageSize}
+use Rattle.directory.specs.declared.Directory.{Directory}
+use Rattle.protocol.specs.Checks.{firstRefusal, awaitsRecovery}
+use Rattle.protocol.specs.Fetch.{inMotion, fetchChecks, committedPage}
+use Rattle.protocol.proofs.Accepting.{Runs, all-passed, desk-passed}
+use Rattle.protocol.proofs.Limits.{within-limits}
+use Rattle.checks.proofs.Order.{by-number}
+use Rattle.rack.proofs.Results.{fetch-refused, fetch-accepted}
+use Rattle.batch.specs.FetchAll.{Pages, pagesOf, fetchNext, noneShown, fetchAllChecks, fetchedTo}
+use Rattle.batch.specs.FetchAll.{fetchAll, isMoving, showNext}
+
+-- a part stored where it was read
+sets-self : (l : List ℕ) (i n : ℕ) → i + n ≤ length l → sets l i (take n (drop i l)) ≡ l
+sets-self l i n fits =
+    let long : length (take n (drop i l)) ≡ n = simp (length-take, length-drop) (omega arith) in
+    sets-eq (take n (drop i l)) l i (omega arith) ∙ rw (long, ← take-add i n l) (take-append-drop (i + n) l)
+
+module _ (d : Directory) (m : List ℕ) where
+  -- the words of a page that is kept or shown
+  length-shown : (page : ℕ) (s : Pages) → length (showNext d m page s .words) ≡ length (s .words)
+  length-shown page s =
+      by-cond (λ (words : List ℕ). length words ≡ length (s .words)) (isMoving d m page) _ _ (λ _. refl)
+      (λ _. length-sets (s .words) (pageSize * page) (committedPage d m page))
+
+  pages-length : (n : ℕ) (s : Pages) → length (inTurn (showNext d m) n s .words) ≡ length (s .words)
+  unfolding inTurn
+  pages-length zero s = refl
+  pages-length (suc n) s = length-shown n (inTurn (showNext d m) n s) ∙ pages-length n s
+
+  module _ (runs : Runs d m) where
+    comes-to : (page : ℕ) → page < d .pages → {moving : Bool} → isMoving d m page ≡ moving
+        → cond moving (refusedAt pageInMotion (lowest (inMotion (d .live) (d .pages) m page) (d .cards))) (given 0)
+        ≡ firstRefusal (fetchChecks d m page pageSize) 0
+    unfolding firstRefusal awaitsRecovery
+    comes-to page below is =
+        rw (runs .fits .limits, runs .fits .fit, runs .running, lt-leb (d .pages) page below, is)
+
+    next-shown : (page : ℕ) (s : Pages) → page < d .pages → length (s .words) ≡ pageSize * d .pages
+        → fetchNext d m page s ≡ showNext d m page s
+    unfolding fetchNext
+    next-shown page s below long = go (isMoving d m page) refl
+      where
+        part : List ℕ
+        part = take pageSize (drop (pageSize * page) (s .words))
+
+        room : length part ≡ pageSize
+        room = simp (length-take, length-drop) (omega arith)
+
+        go : (moving : Bool) → isMoving d m page ≡ moving → fetchNext d m page s ≡ showNext d m page s
+        go true is =
+            let comes : refusedAt pageInMotion (lowest (inMotion (d .live) (d .pages) m page) (d .cards))
+            ≡ firstRefusal (fetchChecks d m page (length part)) 0
+            = rw room (comes-to page below is)
+            in
+            rw (
+              fetch-refused d m page part comes (λ e. omega arith),
+              is,
+              sets-self (s .words) (pageSize * page) pageSize (omega arith),
+            )
+        go false is =
+            let comes : given 0 ≡ firstRefusal (fetchChecks d m page (length part)) 0
+            = rw room (comes-to page below is)
+            in
+            rw (fetch-accepted d m page part comes refl, is)
+
+    pub pages-shown : (n : ℕ) (s : Pages) → n ≤ d .pages → length (s .words) ≡ pageSize * d .pages
+        → inTurn (fetchNext d m) n s ≡ inTurn (showNext d m) n s
+    unfolding inTurn
+    pages-shown zero s few long = refl
+    pages-shown (suc n) s few long =
+        rw (pages-shown n s (omega arith) long)
+        (next-shown n (inTurn (showNext d m) n s) (omega arith) (pages-length n s ∙ long))
+
+-- ---- the whole call, by the number that its checks come to
+
+pub record AllPassed (d : Directory) (m : List ℕ) (room : ℕ) : Type 0 where
+  pub runs : Runs d m
+  pub room-is : room ≡ pageSize * d .pages
+
+module _ (d : Directory) (m buffer : List ℕ) {number : ℕ}
+    (reached : number ≡ firstRefusal (fetchAllChecks d m (length buffer)) 0 .number) where
+  pub all-refused : number ≢ 0 → fetchAll d m buffer ≡ fetchedTo (refused number) d (pagesOf buffer noneShown)
+  unfolding fetchAll
+  all-refused some =
+      rw (by-number (fetchAllChecks d m (length buffer)) refl reached) (rw (ne-eqb number 0 some))
+
+  -- 1, 2 and 11 are passed as a desk question on card 0 passes them
+  pub all-facts : number ≡ 0 → AllPassed d m (length buffer)
+  all-facts none =
+      let p = all-passed (fetchAllChecks d m (length buffer)) 0 refl (eq-eqb _ 0 (sym reached ∙ none)) in
+      let some = within-limits (length m) (d .cards) (d .pages) (p .0) .cards-least in
+      record {
+        runs = desk-passed d m 0 (p .0, (p .1 .0, (p .1 .1 .0, (lt-leb (d .cards) 0 (omega arith), tt)))) .0;
+        room-is =
+            eqb-true (length buffer) _ (not-false (eqb (length buffer) (pageSize * d .pages)) (p .1 .1 .1 .0));
+      }
+
+  pub all-accepted : number ≡ 0
+      → fetchAll d m buffer ≡ fetchedTo (given 0) d (inTurn (showNext d m) (d .pages) (pagesOf buffer noneShown))
+  unfolding fetchAll
+  all-accepted none =
+      let passed = all-facts none in
+      let first = rw none at (by-number (fetchAllChecks d m (length buffer)) refl reached) in
+      rw (first, pages-shown d m (passed .runs) (d .pages) (pagesOf buffer noneShown) (omega arith) (passed .room-is))
