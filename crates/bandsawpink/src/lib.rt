@@ -70,6 +70,7 @@ fn hand_back(words: &mut [u32], number: u32, directory: Directory)
     }
 }
 
+// `rack::format_rack`. The directory is written also if it is refused: the empty one.
 #[no_mangle]
 pub extern "C" fn rack_format(
     memory: &mut [u32],
@@ -91,6 +92,7 @@ pub extern "C" fn rack_format(
     in_numbers(answer)
 }
 
+// `rack::open_release`, which keeps the directory.
 #[no_mangle]
 pub extern "C" fn rack_open(
     memory: &mut [u32],
@@ -114,6 +116,7 @@ pub extern "C" fn rack_open(
     in_numbers(answer)
 }
 
+// `rack::make_step`, which keeps the directory.
 #[no_mangle]
 pub extern "C" fn rack_step(memory: &mut [u32], directory: &[u32; 139], card: u32) -> RackAnswer
     ensures answer { λ r. ⌜ r
@@ -128,6 +131,7 @@ pub extern "C" fn rack_step(memory: &mut [u32], directory: &[u32; 139], card: u3
     in_numbers(answer)
 }
 
+// `rack::fetch_page`, which keeps the directory.
 #[no_mangle]
 pub extern "C" fn rack_fetch(
     memory: &[u32],
@@ -149,6 +153,7 @@ pub extern "C" fn rack_fetch(
     in_numbers(answer)
 }
 
+// `rack::fail_card`.
 #[no_mangle]
 pub extern "C" fn rack_fail(memory: &[u32], directory: &mut [u32; 139], card: u32) -> RackAnswer
     ensures answer { λ r. ⌜ r
@@ -167,6 +172,7 @@ pub extern "C" fn rack_fail(memory: &[u32], directory: &mut [u32; 139], card: u3
     answer
 }
 
+// `rack::recover_card`.
 #[no_mangle]
 pub extern "C" fn rack_recover(memory: &mut [u32], directory: &mut [u32; 139]) -> RackDeskAnswer
     ensures answer { λ r. ⌜ r
@@ -189,6 +195,7 @@ pub extern "C" fn rack_recover(memory: &mut [u32], directory: &mut [u32; 139]) -
     answer
 }
 
+// `rack::join_card`.
 #[no_mangle]
 pub extern "C" fn rack_join(memory: &mut [u32], directory: &mut [u32; 139], card: u32) -> RackAnswer
     ensures answer { λ r. ⌜ r
@@ -209,6 +216,7 @@ pub extern "C" fn rack_join(memory: &mut [u32], directory: &mut [u32; 139], card
     answer
 }
 
+// `rack::ask_desk`, which keeps the directory.
 #[no_mangle]
 pub extern "C" fn rack_desk(memory: &[u32], directory: &[u32; 139], card: u32) -> RackDeskAnswer
     ensures { λ r. ⌜ r
@@ -223,6 +231,7 @@ pub extern "C" fn rack_desk(memory: &[u32], directory: &[u32; 139], card: u32) -
     with_desk(told, desk)
 }
 
+// `maker::make`.
 #[no_mangle]
 pub extern "C" fn rack_make_list(working: &[u32], twins: &[u32], buffer: &mut [u32]) -> RackAnswer
     ensures answer { λ r. ⌜ r

@@ -11,11 +11,8 @@ ghost use Rattle.bandsawpink.specs.Words.{awaitedWord, headOf, wordsOf};
 use directory::Directory;
 use directory::Status;
 
-// The number of words.
-pub const LENGTH: usize = 139;
-
 // The awaited card of a rack that awaits none.
-pub const RUNNING: u32 = 0xFFFFFFFF;
+const RUNNING: u32 = 0xFFFFFFFF;
 
 // ---- read
 

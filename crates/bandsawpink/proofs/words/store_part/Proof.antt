@@ -10,8 +10,8 @@ returns : tie.Need-returns
 returns c =
     let begin = c .before .before .before .before .before .before in
     let a = begin .args in
-    sets-all-part (a .words .now) (a .start) (length (a .part .now)) (a .part .now) (c .before .before .copy-words .ensures)
-    refl (begin .pre)
+    let part = a .part .now in
+    sets-all-part (a .words .now) (a .start) (length part) part (c .before .before .copy-words .ensures) refl (begin .pre)
 
 pub store-part-spec : {M : Type 1} → statement M
 store-part-spec =

@@ -43,8 +43,8 @@ returns c =
     let primaries : length (d .primary) ≡ 64 = length-unmapped _ (d .primary) 64 (arrays .1 .0 .1 .0 .1) in
     let secondaries : length (d .secondary) ≡ 64 = length-unmapped _ (d .secondary) 64 (arrays .1 .1 .0 .1 .0 .1) in
     rw (third .store-part3 .ensures, second .store-part2 .ensures, first .store-part .ensures, made .head-of .ensures)
-    (parts-stored (start .args .words .now) (headOf d) (d .primary) (d .secondary) (start .pre) (head-length d) primaries
-    secondaries)
+    (parts-stored (start .args .words .now) (headOf d) (d .primary) (d .secondary) (start .pre) (head-length d)
+    primaries secondaries)
 
 pub write-directory-spec : {M : Type 1} → statement M
 write-directory-spec =
