@@ -25,7 +25,7 @@ use Rattle.protocol.proofs.Stepped.{close-word-9, close-not-open}
 use Rattle.release.specs.Stepping.{GoodRelease, leftOf}
 use Rattle.release.proofs.Stores.{length-desk, step-closes}
 use Rattle.release.proofs.Kept.{steps-more, step-keeps-own, step-keeps-others}
-use Rattle.release.proofs.Left.{prices-counted, all-left, left-after, good-left}
+use Rattle.release.proofs.Left.{counted}
 use Rattle.rack.proofs.Fitting.{fitting}
 
 -- a rack on which the card's release was closed
@@ -83,14 +83,14 @@ module _ (d : Directory) (m : List ℕ) (c : ℕ) (passed : StepPassed d m c) wh
   good : GoodRelease (d .pages) m c
   good = fitting (passed .runs .fits) .good c (passed .below) (passed .is-open)
 
-  counted : good .k ≡ length (openPrices (d .pages) m c)
-  counted = prices-counted (d .pages) m c (good .reads) (good .under)
+  all-prices : good .k ≡ length (openPrices (d .pages) m c)
+  all-prices = counted (d .pages) m c good .prices
 
   pub some-left : 0 < leftOf (d .pages) m c
-  some-left = omega (arith, counted, good .under)
+  some-left = omega (arith, all-prices, good .under)
 
   others : (x : ℕ) → (x ≡ c → ⊥) → SameOwn (sizeOf d) m next x
-  others = step-keeps-others d (backupOf d c) m c few area (omega (arith, counted, good .under))
+  others = step-keeps-others d (backupOf d c) m c few area (omega (arith, all-prices, good .under))
 
   next-runs : badCard (d .live) (d .pages) next c ≡ false → Runs d next
   next-runs own =
@@ -106,10 +106,13 @@ module _ (d : Directory) (m : List ℕ) (c : ℕ) (passed : StepPassed d m c) wh
 
     next-good : GoodRelease (d .pages) next c
     next-good =
-        let left = leftOf (d .pages) m c - 1 in
-        good-left {left = left}
-        (left-after d (backupOf d c) c few m area {left = left} (all-left good (omega arith)) (omega arith))
-        (omega arith)
+        let steps = steps-more d (backupOf d c) m c few area (omega arith) in
+        record {
+          k = good .k;
+          words = good .words;
+          reads = rw (list-kept (sizeOf d) m next c own) (good .reads);
+          under = omega (arith, all-prices);
+        }
 
     pub next-passed : StepPassed d next c
     next-passed =
@@ -130,7 +133,7 @@ module _ (d : Directory) (m : List ℕ) (c : ℕ) (passed : StepPassed d m c) wh
   unfolding badCard
   next-shut last =
       let eight = length-desk (sizeOf d) m c (omega arith) area in
-      let closes = step-closes d (backupOf d c) m c _ area refl (omega (arith, counted, good .under)) in
+      let closes = step-closes d (backupOf d c) m c _ area refl (omega (arith, all-prices, good .under)) in
       let zero : badCard (d .live) (d .pages) next c ≡ false
       = rw (closes, passed .live, close-word-9 (sizeOf d) m c (omega arith) eight area)
       in

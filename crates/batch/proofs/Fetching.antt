@@ -7,7 +7,7 @@ use mathlib.Core.List.{List}
 use mathlib.Core.Bool.{Bool, true, false, cond}
 use native.Mathlib.Omega.{arith}
 use borrow.Author.Tests.{eq-eqb, ne-eqb, eqb-true, not-false, lt-leb}
-use lib.ListN.{length, take, drop, length-take, length-drop, take-append-drop}
+use lib.ListN.{length, getD, take, drop, length-take, length-drop, take-append-drop}
 use lib.Seq.{sets, length-sets, sets-eq, take-add}
 use lib.Dec.{eqb}
 use Rattle.laws.specs.Search.{lowest, inTurn}
@@ -20,9 +20,10 @@ use Rattle.protocol.specs.Fetch.{inMotion, fetchChecks, committedPage}
 use Rattle.protocol.proofs.Accepting.{Runs, all-passed, desk-passed}
 use Rattle.protocol.proofs.Limits.{within-limits}
 use Rattle.checks.proofs.Order.{by-number}
+use Rattle.conflict.proofs.Motion.{motion-marked}
 use Rattle.rack.proofs.Results.{fetch-refused, fetch-accepted}
 use Rattle.batch.specs.FetchAll.{Pages, pagesOf, fetchNext, noneShown, fetchAllChecks, fetchedTo}
-use Rattle.batch.specs.FetchAll.{fetchAll, isMoving, showNext}
+use Rattle.batch.specs.FetchAll.{fetchAll, isMoving, movingOf, showNext}
 
 -- a part stored where it was read
 sets-self : (l : List ℕ) (i n : ℕ) → i + n ≤ length l → sets l i (take n (drop i l)) ≡ l
@@ -31,27 +32,30 @@ sets-self l i n fits =
     sets-eq (take n (drop i l)) l i (omega arith) ∙ rw (long, ← take-add i n l) (take-append-drop (i + n) l)
 
 module _ (d : Directory) (m : List ℕ) where
+  abbrev moving : List Bool
+  moving = movingOf d m
+
   -- the words of a page that is kept or shown
-  length-shown : (page : ℕ) (s : Pages) → length (showNext d m page s .words) ≡ length (s .words)
+  length-shown : (page : ℕ) (s : Pages) → length (showNext moving d m page s .words) ≡ length (s .words)
   length-shown page s =
-      by-cond (λ (words : List ℕ). length words ≡ length (s .words)) (isMoving d m page) _ _ (λ _. refl)
+      by-cond (λ (words : List ℕ). length words ≡ length (s .words)) (getD moving page false) _ _ (λ _. refl)
       (λ _. length-sets (s .words) (pageSize * page) (committedPage d m page))
 
-  pages-length : (n : ℕ) (s : Pages) → length (inTurn (showNext d m) n s .words) ≡ length (s .words)
+  pages-length : (n : ℕ) (s : Pages) → length (inTurn (showNext moving d m) n s .words) ≡ length (s .words)
   unfolding inTurn
   pages-length zero s = refl
-  pages-length (suc n) s = length-shown n (inTurn (showNext d m) n s) ∙ pages-length n s
+  pages-length (suc n) s = length-shown n (inTurn (showNext moving d m) n s) ∙ pages-length n s
 
   module _ (runs : Runs d m) where
-    comes-to : (page : ℕ) → page < d .pages → {moving : Bool} → isMoving d m page ≡ moving
-        → cond moving (refusedAt pageInMotion (lowest (inMotion (d .live) (d .pages) m page) (d .cards))) (given 0)
+    comes-to : (page : ℕ) → page < d .pages → {is-moving : Bool} → isMoving d m page ≡ is-moving
+        → cond is-moving (refusedAt pageInMotion (lowest (inMotion (d .live) (d .pages) m page) (d .cards))) (given 0)
         ≡ firstRefusal (fetchChecks d m page pageSize) 0
     unfolding firstRefusal awaitsRecovery
     comes-to page below is =
         rw (runs .fits .limits, runs .fits .fit, runs .running, lt-leb (d .pages) page below, is)
 
     next-shown : (page : ℕ) (s : Pages) → page < d .pages → length (s .words) ≡ pageSize * d .pages
-        → fetchNext d m page s ≡ showNext d m page s
+        → fetchNext d m page s ≡ showNext moving d m page s
     unfolding fetchNext
     next-shown page s below long = go (isMoving d m page) refl
       where
@@ -61,7 +65,12 @@ module _ (d : Directory) (m : List ℕ) where
         room : length part ≡ pageSize
         room = simp (length-take, length-drop) (omega arith)
 
-        go : (moving : Bool) → isMoving d m page ≡ moving → fetchNext d m page s ≡ showNext d m page s
+        told : getD moving page false ≡ isMoving d m page
+        told =
+            let few = within-limits _ _ _ (runs .fits .limits) .pages-most in
+            motion-marked (d .live) (d .pages) m few page (d .cards)
+
+        go : (is-moving : Bool) → isMoving d m page ≡ is-moving → fetchNext d m page s ≡ showNext moving d m page s
         go true is =
             let comes : refusedAt pageInMotion (lowest (inMotion (d .live) (d .pages) m page) (d .cards))
             ≡ firstRefusal (fetchChecks d m page (length part)) 0
@@ -69,22 +78,22 @@ module _ (d : Directory) (m : List ℕ) where
             in
             rw (
               fetch-refused d m page part comes (λ e. omega arith),
-              is,
+              told ∙ is,
               sets-self (s .words) (pageSize * page) pageSize (omega arith),
             )
         go false is =
             let comes : given 0 ≡ firstRefusal (fetchChecks d m page (length part)) 0
             = rw room (comes-to page below is)
             in
-            rw (fetch-accepted d m page part comes refl, is)
+            rw (fetch-accepted d m page part comes refl, told ∙ is)
 
     pub pages-shown : (n : ℕ) (s : Pages) → n ≤ d .pages → length (s .words) ≡ pageSize * d .pages
-        → inTurn (fetchNext d m) n s ≡ inTurn (showNext d m) n s
+        → inTurn (fetchNext d m) n s ≡ inTurn (showNext moving d m) n s
     unfolding inTurn
     pages-shown zero s few long = refl
     pages-shown (suc n) s few long =
         rw (pages-shown n s (omega arith) long)
-        (next-shown n (inTurn (showNext d m) n s) (omega arith) (pages-length n s ∙ long))
+        (next-shown n (inTurn (showNext moving d m) n s) (omega arith) (pages-length n s ∙ long))
 
 -- ---- the whole call, by the number that its checks come to
 
@@ -111,7 +120,8 @@ module _ (d : Directory) (m buffer : List ℕ) {number : ℕ}
       }
 
   pub all-accepted : number ≡ 0
-      → fetchAll d m buffer ≡ fetchedTo (given 0) d (inTurn (showNext d m) (d .pages) (pagesOf buffer noneShown))
+      → fetchAll d m buffer
+      ≡ fetchedTo (given 0) d (inTurn (showNext (movingOf d m) d m) (d .pages) (pagesOf buffer noneShown))
   unfolding fetchAll
   all-accepted none =
       let passed = all-facts none in

@@ -4,7 +4,7 @@ use Prim.Native.Nat.{ℕ, zero, suc, _+_, _-_, _<_, min}
 use mathlib.Core.Path.{_≡_, refl, sym, _∙_}
 use mathlib.Core.Logic.{_≢_}
 use mathlib.Core.List.{List}
-use mathlib.Core.Bool.{Bool, true, false, cond}
+use mathlib.Core.Bool.{Bool, true, cond, not}
 use native.Mathlib.Omega.{arith}
 use native.Mathlib.Decide.{decLt}
 use borrow.Author.Tests.{ne-eqb, lt-leb, le-leb}
@@ -25,11 +25,9 @@ use Rattle.batch.proofs.Checked.{Shut, some-left, next-passed, one-fewe
 module _ (d : Directory) (c : ℕ) (below : c < d .cards) (live : isLive d c ≡ true) where
   -- on a rack that runs, a step of a live card comes to what its word 9 says
   comes-to : (m : List ℕ) → Runs d m → {opened : Bool} → isOpen (d .live) (sizeOf d) m c ≡ opened
-      → cond opened (given 0) (refused noneOpen) ≡ firstRefusal (stepChecks d m c) 0
+      → cond (not opened) (refused noneOpen) (given 0) ≡ firstRefusal (stepChecks d m c) 0
   unfolding firstRefusal awaitsRecovery
-  comes-to m runs {opened = true} is =
-      rw (runs .fits .limits, runs .fits .fit, runs .running, lt-leb (d .cards) c below, live, is)
-  comes-to m runs {opened = false} is =
+  comes-to m runs is =
       rw (runs .fits .limits, runs .fits .fit, runs .running, lt-leb (d .cards) c below, live, is)
 
   pub stops : (m : List ℕ) (left made : ℕ) → Shut d m c

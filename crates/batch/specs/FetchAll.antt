@@ -16,6 +16,7 @@ use Rattle.directory.specs.Directory.{directoryOf}
 use Rattle.protocol.specs.Checks.{Check, check, firstRefusal, runningChecks}
 use Rattle.protocol.specs.Result.{Result, accepted}
 use Rattle.protocol.specs.Fetch.{inMotion, committedPage, fetch}
+use Rattle.conflict.specs.Named.{markMotion}
 
 -- the buffer, 32 words for each page, and which pages were shown
 pub record Pages : Type 0 where
@@ -60,17 +61,22 @@ fetchAll d m buffer =
 abbrev pub isMoving : Directory → List ℕ → ℕ → Bool
 isMoving d m page = someBelow (inMotion (d .live) (d .pages) m page) (d .cards)
 
--- the buffer after a page: its words are kept if it is in motion
-abbrev pub wordsAfter : Directory → List ℕ → ℕ → List ℕ → List ℕ
-wordsAfter d m page words = cond (isMoving d m page) words (sets words (pageSize * page) (committedPage d m page))
+-- the pages in motion, as marks
+abbrev pub movingOf : Directory → List ℕ → List Bool
+movingOf d m = inTurn (markMotion (d .live) (d .pages) m) (d .cards) (replicate 2048 false)
 
-abbrev pub showNext : Directory → List ℕ → ℕ → Pages → Pages
-showNext d m page s =
-    pagesOf (wordsAfter d m page (s .words)) (set (s .shown) page (not (isMoving d m page)))
+-- the buffer after a page: its words are kept if it is marked
+abbrev pub wordsAfter : List Bool → Directory → List ℕ → ℕ → List ℕ → List ℕ
+wordsAfter moving d m page words =
+    cond (getD moving page false) words (sets words (pageSize * page) (committedPage d m page))
 
--- a directory as far as that looks at it: cards, pages, marks and primary homes
-abbrev pub primariesOf : ℕ → ℕ → List Bool → List ℕ → Directory
-primariesOf cards pages live primary = directoryOf cards pages live primary [] Running
+abbrev pub showNext : List Bool → Directory → List ℕ → ℕ → Pages → Pages
+showNext moving d m page s =
+    pagesOf (wordsAfter moving d m page (s .words)) (set (s .shown) page (not (getD moving page false)))
+
+-- a directory as far as that looks at it: pages and primary homes
+abbrev pub primariesOf : ℕ → List ℕ → Directory
+primariesOf pages primary = directoryOf 0 pages [] primary [] Running
 
 -- each page has a primary home that is a card
 pub record PrimariesIn (cards pages : ℕ) (primary : List ℕ) : Type 0 where

@@ -1,7 +1,7 @@
 // Several calls in one. Each answers and leaves what the single calls, made one after the other,
 // would; inside, the rack is checked once.
 ghost use mathlib.Core.Path.{_≡_};
-ghost use mathlib.Core.Bool.{not};
+ghost use mathlib.Core.Bool.{false, not};
 ghost use Prim.Native.Nat.{_*_, _<_, _≤_, min};
 ghost use lib.ListN.{length, getD};
 ghost use Rattle.laws.specs.Search.{inTurn};
@@ -14,7 +14,7 @@ ghost use Rattle.protocol.specs.Recovery.{stepTimes};
 ghost use Rattle.release.specs.Stepping.{CardIn, HomesIn, GoodRelease, leftOf};
 ghost use Rattle.batch.specs.Steps.{steps, stoppedAt};
 ghost use Rattle.batch.specs.FetchAll.{fetchAllChecks, fetchAll, pagesOf, PrimariesIn};
-ghost use Rattle.batch.specs.FetchAll.{isMoving, wordsAfter, showNext, primariesOf};
+ghost use Rattle.batch.specs.FetchAll.{wordsAfter, showNext, primariesOf};
 use answer::Answer;
 use directory::Directory;
 
@@ -52,8 +52,18 @@ fn make_steps(memory: &mut [u32], directory: Directory, card: u32, count: u32) -
     let backup = directory.backup(card) as usize;
     let at = card as usize;
     let left = release::steps_left(memory, pages, at);
-    let made = smaller(count, left);
-    release::make_steps(memory, pages, &live, &primary, &secondary, backup, at, made);
+    let made = smaller(count, left.steps);
+    release::make_steps(
+        memory,
+        pages,
+        &live,
+        &primary,
+        &secondary,
+        backup,
+        at,
+        left.prices,
+        made,
+    );
     made
 }
 
@@ -132,26 +142,24 @@ fn fetch_next(
     memory: &[u32],
     cards: u32,
     pages: u32,
-    live: &[bool],
     primary: &[u32],
+    moving: &[bool],
     page: u32,
     buffer: &mut [u32],
 ) -> bool
     requires { ⌜ (pages ≤ 64) × (length (now memory) ≡ cards * areaSize pages) ⌝ }
-    requires { ⌜ (cards ≤ length (now live)) × (page < pages) × (page < length (now primary)) ⌝ }
+    requires { ⌜ (64 ≤ length (now moving)) × (page < pages) × (page < length (now primary)) ⌝ }
     requires { ⌜ (getD (now primary) page 0 < cards) × (length (now buffer) ≡ 32 * pages) ⌝ }
-    ensures shown { λ r. ⌜ r
-        ≡ not (isMoving (primariesOf cards pages (now (live .entry)) (now (primary .entry)))
-        (now (memory .entry)) page) ⌝ }
+    ensures shown { λ r. ⌜ r ≡ not (getD (now (moving .entry)) page false) ⌝ }
     ensures buffer { λ _. ⌜ now (buffer .exit)
-        ≡ wordsAfter (primariesOf cards pages (now (live .entry)) (now (primary .entry)))
+        ≡ wordsAfter (now (moving .entry)) (primariesOf pages (now (primary .entry)))
         (now (memory .entry)) page (now (buffer .entry)) ⌝ }
 {
-    if conflict::lowest_in_motion(memory, cards, pages, live, page) < cards {
+    let at = page as usize;
+    if moving[at] {
         return false;
     }
     let size = memory::area_size(pages);
-    let at = page as usize;
     let home = primary[at] as usize;
     let start = memory::PAGES_START + 64 * at + 32;
     let from = 32 * at;
@@ -165,22 +173,22 @@ fn fetch_pages(
     memory: &[u32],
     cards: u32,
     pages: u32,
-    live: &[bool],
     primary: &[u32],
+    moving: &[bool],
     buffer: &mut [u32],
     shown: &mut [bool],
 )
     requires { ⌜ (pages ≤ 64) × (length (now memory) ≡ cards * areaSize pages) ⌝ }
-    requires { ⌜ (cards ≤ length (now live)) × PrimariesIn cards pages (now primary) ⌝ }
+    requires { ⌜ (64 ≤ length (now moving)) × PrimariesIn cards pages (now primary) ⌝ }
     requires { ⌜ (length (now buffer) ≡ 32 * pages) × (length (now shown) ≡ 64) ⌝ }
     ensures { λ _. ⌜ pagesOf (now (buffer .exit)) (now (shown .exit))
         ≡ inTurn
-        (showNext (primariesOf cards pages (now (live .entry)) (now (primary .entry)))
+        (showNext (now (moving .entry)) (primariesOf pages (now (primary .entry)))
         (now (memory .entry)))
         pages (pagesOf (now (buffer .entry)) (now (shown .entry))) ⌝ }
 {
     for page in 0..pages {
-        let seen = fetch_next(memory, cards, pages, live, primary, page, buffer);
+        let seen = fetch_next(memory, cards, pages, primary, moving, page, buffer);
         let at = page as usize;
         shown[at] = seen;
     }
@@ -210,7 +218,9 @@ pub fn fetch_all(memory: &[u32], directory: Directory, buffer: &mut [u32]) -> Fe
     let pages = directory.pages;
     let live = directory.live;
     let primary = directory.primary;
-    fetch_pages(memory, cards, pages, &live, &primary, buffer, &mut shown);
+    let mut moving = [false; 2048];
+    conflict::mark_in_motion(memory, cards, pages, &live, &mut moving);
+    fetch_pages(memory, cards, pages, &primary, &moving, buffer, &mut shown);
     let answer = Answer::Given(0);
     FetchAllReply {
         directory,

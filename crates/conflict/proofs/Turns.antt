@@ -13,20 +13,22 @@ use Rattle.diff.specs.Prices.{pricedWord, pricesOf}
 use Rattle.protocol.specs.Release.{openList, stepsOf, isOpen, countsAt}
 use Rattle.protocol.specs.Fetch.{namesPage, inMotion}
 use Rattle.conflict.specs.Walking.{Walk, pastWord}
-use Rattle.conflict.specs.Named.{marked, anyMarked, labelDue, markedDue, hitsDue, isOther, marksWith}
+use Rattle.conflict.specs.Named.{placeOf, marked, anyMarked, labelDue, placeDue, markedDue, hitsDue}
+use Rattle.conflict.specs.Named.{isOther, marksWith, markMotion}
 use Rattle.conflict.specs.Named.{pageDue, Tally, tallyOf}
 use Rattle.conflict.proofs.Walking.{priceDue, pricesLeft, counts-word, left-turn, left-end}
 
 -- ---- the price that is due, and those after it
 
 module _ (s : Cursor) (w : ℕ) (ps : List Price) where
-  marked-due : (marks : List Bool) → marked (priceDue s w ++ ps) marks ≡ marked ps (markedDue s marks)
+  marked-due : (byPage : Bool) (marks : List Bool)
+      → marked (placeOf byPage) (priceDue s w ++ ps) marks ≡ marked (placeOf byPage) ps (markedDue byPage s marks)
   unfolding marked
-  marked-due marks = go (ltb 0 (s .due))
+  marked-due byPage marks = go (ltb 0 (s .due))
     where
       go : (due : Bool)
-          → marked (cond due (pricedWord s w ∷ []) [] ++ ps) marks
-          ≡ marked ps (cond due (set marks (labelDue s) true) marks)
+          → marked (placeOf byPage) (cond due (pricedWord s w ∷ []) [] ++ ps) marks
+          ≡ marked (placeOf byPage) ps (cond due (set marks (placeDue byPage s) true) marks)
       go true = refl
       go false = refl
 
@@ -63,8 +65,10 @@ module _ (pages : ℕ) (list : List ℕ) (at : Walk) (inside : at .index < lengt
       → f (pricesLeft pages list at) ≡ f (priceDue s (getD list (at .index) 0) ++ next)
   turn f = ap f (left-turn pages list at inside)
 
-  pub marked-turn : (marks : List Bool) → marked (pricesLeft pages list at) marks ≡ marked next (markedDue s marks)
-  marked-turn marks = turn (λ ps. marked ps marks) ∙ marked-due s _ next marks
+  pub marked-turn : (byPage : Bool) (marks : List Bool)
+      → marked (placeOf byPage) (pricesLeft pages list at) marks
+      ≡ marked (placeOf byPage) next (markedDue byPage s marks)
+  marked-turn byPage marks = turn (λ ps. marked (placeOf byPage) ps marks) ∙ marked-due s _ next byPage marks
 
   pub any-turn : (marks : List Bool) (hit : Bool) → hit ≡ hitsDue s marks
       → anyMarked (pricesLeft pages list at) marks ≡ (hit || anyMarked next marks)
@@ -80,9 +84,9 @@ module _ (pages : ℕ) (list : List ℕ) (at : Walk) (inside : at .index < lengt
 -- ---- at the end
 
 module _ (pages : ℕ) (list : List ℕ) (at : Walk) (end : length list ≤ at .index) where
-  pub marked-end : (marks : List Bool) → marked (pricesLeft pages list at) marks ≡ marks
+  pub marked-end : (place : Price → ℕ) (marks : List Bool) → marked place (pricesLeft pages list at) marks ≡ marks
   unfolding marked
-  marked-end marks = ap (λ ps. marked ps marks) (left-end pages list at end)
+  marked-end place marks = ap (λ ps. marked place ps marks) (left-end pages list at end)
 
   pub any-end : (marks : List Bool) → anyMarked (pricesLeft pages list at) marks ≡ false
   unfolding anyMarked
@@ -117,3 +121,15 @@ module _ (live : List Bool) (pages : ℕ) (m : List ℕ) {size : ℕ} (whole : s
         → inMotion live pages m page c ≡ (leb (countsAt (tally .prices)) (stepsOf size m c) && tally .named)
     unfolding inMotion
     motion-list holds lent counted = rw (← whole, ← told, holds, counted, lent)
+
+    pub mark-not : is ≡ false → (marks : List Bool) → markMotion live pages m c marks ≡ marks
+    unfolding markMotion
+    mark-not fails marks = rw (← whole, ← told, fails)
+
+    pub mark-list : is ≡ true → {list : List ℕ} → list ≡ openList size m c → {tally : Tally}
+        → tally ≡ tallyOf (pricesOf pages list) page → (marks : List Bool)
+        → markMotion live pages m c marks
+        ≡ cond (leb (countsAt (tally .prices)) (stepsOf size m c)) (marked (placeOf true) (pricesOf pages list) marks)
+        marks
+    unfolding markMotion
+    mark-list holds lent counted marks = rw (← whole, ← told, holds, counted, lent)

@@ -4,21 +4,26 @@ use Prim.Native.Nat.{ℕ, _+_, _-_, _*_}
 use mathlib.Core.List.{List, [], _∷_}
 use mathlib.Core.Bool.{Bool, true, false, cond, not, _&&_, _||_}
 use lib.ListN.{getD, set, length}
-use lib.Dec.{ltb, eqb}
+use lib.Dec.{ltb, leb, eqb}
 use Rattle.memory.specs.Layout.{areaSize}
 use Rattle.diff.specs.declared.Cursor.{Cursor}
 use Rattle.diff.specs.declared.Price.{Price}
 use Rattle.diff.specs.Prices.{labelOf}
-use Rattle.protocol.specs.Release.{openPrices, isOpen}
+use Rattle.protocol.specs.Release.{openPrices, stepsOf, isOpen, countsAt}
 use Rattle.protocol.specs.Fetch.{namesPage}
 pub use Rattle.conflict.specs.declared.Tally.{Tally}
 
--- ---- 8: labels that two lists name
+-- ---- prices marked by their labels, or by their pages
 
--- every label that the prices name
-unfoldable pub marked : List Price → List Bool → List Bool
-marked [] marks = marks
-marked (p ∷ ps) marks = marked ps (set marks (labelOf p) true)
+abbrev pub placeOf : Bool → Price → ℕ
+placeOf byPage p = cond byPage (p .page) (labelOf p)
+
+-- the place of every price
+unfoldable pub marked : (Price → ℕ) → List Price → List Bool → List Bool
+marked place [] marks = marks
+marked place (p ∷ ps) marks = marked place ps (set marks (place p) true)
+
+-- ---- 8: labels that two lists name
 
 -- whether some price has a marked label
 unfoldable pub anyMarked : List Price → List Bool → Bool
@@ -29,8 +34,11 @@ anyMarked (p ∷ ps) marks = getD marks (labelOf p) false || anyMarked ps marks
 abbrev pub labelDue : Cursor → ℕ
 labelDue s = 32 * (s .next - 1) + s .word
 
-abbrev pub markedDue : Cursor → List Bool → List Bool
-markedDue s marks = cond (ltb 0 (s .due)) (set marks (labelDue s) true) marks
+abbrev pub placeDue : Bool → Cursor → ℕ
+placeDue byPage s = cond byPage (s .next - 1) (labelDue s)
+
+abbrev pub markedDue : Bool → Cursor → List Bool → List Bool
+markedDue byPage s marks = cond (ltb 0 (s .due)) (set marks (placeDue byPage s) true) marks
 
 abbrev pub hitsDue : Cursor → List Bool → Bool
 hitsDue s marks = cond (ltb 0 (s .due)) (getD marks (labelDue s) false) false
@@ -53,3 +61,11 @@ pageDue s page = cond (ltb 0 (s .due)) (eqb (s .next - 1) page) false
 -- how many prices there are, and whether one is on the page
 abbrev pub tallyOf : List Price → ℕ → Tally
 tallyOf ps page = record { prices = length ps; named = namesPage ps page }
+
+-- the pages that the release open on a card names, if it counts already, marked
+unfoldable pub markMotion : List Bool → ℕ → List ℕ → ℕ → List Bool → List Bool
+markMotion live pages m c marks =
+    cond
+    (isOpen live (areaSize pages) m c
+    && leb (countsAt (length (openPrices pages m c))) (stepsOf (areaSize pages) m c))
+    (marked (placeOf true) (openPrices pages m c) marks) marks

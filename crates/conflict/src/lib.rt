@@ -5,7 +5,7 @@ ghost use mathlib.Core.Path.{_≡_};
 ghost use Prim.Native.Nat.{_*_, _<_, _≤_};
 ghost use mathlib.Core.Bool.{_||_};
 ghost use lib.ListN.{length};
-ghost use Rattle.laws.specs.Search.{lowest, someBelow};
+ghost use Rattle.laws.specs.Search.{lowest, someBelow, inTurn};
 ghost use Rattle.memory.specs.Layout.{areaSize};
 ghost use Rattle.memory.specs.Area.{AreaIn};
 ghost use Rattle.diff.specs.Prices.{pricesOf};
@@ -14,8 +14,8 @@ ghost use Rattle.protocol.specs.Opening.{sharesWith};
 ghost use Rattle.protocol.specs.Fetch.{inMotion};
 ghost use Rattle.reader.specs.Steady.{Steady};
 ghost use Rattle.conflict.specs.Walking.{atFirst, pastWord};
-ghost use Rattle.conflict.specs.Named.{labelDue, marked, markedDue, hitsDue};
-ghost use Rattle.conflict.specs.Named.{isOther, marksWith, pageDue, tallyOf};
+ghost use Rattle.conflict.specs.Named.{labelDue, placeOf, placeDue, marked, markedDue, hitsDue};
+ghost use Rattle.conflict.specs.Named.{isOther, marksWith, pageDue, tallyOf, markMotion};
 use diff::Cursor;
 use diff::Step;
 
@@ -111,27 +111,40 @@ fn label_due(s: Cursor) -> usize
     ((s.next - 1) * 32 + s.word) as usize
 }
 
-// Marks the label of the price that is due, if one is.
-fn mark_due(s: Cursor, named: &mut [bool])
+// Where the price that is due is marked: at its page, or at its label.
+fn place_due(s: Cursor, pagewise: bool) -> usize
+    requires { ⌜ Steady s ⌝ }
+    requires { ⌜ (0 < s .due) × (s .next ≤ 64) ⌝ }
+    ensures place { λ r. ⌜ r ≡ placeDue pagewise s ⌝ }
+    ensures inside { λ r. ⌜ r < 2048 ⌝ }
+{
+    if pagewise {
+        return (s.next - 1) as usize;
+    }
+    label_due(s)
+}
+
+// Marks the price that is due, if one is.
+fn mark_due(s: Cursor, pagewise: bool, named: &mut [bool])
     requires { ⌜ Steady s ⌝ }
     requires { ⌜ (s .next ≤ 64) × (length (now named) ≡ 2048) ⌝ }
-    ensures { λ _. ⌜ now (named .exit) ≡ markedDue s (now (named .entry)) ⌝ }
+    ensures { λ _. ⌜ now (named .exit) ≡ markedDue pagewise s (now (named .entry)) ⌝ }
 {
     if 0 < s.due {
-        let label = label_due(s);
-        named[label] = true;
+        let place = place_due(s, pagewise);
+        named[place] = true;
     }
 }
 
-// Marks the label of each word that a list prices.
-fn mark_words(list: &[u32], pages: u32, named: &mut [bool])
+// Marks each word that a list prices, at its page or at its label.
+fn mark_words(list: &[u32], pages: u32, pagewise: bool, named: &mut [bool])
     requires { ⌜ (length (now list) ≤ 512) × (length (now named) ≡ 2048) × (pages ≤ 64) ⌝ }
     ensures { λ _. ⌜ now (named .exit)
-        ≡ marked (pricesOf pages (now (list .entry))) (now (named .entry)) ⌝ }
+        ≡ marked (placeOf pagewise) (pricesOf pages (now (list .entry))) (now (named .entry)) ⌝ }
 {
     let mut at = first_word();
     while at.index < list.len() {
-        mark_due(at.cursor, named);
+        mark_due(at.cursor, pagewise, named);
         at = next_word(list, at, pages);
     }
 }
@@ -216,7 +229,7 @@ pub fn lowest_sharing(
         cards ⌝ }
 {
     let mut named = [false; 2048];
-    mark_words(list, pages, &mut named);
+    mark_words(list, pages, false, &mut named);
     walk_lists(memory, cards, pages, live, card, &named)
 }
 
@@ -291,4 +304,43 @@ pub fn lowest_in_motion(memory: &[u32], cards: u32, pages: u32, live: &[bool], p
         card += 1;
     }
     cards
+}
+
+// Marks the pages that the release open on the card names, if it counts already.
+fn mark_motion(
+    memory: &[u32],
+    size: usize,
+    pages: u32,
+    live: &[bool],
+    card: usize,
+    marks: &mut [bool],
+)
+    requires { ⌜ (size ≡ areaSize pages) × AreaIn (length (now memory)) size card ⌝ }
+    requires { ⌜ (card < length (now live)) × (length (now marks) ≡ 2048) × (pages ≤ 64) ⌝ }
+    ensures { λ _. ⌜ now (marks .exit)
+        ≡ markMotion (now (live .entry)) pages (now (memory .entry)) card (now (marks .entry)) ⌝ }
+{
+    if is_open(memory, size, live, card) {
+        let list = open_list(memory, size, card);
+        let tally = tally_prices(list, pages, 0);
+        let steps = memory::load_word(memory, size, card, memory::STEPS_MADE);
+        let counts_from = 2 * (tally.prices as u64) + 9;
+        if counts_from <= steps as u64 {
+            mark_words(list, pages, true, marks);
+        }
+    }
+}
+
+// Marks each page that an open release which already counts names.
+pub fn mark_in_motion(memory: &[u32], cards: u32, pages: u32, live: &[bool], marks: &mut [bool])
+    requires { ⌜ (pages ≤ 64) × (length (now memory) ≡ cards * areaSize pages) ⌝ }
+    requires { ⌜ (cards ≤ length (now live)) × (length (now marks) ≡ 2048) ⌝ }
+    ensures { λ _. ⌜ now (marks .exit)
+        ≡ inTurn (markMotion (now (live .entry)) pages (now (memory .entry))) cards
+        (now (marks .entry)) ⌝ }
+{
+    let size = memory::area_size(pages);
+    for card in 0..cards {
+        mark_motion(memory, size, pages, live, card as usize, marks);
+    }
 }

@@ -30,8 +30,18 @@ fn run_release(
         (homesOf pages (now (live .entry)) (now (primary .entry)) (now (secondary .entry))) backup
         card (leftOf pages (now (memory .entry)) card) (now (memory .entry)) ⌝ }
 {
-    let steps = release::steps_left(memory, pages, card);
-    release::make_steps(memory, pages, live, primary, secondary, backup, card, steps);
+    let left = release::steps_left(memory, pages, card);
+    release::make_steps(
+        memory,
+        pages,
+        live,
+        primary,
+        secondary,
+        backup,
+        card,
+        left.prices,
+        left.steps,
+    );
 }
 
 // The backup of a card from before the failure.

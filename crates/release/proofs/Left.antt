@@ -1,5 +1,5 @@
 -- Several steps of a release: those that it has left fall one by one.
-use Prim.Native.Nat.{ℕ, suc, _+_, _-_, _*_, _<_, _≤_}
+use Prim.Native.Nat.{ℕ, suc, _+_, _-_, _<_, _≤_}
 use mathlib.Core.Path.{_≡_, refl, _∙_}
 use mathlib.Core.List.{List}
 use native.Mathlib.Omega.{arith}
@@ -7,12 +7,10 @@ use lib.ListN.{length}
 use Rattle.memory.specs.Layout.{areaSize}
 use Rattle.memory.specs.Area.{AreaIn}
 use Rattle.directory.specs.declared.Directory.{Directory}
-use Rattle.diff.specs.declared.Verdict.the-variants.{Good}
-use Rattle.diff.specs.Reading.{readDiff}
-use Rattle.protocol.specs.Release.{sizeOf, openList, openPrices, stepsOf, stepMemory}
+use Rattle.protocol.specs.Release.{sizeOf, openList, stepMemory}
 use Rattle.protocol.specs.Recovery.{stepTimes}
 use Rattle.protocol.proofs.Shape.{SameOwn, same-own-release, list-kept, steps-kept}
-use Rattle.release.specs.Stepping.{GoodRelease, StepsLeft, leftOf}
+use Rattle.release.specs.Stepping.{GoodRelease, Counted, StepsLeft, leftOf}
 use Rattle.release.proofs.Prices.{read-counts}
 use Rattle.release.proofs.Kept.{steps-more, step-keeps-own}
 
@@ -42,53 +40,42 @@ module _ (pages : ℕ) (m m′ : List ℕ) (c : ℕ) (same : SameOwn (areaSize p
 
 -- ---- steps left
 
-pub prices-counted : (pages : ℕ) (m : List ℕ) (c : ℕ) {k words : ℕ}
-    → readDiff pages (openList (areaSize pages) m c) ≡ Good k words → stepsOf (areaSize pages) m c ≤ 4 * k + 10
-    → k ≡ length (openPrices pages m c)
+-- a good release has the prices that its list is read to have
+pub counted : (pages : ℕ) (m : List ℕ) (c : ℕ) (good : GoodRelease pages m c) → Counted pages m c (good .k)
 unfolding openList
-prices-counted pages m c {k} {words} reads under =
-    let good : GoodRelease pages m c = record { k = k; words = words; reads = reads; under = under } in
-    read-counts pages (areaSize pages) m c refl good refl reads .prices
+counted pages m c good = read-counts pages (areaSize pages) m c refl good refl (good .reads)
 
-module _ {pages : ℕ} {m : List ℕ} {c : ℕ} where
-  pub good-left : {left : ℕ} → StepsLeft pages m c left → 0 < left → GoodRelease pages m c
-  good-left some more = record { k = some .k; words = some .words; reads = some .reads; under = omega arith }
+module _ {pages : ℕ} {m : List ℕ} {c k left : ℕ} where
+  pub counted-left : StepsLeft pages m c k left → 0 < left → Counted pages m c k
+  counted-left some more = record { prices = some .prices; few = some .few; under = omega arith }
 
-  pub all-left : {left : ℕ} → GoodRelease pages m c → left ≤ leftOf pages m c → StepsLeft pages m c left
-  all-left good some =
-      let counted = prices-counted pages m c (good .reads) (good .under) in
-      record { k = good .k; words = good .words; reads = good .reads; counts = omega arith }
+  pub all-left : Counted pages m c k → left ≤ leftOf pages m c → StepsLeft pages m c k left
+  all-left all some = record { prices = all .prices; few = all .few; counts = omega arith }
 
 module _ (d : Directory) (backup : ℕ) (c : ℕ) (few : c < 8) where
-  pub left-after : (m : List ℕ) → AreaIn (length m) (sizeOf d) c → {left : ℕ} → StepsLeft (d .pages) m c (left + 1)
-      → 0 < left → StepsLeft (d .pages) (stepMemory d backup m c) c left
+  pub left-after : (m : List ℕ) → AreaIn (length m) (sizeOf d) c → {k left : ℕ}
+      → StepsLeft (d .pages) m c k (left + 1) → 0 < left → StepsLeft (d .pages) (stepMemory d backup m c) c k left
   left-after m area some more =
-      let counted = prices-counted (d .pages) m c (some .reads) (omega arith) in
       let kept = step-keeps-own d backup m c few area (omega arith) in
       let next = steps-more d backup m c few area (omega arith) in
-      record {
-        k = some .k;
-        words = some .words;
-        reads = rw (list-kept (sizeOf d) m _ c kept) (some .reads);
-        counts = omega arith;
-      }
+      record { prices = rw (list-kept (sizeOf d) m _ c kept) (some .prices); few = some .few; counts = omega arith }
 
 -- ---- a loop of steps
 
 -- how far it is: what is left of the steps gives what all of them give
-pub record StepsMade (d : Directory) (backup c : ℕ) (before : List ℕ) (total : ℕ) (m : List ℕ) (left : ℕ) : Type 0
+pub record StepsMade (d : Directory) (backup c k : ℕ) (before : List ℕ) (total : ℕ) (m : List ℕ) (left : ℕ) : Type 0
   where
     pub same : length m ≡ length before
-    pub some : 0 < left → StepsLeft (d .pages) m c left
+    pub some : 0 < left → StepsLeft (d .pages) m c k left
     pub rest : stepTimes d backup c left m ≡ stepTimes d backup c total before
 
-module _ {d : Directory} {backup c : ℕ} {before : List ℕ} {total : ℕ} where
-  pub steps-none : StepsLeft (d .pages) before c total → StepsMade d backup c before total before total
+module _ {d : Directory} {backup c k : ℕ} {before : List ℕ} {total : ℕ} where
+  pub steps-none : StepsLeft (d .pages) before c k total → StepsMade d backup c k before total before total
   steps-none some = record { same = refl; some = λ _. some; rest = refl }
 
   pub steps-one : {m next : List ℕ} {left : ℕ} → c < 8 → AreaIn (length before) (sizeOf d) c
-      → StepsMade d backup c before total m left → 0 < left → length next ≡ length m → next ≡ stepMemory d backup m c
-      → StepsMade d backup c before total next (left - 1)
+      → StepsMade d backup c k before total m left → 0 < left → length next ≡ length m → next ≡ stepMemory d backup m c
+      → StepsMade d backup c k before total next (left - 1)
   unfolding stepTimes
   steps-one {m} {next} {left} few area far more same made =
       let one : left ≡ left - 1 + 1 = omega arith in
@@ -99,7 +86,7 @@ module _ {d : Directory} {backup c : ℕ} {before : List ℕ} {total : ℕ} wher
         rest = rw made (rw first at (far .rest));
       }
 
-  pub steps-all : {m : List ℕ} {left : ℕ} → StepsMade d backup c before total m left → left ≤ 0
+  pub steps-all : {m : List ℕ} {left : ℕ} → StepsMade d backup c k before total m left → left ≤ 0
       → m ≡ stepTimes d backup c total before
   unfolding stepTimes
   steps-all {m} {left} far past =

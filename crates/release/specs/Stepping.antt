@@ -37,22 +37,21 @@ pub record GoodRelease (pages : ℕ) (m : List ℕ) (card : ℕ) : Type 0 where
   pub reads : readDiff pages (openList (areaSize pages) m card) ≡ Good k words
   pub under : stepsOf (areaSize pages) m card ≤ 4 * k + 10
 
--- a release whose list reads well, and which has so many steps left at least, the close among them
-pub record StepsLeft (pages : ℕ) (m : List ℕ) (card left : ℕ) : Type 0 where
-  pub k : ℕ
-  pub words : ℕ
-  pub reads : readDiff pages (openList (areaSize pages) m card) ≡ Good k words
-  pub counts : stepsOf (areaSize pages) m card + left ≤ 4 * k + 11
-
--- how many it has left
-abbrev pub leftOf : ℕ → List ℕ → ℕ → ℕ
-leftOf pages m card = stepsIn (length (openPrices pages m card)) - stepsOf (areaSize pages) m card
-
 -- a release of k prices, by its list
 pub record Counted (pages : ℕ) (m : List ℕ) (card k : ℕ) : Type 0 where
   pub prices : k ≡ length (openPrices pages m card)
   pub few : k < 512
   pub under : stepsOf (areaSize pages) m card ≤ 4 * k + 10
+
+-- one that has so many steps left at least, the close among them
+pub record StepsLeft (pages : ℕ) (m : List ℕ) (card k left : ℕ) : Type 0 where
+  pub prices : k ≡ length (openPrices pages m card)
+  pub few : k < 512
+  pub counts : stepsOf (areaSize pages) m card + left ≤ 4 * k + 11
+
+-- how many it has left
+abbrev pub leftOf : ℕ → List ℕ → ℕ → ℕ
+leftOf pages m card = stepsIn (length (openPrices pages m card)) - stepsOf (areaSize pages) m card
 
 -- a directory as far as a step looks at it: pages, marks and homes
 abbrev pub homesOf : ℕ → List Bool → List ℕ → List ℕ → Directory

@@ -15,6 +15,7 @@ mod running;
 
 use diff::Verdict;
 use reader::Found;
+pub use running::Left;
 pub use running::make_steps;
 pub use running::steps_left;
 

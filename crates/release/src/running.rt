@@ -21,19 +21,27 @@ fn count_prices(memory: &[u32], size: usize, pages: u32, card: usize) -> u32
     }
 }
 
-// How many steps the release open on a card has left, the close among them.
-pub fn steps_left(memory: &[u32], pages: u32, card: usize) -> u32
-    requires { ⌜ (pages ≤ 64) × AreaIn (length (now memory)) (areaSize pages) card ⌝ }
-    requires { ⌜ GoodRelease pages (now memory) card ⌝ }
-    ensures { λ r. ⌜ r ≡ leftOf pages (now (memory .entry)) card ⌝ }
-{
-    let size = memory::area_size(pages);
-    let k = count_prices(memory, size, pages, card);
-    let steps = memory::load_word(memory, size, card, memory::STEPS_MADE);
-    4 * k + 11 - steps
+// How far a release is: its prices, and the steps that it has left.
+pub struct Left {
+    pub prices: u32,
+    pub steps: u32,
 }
 
-// Makes so many steps, no more than the release has left.
+// How many steps the release open on a card has left, the close among them.
+pub fn steps_left(memory: &[u32], pages: u32, card: usize) -> Left
+    requires { ⌜ (pages ≤ 64) × AreaIn (length (now memory)) (areaSize pages) card ⌝ }
+    requires { ⌜ GoodRelease pages (now memory) card ⌝ }
+    ensures prices { λ r. ⌜ Counted pages (now (memory .entry)) card (r .prices) ⌝ }
+    ensures steps { λ r. ⌜ r .steps ≡ leftOf pages (now (memory .entry)) card ⌝ }
+{
+    let size = memory::area_size(pages);
+    let prices = count_prices(memory, size, pages, card);
+    let made = memory::load_word(memory, size, card, memory::STEPS_MADE);
+    let steps = 4 * prices + 11 - made;
+    Left { prices, steps }
+}
+
+// Makes so many steps of a release of k prices, no more than it has left.
 pub fn make_steps(
     memory: &mut [u32],
     pages: u32,
@@ -42,12 +50,13 @@ pub fn make_steps(
     secondary: &[u32],
     backup: usize,
     card: usize,
+    k: u32,
     steps: u32,
 )
     requires { ⌜ HomesIn (now live) pages (now primary) (now secondary) (length (now memory)) ⌝ }
     requires { ⌜ CardIn (now live) (length (now memory)) (areaSize pages) card ⌝ }
     requires { ⌜ CardIn (now live) (length (now memory)) (areaSize pages) backup ⌝ }
-    requires { ⌜ StepsLeft pages (now memory) card steps ⌝ }
+    requires { ⌜ StepsLeft pages (now memory) card k steps ⌝ }
     ensures { λ _. ⌜ now (memory .exit)
         ≡ stepTimes
         (homesOf pages (now (live .entry)) (now (primary .entry)) (now (secondary .entry))) backup
@@ -55,7 +64,7 @@ pub fn make_steps(
 {
     let mut left = steps;
     while 0 < left {
-        crate::step_release(memory, pages, live, primary, secondary, backup, card);
+        crate::make_step(memory, pages, live, primary, secondary, backup, card, k);
         left -= 1;
     }
 }

@@ -2,7 +2,6 @@
 use Prim.Native.Nat.{_*_}
 use native.Mathlib.Omega.{arith}
 use borrow.Author.Needs.{needs}
-use borrow.Author.Tests.{lt-ltb, le-ltb}
 use lib.ListN.{getD}
 use Rattle.memory.specs.Layout.{areaSize, committed}
 use Rattle.memory.proofs.Index.{area-in}
@@ -13,9 +12,7 @@ use Rattle.batch.proofs.fetch_next.Statement.{statement}
 use Rattle.batch.proofs.fetch_next.Tie as tie
 
 returns : tie.Need-returns
-returns c =
-    let moving = rw (c .before .lowest-in-motion .ensures) at (lt-ltb _ _ (c .if1 .taken)) in
-    (rw moving, rw moving)
+returns c = (rw (c .if1 .taken), rw (c .if1 .taken))
 
 load-run-requires : tie.Need-load-run-requires
 load-run-requires c κs =
@@ -35,7 +32,7 @@ returns-2 c =
     let start = test .before .before .before .before .before .before in
     let a = start .args in
     let pre = start .pre in
-    let still = rw (test .before .lowest-in-motion .ensures) at (le-ltb _ _ (test .if1 .left)) in
+    let still = test .if1 .left in
     let long = length-part (a .buffer .now) (32 * a .page) 32 (omega arith) in
     let words = rw (sized .area-size .ensures, long) at (loaded .load-run .ensures) in
     let size = areaSize (a .pages) in
@@ -47,7 +44,7 @@ returns-2 c =
 pub fetch-next-spec : {M : Type 1} → statement M
 fetch-next-spec =
     tie.close
-    (tie.spec (λ c κs. search needs) returns (λ c κs. search needs) (λ c. search needs) (λ c. search needs)
+    (tie.spec (λ c. search needs) returns (λ c κs. search needs) (λ c. search needs) (λ c. search needs)
     (λ c. search needs) (λ c. search needs) (λ c. search needs) (λ c. search needs) (λ c. search needs)
     (λ c. search needs) (λ c. search needs) (λ c. search needs) (λ c. search needs) (λ c. search needs)
     load-run-requires (λ c. search needs) returns-2)

@@ -11,13 +11,13 @@ use Rattle.batch.proofs.fetch_pages.Statement.{statement}
 use Rattle.batch.proofs.fetch_pages.Tie as tie
 
 abbrev Inv-loop : tie.InvT-loop
-Inv-loop memory cards pages live primary buffer₀ shown₀ page₀ buffer shown page =
+Inv-loop memory cards pages primary moving buffer₀ shown₀ page₀ buffer shown page =
     (page ≤ pages) × (length buffer ≡ length buffer₀) × (length shown ≡ length shown₀)
     × (pagesOf buffer shown
-    ≡ inTurn (showNext (primariesOf cards pages live primary) memory) page (pagesOf buffer₀ shown₀))
+    ≡ inTurn (showNext moving (primariesOf pages primary) memory) page (pagesOf buffer₀ shown₀))
 
 abbrev μ-loop : tie.MeasureT-loop
-μ-loop memory cards pages live primary buffer₀ shown₀ page₀ buffer shown page = pages - page
+μ-loop memory cards pages primary moving buffer₀ shown₀ page₀ buffer shown page = pages - page
 
 loop-holds : tie.Need-loop-holds Inv-loop μ-loop
 loop-holds c = (omega arith, refl, refl, sym (in-turn-none _ _))

@@ -14,8 +14,9 @@ make-steps-requires c κs =
     let next = left .before .before in
     let start = next .before .before .before .before .before in
     let pre = start .pre in
-    let few = rw (left .steps-left .ensures) at (least .smaller .ensures) in
-    (pre .0, (pre .1 .0, (rw (next .backup .ensures) (pre .1 .1 .0), all-left (pre .1 .1 .1) (omega arith))))
+    let all = left .steps-left .ensures in
+    let some = all-left {left = least .smaller .result} (all .0) (omega (arith, least .smaller .ensures, all .1)) in
+    (pre .0, (pre .1 .0, (rw (next .backup .ensures) (pre .1 .1 .0), some)))
 
 returns : tie.Need-returns
 returns c =
@@ -25,7 +26,7 @@ returns c =
     let next = left .before .before in
     let a = next .before .before .before .before .before .args in
     let made = rw (next .backup .ensures) at (stepped .make-steps .ensures) in (
-      rw (left .steps-left .ensures) at (least .smaller .ensures),
+      rw (left .steps-left .ensures .1) at (least .smaller .ensures),
       made ∙ times-by-homes (a .directory) _ (a .card) _ (a .memory .now),
     )
 

@@ -5,19 +5,20 @@ use native.Mathlib.Omega.{arith}
 use borrow.Author.Needs.{needs}
 use lib.ListN.{length}
 use Rattle.diff.specs.Prices.{pricesOf}
-use Rattle.conflict.specs.Named.{marked}
+use Rattle.conflict.specs.Named.{placeOf, marked}
 use Rattle.conflict.proofs.Walking.{Reached, pricesLeft, left-first, reached-next, fewer-left}
 use Rattle.conflict.proofs.Turns.{marked-turn, marked-end}
 use Rattle.conflict.proofs.mark_words.Statement.{statement}
 use Rattle.conflict.proofs.mark_words.Tie as tie
 
 abbrev Inv-loop : tie.InvT-loop
-Inv-loop list pages named₀ at₀ named at =
+Inv-loop list pages pagewise named₀ at₀ named at =
     Reached pages (length list) at × (length named ≡ length named₀)
-    × (marked (pricesLeft pages list at) named ≡ marked (pricesOf pages list) named₀)
+    × (marked (placeOf pagewise) (pricesLeft pages list at) named
+    ≡ marked (placeOf pagewise) (pricesOf pages list) named₀)
 
 abbrev μ-loop : tie.MeasureT-loop
-μ-loop list pages named₀ at₀ named at = length list - at .index
+μ-loop list pages pagewise named₀ at₀ named at = length list - at .index
 
 loop-holds : tie.Need-loop-holds Inv-loop μ-loop
 loop-holds c = rw (c .first-word .ensures, left-first) (omega arith, refl, refl)
@@ -31,19 +32,23 @@ loop-less c =
 
 loop-again : tie.Need-loop-again Inv-loop μ-loop
 loop-again c =
-    let turn = c .before .before .before .before .before in
+    let mark-due-at = c .before .before .before in
+    let turn = mark-due-at .before .before in
     let at = turn .before .before .loop in
-    let marks = c .before .before .before .mark-due in
+    let marks = mark-due-at .mark-due in
+    let a = turn .before .before .before .before .before .before .args in
+    let next = marked-turn (a .pages) (a .list .now) (at .at) (turn .if1 .taken) (a .pagewise) (at .named) in
     rw (c .next-word .ensures) (
       reached-next _ _ (at .at) (turn .if1 .taken) (at .inv .0),
-      marks .kept .1 .0 ∙ at .inv .1,
-      rw (marks .ensures) (sym (marked-turn _ _ (at .at) (turn .if1 .taken) (at .named)) ∙ at .inv .2),
+      marks .kept .1 .1 .0 ∙ at .inv .1,
+      rw (marks .ensures) (sym next ∙ at .inv .2),
     )
 
 returns : tie.Need-returns Inv-loop μ-loop
 returns c =
-    let at = c .before .before .loop in
-    sym (marked-end _ _ (at .at) (c .if1 .left) (at .named)) ∙ at .inv .2
+    let loop-at = c .before .before in
+    let at = loop-at .loop in
+    sym (marked-end _ _ (at .at) (c .if1 .left) _ (at .named)) ∙ at .inv .2
 
 pub mark-words-spec : {M : Type 1} → statement M
 mark-words-spec =

@@ -18,7 +18,7 @@ use Rattle.protocol.proofs.Shape.{SameOwn, same-own-release, is-open-kept}
 use Rattle.release.specs.Stepping.{CardIn, GoodRelease, StepsLeft, leftOf}
 use Rattle.release.proofs.Callers.{homes, times-by-homes}
 use Rattle.release.proofs.Kept.{step-keeps-others}
-use Rattle.release.proofs.Left.{same-own, same-then, good-kept, prices-counted, all-left, left-after}
+use Rattle.release.proofs.Left.{same-own, same-then, good-kept, counted, all-left, left-after}
 use Rattle.recovery.specs.Rack.{RackIn}
 use Rattle.recovery.specs.Closing.{ReleasesIn}
 use Rattle.recovery.proofs.Kept.{rack-card}
@@ -26,13 +26,12 @@ use Rattle.recovery.proofs.Marks.{covers-marked}
 use Rattle.recovery.proofs.Turns.{Turned, turn-none, turn-more}
 
 module _ (d : Directory) (backup : ℕ) (c : ℕ) (few : c < 8) where
-  pub times-keep-others : (n : ℕ) (m : List ℕ) → AreaIn (length m) (sizeOf d) c → (0 < n → StepsLeft (d .pages) m c n)
-      → (x : ℕ) → x ≢ c → SameOwn (sizeOf d) m (stepTimes d backup c n m) x
+  pub times-keep-others : {k : ℕ} (n : ℕ) (m : List ℕ) → AreaIn (length m) (sizeOf d) c
+      → (0 < n → StepsLeft (d .pages) m c k n) → (x : ℕ) → x ≢ c → SameOwn (sizeOf d) m (stepTimes d backup c n m) x
   unfolding stepTimes
   times-keep-others zero m area some x other = same-own (sizeOf d) m x
   times-keep-others (suc n) m area some x other =
       let left = some (omega arith) in
-      let counted = prices-counted (d .pages) m c (left .reads) (omega arith) in
       let step = step-keeps-others d backup m c few area (omega arith) x other in
       let one : suc n ≡ n + 1 = omega arith in
       same-then step
@@ -48,7 +47,8 @@ module _ (d : Directory) (f c : ℕ) (few : c < 8) (m : List ℕ) (area : AreaIn
   run-keeps-others x other =
       by-cond (λ (m′ : List ℕ). SameOwn (sizeOf d) m m′ x) (isOpen (d .live) (sizeOf d) m c) _ _
       (λ opened.
-      times-keep-others d (backupBefore d f c) c few _ m area (λ _. all-left (good opened) (omega arith)) x other)
+      let all = counted (d .pages) m c (good opened) in
+      times-keep-others d (backupBefore d f c) c few _ m area (λ _. all-left all (omega arith)) x other)
       (λ _. same-own (sizeOf d) m x)
 
 module _ (d : Directory) (f c : ℕ) (m : List ℕ) where

@@ -14,9 +14,9 @@ count-prices-requires c κs =
 load-word-requires : tie.Need-load-word-requires
 load-word-requires c κs = rw (c .before .area-size .ensures) (c .before .before .before .pre .0 .1, omega arith)
 
-sub-result : tie.Need-sub-result
+sub-steps : tie.Need-sub-steps
 unfolding stepsOf
-sub-result c =
+sub-steps c =
     let made = rw (c .before .before .area-size .ensures) at (c .load-word .ensures) in
     omega arith
 
@@ -24,10 +24,10 @@ returns : tie.Need-returns
 unfolding stepsOf
 returns c =
     let made = rw (c .before .before .area-size .ensures) at (c .load-word .ensures) in
-    omega arith
+    (c .before .count-prices .ensures, omega arith)
 
 pub steps-left-spec : {M : Type 1} → statement M
 steps-left-spec =
     tie.close
     (tie.spec (λ c κs. search needs) count-prices-requires load-word-requires (λ c. search needs) (λ c. search needs)
-    sub-result returns)
+    sub-steps returns)
