@@ -10,7 +10,8 @@ use Rattle.directory.specs.declared.Directory.{Directory}
 use Rattle.directory.specs.Directory.{tableFrom}
 use Rattle.bandsawpink.specs.Words.{headOf}
 
-pub parts-stored : (words head primary secondary : List ℕ) → length words ≡ 139 → length head ≡ 11 → length primary ≡ 64
+pub parts-stored : (words head primary secondary : List ℕ) → length words ≡ 139 → length head ≡ 11
+    → length primary ≡ 64
     → length secondary ≡ 64
     → sets (sets (sets words 0 head) 11 primary) 75 secondary ≡ head ++ (primary ++ secondary)
 parts-stored words head primary secondary all eleven first second =

@@ -57,7 +57,8 @@ returns-2 c =
     let test = marks .before .before .before .before .before in
     let first = test .before in
     let a = first .before .before .before .args in
-    rw (all-accepted (a .directory) (a .memory .now) (a .buffer .now) (first .fetch-refusal .ensures) (test .if1 .left))
+    let none = first .fetch-refusal .ensures in
+    rw (all-accepted (a .directory) (a .memory .now) (a .buffer .now) none (test .if1 .left))
     (refl, (refl, rw (marks .mark-in-motion .ensures) at (fetched .fetch-pages .ensures)))
 
 pub fetch-all-spec : {M : Type 1} → statement M

@@ -11,7 +11,8 @@ returns c =
     let begin = c .before .before .before .before .before .before in
     let a = begin .args in
     let part = a .part .now in
-    sets-all-part (a .words .now) (a .start) (length part) part (c .before .before .copy-words .ensures) refl (begin .pre)
+    let copied = c .before .before .copy-words .ensures in
+    sets-all-part (a .words .now) (a .start) (length part) part copied refl (begin .pre)
 
 pub store-part-spec : {M : Type 1} → statement M
 store-part-spec =
