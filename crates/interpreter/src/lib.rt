@@ -128,7 +128,8 @@ fn feed(
 }
 
 // Answers the lines of a part of the input, as far as the output has room: whatever follows it,
-// what is to be printed is the output and what is to be printed from there on.
+// what is to be printed is the output and what is to be printed from there on. Where there is room
+// for an answer, something is read.
 pub fn respond(memory: &mut [u32], session: Session, input: &[u8], output: &mut [u8]) -> Progress
     ensures places { λ r. ⌜ (r .read ≤ length (now (input .entry)))
         × (r .written ≤ length (now (output .entry))) ⌝ }
@@ -137,6 +138,8 @@ pub fn respond(memory: &mut [u32], session: Session, input: &[u8], output: &mut 
         ≡ take (r .written) (now (output .exit))
         ++ replies (r .session) (now (memory .exit))
         (drop (r .read) (now (input .entry)) ++ rest)) ⌝ }
+    ensures progress { λ r. ⌜ ((0 < length (now (input .entry)))
+        → (80 ≤ length (now (output .entry))) → 0 < r .read) ⌝ }
 {
     let mut session = session;
     let mut read: usize = 0;
