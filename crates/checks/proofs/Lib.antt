@@ -1,2 +1,3 @@
 -- What the checks say, as their proofs and their callers cite it.
 pub mod Order
+pub mod Passing

@@ -3,15 +3,14 @@ use Prim.Native.Nat.{ℕ, _<_, _≤_}
 use mathlib.Core.Path.{_≡_, refl, ap, _∙_}
 use mathlib.Core.Logic.{_≢_}
 use mathlib.Core.List.{List, [], _∷_, _++_}
-use mathlib.Core.Bool.{Bool, true, false, cond, not, _&&_}
+use mathlib.Core.Bool.{Bool, true, false, cond, not, _&&_, _||_}
 use borrow.Author.Tests.{ne-eqb, eqb-true, not-true, le-leb, lt-leb}
-use lib.Dec.{eqb}
+use lib.Dec.{eqb, leb}
 use Rattle.laws.proofs.Bools.{by-cond, and-first, and-second}
 use Rattle.answer.specs.declared.Outcome.{Outcome}
 use Rattle.answer.specs.Outcome.{given, refused, refusedAt}
-use Rattle.directory.specs.declared.Directory.{Directory}
-use Rattle.directory.specs.Directory.{isLive}
-use Rattle.protocol.specs.Checks.{Check, checkAt, firstRefusal, noLiveCard}
+use Rattle.directory.specs.Live.{liveAt}
+use Rattle.protocol.specs.Checks.{Check, checkAt, firstRefusal}
 
 -- ---- one check before others, and none
 
@@ -87,9 +86,9 @@ by-number cs all reached = rw reached (ap (refusedAt (firstRefusal cs 0 .number)
 
 -- ---- 3: no such card, or dead
 
-module _ (d : Directory) (c : ℕ) where
-  pub past-cards : d .cards ≤ c → noLiveCard d c ≡ true
+module _ (cards c : ℕ) (marks : List Bool) where
+  pub past-cards : cards ≤ c → leb cards c || not (liveAt marks c) ≡ true
   past-cards past = rw (le-leb _ _ past)
 
-  pub by-mark : (mark : Bool) → c < d .cards → isLive d c ≡ mark → noLiveCard d c ≡ not mark
+  pub by-mark : (mark : Bool) → c < cards → liveAt marks c ≡ mark → leb cards c || not (liveAt marks c) ≡ not mark
   by-mark mark below is = rw (lt-leb _ _ below, is)

@@ -1,6 +1,6 @@
 // Whether a memory and a directory fit each other, whether the rack runs, and whether there is such
-// a card: refusals 1, 2, 11 and 3. Each check is true where it refuses. The loops are lent a
-// directory's arrays one by one: a directory handed on by value would be copied in each turn.
+// a card: refusals 1, 2, 11 and 3. Each check is true where it refuses. A directory's arrays are lent
+// one by one: a directory handed on by value would be copied at each call.
 ghost use mathlib.Core.Path.{_≡_};
 ghost use Prim.Native.Nat.{_*_, _<_, _≤_};
 ghost use lib.ListN.{length};
@@ -13,7 +13,6 @@ ghost use Rattle.protocol.specs.Checks.{outsideLimits, badHome, badPage, badSta
 ghost use Rattle.protocol.specs.Checks.{badCard, unfitRack, firstRefusal, fittingChecks};
 ghost use Rattle.protocol.specs.Checks.{runningChecks, cardChecks, liveCardChecks};
 use diff::Verdict;
-use directory::Directory;
 use directory::Status;
 
 // 1: cards or pages outside their limits, or a memory not of the stated length.
@@ -231,35 +230,56 @@ fn unfit_rack(
 // ---- the checks in order
 
 // Refusal 1 or 2, or 0 where the two fit.
-pub fn fitting(memory: &[u32], directory: Directory) -> u32
+pub fn fitting(
+    memory: &[u32],
+    cards: u32,
+    pages: u32,
+    live: &[bool],
+    primary: &[u32],
+    secondary: &[u32],
+    status: Status,
+) -> u32
+    requires { ⌜ (length (now live) ≡ 8) × (length (now primary) ≡ 64) × (length (now secondary) ≡ 64) ⌝ }
     ensures { λ r. ⌜ r
-        ≡ firstRefusal (fittingChecks directory (now (memory .entry))) 0 .number ⌝ }
+        ≡ firstRefusal
+        (fittingChecks
+        (directoryOf cards pages (now (live .entry)) (now (primary .entry))
+        (now (secondary .entry)) status)
+        (now (memory .entry)))
+        0 .number ⌝ }
 {
-    let cards = directory.cards;
-    let pages = directory.pages;
     if outside_limits(memory.len(), cards, pages) {
         return answer::LIMITS;
     }
-    let live = directory.live;
-    let primary = directory.primary;
-    let secondary = directory.secondary;
-    let status = directory.status;
-    if unfit_rack(memory, cards, pages, &live, &primary, &secondary, status) {
+    if unfit_rack(memory, cards, pages, live, primary, secondary, status) {
         return answer::UNFIT;
     }
     0
 }
 
 // Refusal 1, 2 or 11, or 0.
-pub fn running(memory: &[u32], directory: Directory) -> u32
+pub fn running(
+    memory: &[u32],
+    cards: u32,
+    pages: u32,
+    live: &[bool],
+    primary: &[u32],
+    secondary: &[u32],
+    status: Status,
+) -> u32
+    requires { ⌜ (length (now live) ≡ 8) × (length (now primary) ≡ 64) × (length (now secondary) ≡ 64) ⌝ }
     ensures { λ r. ⌜ r
-        ≡ firstRefusal (runningChecks directory (now (memory .entry))) 0 .number ⌝ }
+        ≡ firstRefusal
+        (runningChecks
+        (directoryOf cards pages (now (live .entry)) (now (primary .entry))
+        (now (secondary .entry)) status)
+        (now (memory .entry)))
+        0 .number ⌝ }
 {
-    let unfit = fitting(memory, directory);
+    let unfit = fitting(memory, cards, pages, live, primary, secondary, status);
     if unfit != 0 {
         return unfit;
     }
-    let status = directory.status;
     match status {
         Status::Running => 0,
         Status::Awaiting(_) => answer::RECOVERY_AWAITED,
@@ -267,33 +287,64 @@ pub fn running(memory: &[u32], directory: Directory) -> u32
 }
 
 // Refusal 1, 2, 11 or 3, or 0: there is such a card, live or dead.
-pub fn card(memory: &[u32], directory: Directory, card: u32) -> u32
+pub fn card(
+    memory: &[u32],
+    cards: u32,
+    pages: u32,
+    live: &[bool],
+    primary: &[u32],
+    secondary: &[u32],
+    status: Status,
+    card: u32,
+) -> u32
+    requires { ⌜ (length (now live) ≡ 8) × (length (now primary) ≡ 64) × (length (now secondary) ≡ 64) ⌝ }
     ensures { λ r. ⌜ r
-        ≡ firstRefusal (cardChecks directory (now (memory .entry)) card) 0 .number ⌝ }
+        ≡ firstRefusal
+        (cardChecks
+        (directoryOf cards pages (now (live .entry)) (now (primary .entry))
+        (now (secondary .entry)) status)
+        (now (memory .entry)) card)
+        0 .number ⌝ }
 {
-    let refused = running(memory, directory);
+    let refused = running(memory, cards, pages, live, primary, secondary, status);
     if refused != 0 {
         return refused;
     }
-    if directory.cards <= card {
+    if cards <= card {
         return answer::NO_CARD;
     }
     0
 }
 
 // Refusal 1, 2, 11 or 3, or 0: there is such a card, and it is live.
-pub fn live_card(memory: &[u32], directory: Directory, card: u32) -> u32
+pub fn live_card(
+    memory: &[u32],
+    cards: u32,
+    pages: u32,
+    live: &[bool],
+    primary: &[u32],
+    secondary: &[u32],
+    status: Status,
+    card: u32,
+) -> u32
+    requires { ⌜ (length (now live) ≡ 8) × (length (now primary) ≡ 64) × (length (now secondary) ≡ 64) ⌝ }
     ensures { λ r. ⌜ r
-        ≡ firstRefusal (liveCardChecks directory (now (memory .entry)) card) 0 .number ⌝ }
+        ≡ firstRefusal
+        (liveCardChecks
+        (directoryOf cards pages (now (live .entry)) (now (primary .entry))
+        (now (secondary .entry)) status)
+        (now (memory .entry)) card)
+        0 .number ⌝ }
 {
-    let refused = running(memory, directory);
+    let refused = running(memory, cards, pages, live, primary, secondary, status);
     if refused != 0 {
         return refused;
     }
-    if directory.cards <= card {
+    if cards <= card {
         return answer::NO_CARD;
     }
-    if directory.is_live(card) {
+    let at = card as usize;
+    if live[at] {
         return 0;
     }
     answer::NO_CARD

@@ -11,7 +11,8 @@ ghost use Rattle.directory.specs.Live.{nextLive};
 ghost use Rattle.directory.specs.Directory.{directoryOf};
 ghost use Rattle.protocol.specs.Release.{releaseOf};
 ghost use Rattle.protocol.specs.Formatting.{formatting};
-ghost use Rattle.protocol.specs.Opening.{opening};
+ghost use Rattle.protocol.specs.Checks.{firstRefusal};
+ghost use Rattle.protocol.specs.Opening.{opening, openingChecks};
 ghost use Rattle.protocol.specs.Step.{step};
 ghost use Rattle.protocol.specs.Fetch.{fetch};
 ghost use Rattle.protocol.specs.Failure.{failure};
@@ -19,6 +20,7 @@ ghost use Rattle.protocol.specs.Recovery.{recovery, awaitedCard};
 ghost use Rattle.protocol.specs.Join.{join};
 ghost use Rattle.protocol.specs.DeskQuestion.{deskQuestion, deskOf};
 use answer::Answer;
+use answer::Outcome;
 use directory::Directory;
 use directory::Status;
 
@@ -55,6 +57,38 @@ pub fn format_rack(memory: &mut [u32], cards: u32, pages: u32) -> Reply
     Reply { directory, answer }
 }
 
+// The first refusal of an opening, or the number 0.
+fn opening_refusal(
+    memory: &[u32],
+    directory: Directory,
+    card: u32,
+    number: u32,
+    list: &[u32],
+) -> Outcome
+    ensures { λ r. ⌜ r
+        ≡ firstRefusal
+        (openingChecks directory (now (memory .entry)) card number (now (list .entry))) 0 ⌝ }
+{
+    let cards = directory.cards;
+    let pages = directory.pages;
+    let live = directory.live;
+    let primary = directory.primary;
+    let secondary = directory.secondary;
+    let status = directory.status;
+    refusals::opening(
+        memory,
+        cards,
+        pages,
+        &live,
+        &primary,
+        &secondary,
+        status,
+        card,
+        number,
+        list,
+    )
+}
+
 // Opens a release on a card: its number, its desk and its list of changes.
 pub fn open_release(
     memory: &mut [u32],
@@ -75,7 +109,7 @@ pub fn open_release(
         ≡ opening directory (now (memory .entry)) card (releaseOf number desk)
         (now (list .entry)) .memory ⌝ }
 {
-    let first = refusals::opening(memory, directory, card, number, list);
+    let first = opening_refusal(memory, directory, card, number, list);
     let answer = answer::answer_of(first);
     if first.number != 0 {
         return Reply { directory, answer };
@@ -94,15 +128,26 @@ pub fn make_step(memory: &mut [u32], directory: Directory, card: u32) -> Reply
     ensures memory { λ _. ⌜ now (memory .exit)
         ≡ step directory (now (memory .entry)) card .memory ⌝ }
 {
-    let first = refusals::step(memory, directory, card);
-    let answer = answer::answer_of(first);
-    if first.number != 0 {
-        return Reply { directory, answer };
-    }
+    let cards = directory.cards;
     let pages = directory.pages;
     let live = directory.live;
     let primary = directory.primary;
     let secondary = directory.secondary;
+    let status = directory.status;
+    let first = refusals::step(
+        memory,
+        cards,
+        pages,
+        &live,
+        &primary,
+        &secondary,
+        status,
+        card,
+    );
+    let answer = answer::answer_of(first);
+    if first.number != 0 {
+        return Reply { directory, answer };
+    }
     let backup = directory.backup(card) as usize;
     let at = card as usize;
     release::step_release(memory, pages, &live, &primary, &secondary, backup, at);
@@ -119,15 +164,30 @@ pub fn fetch_page(memory: &[u32], directory: Directory, page: u32, buffer: &mut 
     ensures buffer { λ _. ⌜ now (buffer .exit)
         ≡ fetch directory (now (memory .entry)) page (now (buffer .entry)) .words ⌝ }
 {
-    let first = refusals::fetch(memory, directory, page, buffer.len());
+    let cards = directory.cards;
+    let pages = directory.pages;
+    let live = directory.live;
+    let primary = directory.primary;
+    let secondary = directory.secondary;
+    let status = directory.status;
+    let first = refusals::fetch(
+        memory,
+        cards,
+        pages,
+        &live,
+        &primary,
+        &secondary,
+        status,
+        page,
+        buffer.len(),
+    );
     let answer = answer::answer_of(first);
     if first.number != 0 {
         return Reply { directory, answer };
     }
-    let size = memory::area_size(directory.pages);
-    let homes = directory.primary;
+    let size = memory::area_size(pages);
     let at = page as usize;
-    let home = homes[at] as usize;
+    let home = primary[at] as usize;
     let start = memory::PAGES_START + 64 * at + 32;
     memory::load_run(memory, size, home, start, buffer);
     Reply { directory, answer }
@@ -140,7 +200,22 @@ pub fn fail_card(memory: &[u32], directory: Directory, card: u32) -> Reply
     ensures directory { λ r. ⌜ r .directory
         ≡ failure directory (now (memory .entry)) card .directory ⌝ }
 {
-    let first = refusals::failure(memory, directory, card);
+    let cards = directory.cards;
+    let pages = directory.pages;
+    let live = directory.live;
+    let primary = directory.primary;
+    let secondary = directory.secondary;
+    let status = directory.status;
+    let first = refusals::failure(
+        memory,
+        cards,
+        pages,
+        &live,
+        &primary,
+        &secondary,
+        status,
+        card,
+    );
     let answer = answer::answer_of(first);
     if first.number != 0 {
         return Reply { directory, answer };
@@ -174,7 +249,13 @@ pub fn recover_card(memory: &mut [u32], directory: Directory) -> DeskReply
     ensures memory { λ _. ⌜ now (memory .exit)
         ≡ recovery directory (now (memory .entry)) .memory ⌝ }
 {
-    let first = refusals::recovery(memory, directory);
+    let cards = directory.cards;
+    let pages = directory.pages;
+    let live = directory.live;
+    let primary = directory.primary;
+    let secondary = directory.secondary;
+    let status = directory.status;
+    let first = refusals::recovery(memory, cards, pages, &live, &primary, &secondary, status);
     let mut desk = [0u32; 8];
     if first != 0 {
         let answer = Answer::Refused(first, 0);
@@ -184,7 +265,6 @@ pub fn recover_card(memory: &mut [u32], directory: Directory) -> DeskReply
             desk,
         };
     }
-    let status = directory.status;
     let failed = awaited_card(status);
     let number = recovery::recover_memory(memory, directory, failed, &mut desk);
     let recovered = recovery::recovered_directory(directory, failed);
@@ -205,7 +285,22 @@ pub fn join_card(memory: &mut [u32], directory: Directory, card: u32) -> Reply
     ensures memory { λ _. ⌜ now (memory .exit)
         ≡ join directory (now (memory .entry)) card .memory ⌝ }
 {
-    let first = refusals::join(memory, directory, card);
+    let cards = directory.cards;
+    let pages = directory.pages;
+    let live = directory.live;
+    let primary = directory.primary;
+    let secondary = directory.secondary;
+    let status = directory.status;
+    let first = refusals::join(
+        memory,
+        cards,
+        pages,
+        &live,
+        &primary,
+        &secondary,
+        status,
+        card,
+    );
     let answer = answer::answer_of(first);
     if first.number != 0 {
         return Reply { directory, answer };
@@ -246,19 +341,26 @@ pub fn ask_desk(memory: &[u32], directory: Directory, card: u32) -> DeskReply
     ensures desk { λ r. ⌜ r .desk
         ≡ deskQuestion directory (now (memory .entry)) card .words ⌝ }
 {
-    let first = refusals::desk_question(memory, directory, card);
+    let cards = directory.cards;
+    let pages = directory.pages;
+    let live = directory.live;
+    let primary = directory.primary;
+    let secondary = directory.secondary;
+    let status = directory.status;
+    let first = refusals::desk_question(
+        memory,
+        cards,
+        pages,
+        &live,
+        &primary,
+        &secondary,
+        status,
+        card,
+    );
     let answer = answer::answer_of(first);
     let mut desk = [0u32; 8];
     if first.number == 0 {
-        let live = directory.live;
-        load_desk(
-            memory,
-            directory.cards,
-            directory.pages,
-            &live,
-            card,
-            &mut desk,
-        );
+        load_desk(memory, cards, pages, &live, card, &mut desk);
     }
     DeskReply {
         directory,

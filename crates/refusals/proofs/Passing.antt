@@ -1,44 +1,12 @@
--- Where the first checks of a call do not refuse: a rack within its limits, and a card of it. A list that is allowed
--- has at most 512 words.
-use Prim.Native.Nat.{ℕ, _+_, _<_, _≤_}
-use mathlib.Core.Path.{_≡_, refl, sym, _∙_}
+-- A list that is allowed has at most 512 words.
+use Prim.Native.Nat.{ℕ, _+_, _≤_}
 use mathlib.Core.List.{List}
-use mathlib.Core.Bool.{true}
 use native.Mathlib.Omega.{arith}
-use borrow.Author.Tests.{eq-eqb, leb-false}
 use lib.ListN.{length}
-use lib.Dec.{leb}
-use Rattle.laws.proofs.Bools.{neither}
-use Rattle.directory.specs.declared.Directory.{Directory}
 use Rattle.diff.specs.Reading.{start}
 use Rattle.diff.specs.OnlyDiff.{Allowed}
 use Rattle.diff.proofs.OnlyDiff.{allowed-whole}
 use Rattle.diff.proofs.Stored.{good-few}
-use Rattle.protocol.specs.Checks.{Check, firstRefusal, runningChecks, cardChecks, liveCardChecks}
-use Rattle.protocol.proofs.Accepting.{Passed, numbered, all-passed}
-use Rattle.protocol.proofs.Limits.{Within, within-limits}
-
--- checks that come to 0 have all passed
-none-refuses : (cs : List Check) → numbered cs ≡ true → {number : ℕ} → number ≡ firstRefusal cs 0 .number → number ≡ 0
-    → Passed cs
-none-refuses cs real reached none = all-passed cs 0 real (eq-eqb _ 0 (sym reached ∙ none))
-
-module _ (d : Directory) (m : List ℕ) {number : ℕ} where
-  pub running-within : number ≡ firstRefusal (runningChecks d m) 0 .number → number ≡ 0
-      → Within (length m) (d .cards) (d .pages)
-  running-within reached none = within-limits _ _ _ (none-refuses (runningChecks d m) refl reached none .0)
-
-  pub card-within : (c : ℕ) → number ≡ firstRefusal (cardChecks d m c) 0 .number → number ≡ 0
-      → Within (length m) (d .cards) (d .pages) × (c < d .cards)
-  card-within c reached none =
-      let passed = none-refuses (cardChecks d m c) refl reached none in
-      (within-limits _ _ _ (passed .0), leb-false (d .cards) c (passed .1 .1 .1 .0))
-
-  pub live-card-within : (c : ℕ) → number ≡ firstRefusal (liveCardChecks d m c) 0 .number → number ≡ 0
-      → Within (length m) (d .cards) (d .pages) × (c < d .cards)
-  live-card-within c reached none =
-      let passed = none-refuses (liveCardChecks d m c) refl reached none in
-      (within-limits _ _ _ (passed .0), leb-false (d .cards) c (neither (leb (d .cards) c) _ (passed .1 .1 .1 .0) .0))
 
 pub allowed-few : (pages : ℕ) (list : List ℕ) → Allowed pages list → length list ≤ 512
 allowed-few pages list allowed =

@@ -1,11 +1,12 @@
 // Which calls the rack refuses: document 01's checks, in its order, for each call. A function
-// answers the first refusal with its place, or the number 0 where the call is accepted. A directory
-// comes by value; the searches are lent its arrays.
+// answers the first refusal with its place, or the number 0 where the call is accepted. A directory's
+// arrays are lent one by one: a directory handed on by value would be copied at each call.
 ghost use mathlib.Core.Path.{_≡_};
 ghost use Prim.Native.Nat.{_*_, _<_, _≤_};
 ghost use lib.ListN.{length};
 ghost use Rattle.answer.specs.Outcome.{refusedAt};
 ghost use Rattle.memory.specs.Layout.{areaSize};
+ghost use Rattle.directory.specs.Directory.{directoryOf};
 ghost use Rattle.diff.specs.Reading.{checkDiff};
 ghost use Rattle.protocol.specs.Checks.{firstRefusal};
 ghost use Rattle.protocol.specs.Opening.{openingChecks};
@@ -17,7 +18,6 @@ ghost use Rattle.protocol.specs.Join.{joinChecks};
 ghost use Rattle.protocol.specs.DeskQuestion.{deskChecks};
 ghost use Rattle.refusals.specs.Parts.{listChecks, numberChecks};
 use answer::Outcome;
-use directory::Directory;
 use directory::Status;
 
 // A refusal, or none if the number is 0.
@@ -101,64 +101,93 @@ fn number_refusal(
 
 pub fn opening(
     memory: &[u32],
-    directory: Directory,
+    cards: u32,
+    pages: u32,
+    live: &[bool],
+    primary: &[u32],
+    secondary: &[u32],
+    status: Status,
     card: u32,
     number: u32,
     list: &[u32],
 ) -> Outcome
+    requires { ⌜ (length (now live) ≡ 8) × (length (now primary) ≡ 64) × (length (now secondary) ≡ 64) ⌝ }
     ensures { λ r. ⌜ r
         ≡ firstRefusal
-        (openingChecks directory (now (memory .entry)) card number (now (list .entry))) 0 ⌝ }
+        (openingChecks
+        (directoryOf cards pages (now (live .entry)) (now (primary .entry))
+        (now (secondary .entry)) status)
+        (now (memory .entry)) card number (now (list .entry)))
+        0 ⌝ }
 {
-    let first = checks::live_card(memory, directory, card);
+    let first = checks::live_card(memory, cards, pages, live, primary, secondary, status, card);
     if first != 0 {
         return refused(first, 0);
     }
-    let live = directory.live;
-    number_refusal(
-        memory,
-        directory.cards,
-        directory.pages,
-        &live,
-        card,
-        number,
-        list,
-    )
+    number_refusal(memory, cards, pages, live, card, number, list)
 }
 
 // ---- the other calls
 
-pub fn step(memory: &[u32], directory: Directory, card: u32) -> Outcome
-    ensures { λ r. ⌜ r ≡ firstRefusal (stepChecks directory (now (memory .entry)) card) 0 ⌝ }
+pub fn step(
+    memory: &[u32],
+    cards: u32,
+    pages: u32,
+    live: &[bool],
+    primary: &[u32],
+    secondary: &[u32],
+    status: Status,
+    card: u32,
+) -> Outcome
+    requires { ⌜ (length (now live) ≡ 8) × (length (now primary) ≡ 64) × (length (now secondary) ≡ 64) ⌝ }
+    ensures { λ r. ⌜ r
+        ≡ firstRefusal
+        (stepChecks
+        (directoryOf cards pages (now (live .entry)) (now (primary .entry))
+        (now (secondary .entry)) status)
+        (now (memory .entry)) card)
+        0 ⌝ }
 {
-    let first = checks::live_card(memory, directory, card);
+    let first = checks::live_card(memory, cards, pages, live, primary, secondary, status, card);
     if first != 0 {
         return refused(first, 0);
     }
-    let live = directory.live;
-    let size = memory::area_size(directory.pages);
-    if conflict::is_open(memory, size, &live, card as usize) {
+    let size = memory::area_size(pages);
+    if conflict::is_open(memory, size, live, card as usize) {
         return refused(0, 0);
     }
     refused(answer::NONE_OPEN, 0)
 }
 
 // `room`: how many words the page buffer has.
-pub fn fetch(memory: &[u32], directory: Directory, page: u32, room: usize) -> Outcome
+pub fn fetch(
+    memory: &[u32],
+    cards: u32,
+    pages: u32,
+    live: &[bool],
+    primary: &[u32],
+    secondary: &[u32],
+    status: Status,
+    page: u32,
+    room: usize,
+) -> Outcome
+    requires { ⌜ (length (now live) ≡ 8) × (length (now primary) ≡ 64) × (length (now secondary) ≡ 64) ⌝ }
     ensures { λ r. ⌜ r
-        ≡ firstRefusal (fetchChecks directory (now (memory .entry)) page room) 0 ⌝ }
+        ≡ firstRefusal
+        (fetchChecks
+        (directoryOf cards pages (now (live .entry)) (now (primary .entry))
+        (now (secondary .entry)) status)
+        (now (memory .entry)) page room)
+        0 ⌝ }
 {
-    let first = checks::running(memory, directory);
+    let first = checks::running(memory, cards, pages, live, primary, secondary, status);
     if first != 0 {
         return refused(first, 0);
     }
-    let cards = directory.cards;
-    let pages = directory.pages;
     if pages <= page {
         return refused(answer::NO_PAGE, 0);
     }
-    let live = directory.live;
-    let card = conflict::lowest_in_motion(memory, cards, pages, &live, page);
+    let card = conflict::lowest_in_motion(memory, cards, pages, live, page);
     if card < cards {
         return refused(answer::PAGE_IN_MOTION, card as u64);
     }
@@ -168,54 +197,117 @@ pub fn fetch(memory: &[u32], directory: Directory, page: u32, room: usize) -> Ou
     refused(0, 0)
 }
 
-pub fn failure(memory: &[u32], directory: Directory, card: u32) -> Outcome
-    ensures { λ r. ⌜ r ≡ firstRefusal (failureChecks directory (now (memory .entry)) card) 0 ⌝ }
+pub fn failure(
+    memory: &[u32],
+    cards: u32,
+    pages: u32,
+    live: &[bool],
+    primary: &[u32],
+    secondary: &[u32],
+    status: Status,
+    card: u32,
+) -> Outcome
+    requires { ⌜ (length (now live) ≡ 8) × (length (now primary) ≡ 64) × (length (now secondary) ≡ 64) ⌝ }
+    ensures { λ r. ⌜ r
+        ≡ firstRefusal
+        (failureChecks
+        (directoryOf cards pages (now (live .entry)) (now (primary .entry))
+        (now (secondary .entry)) status)
+        (now (memory .entry)) card)
+        0 ⌝ }
 {
-    let first = checks::live_card(memory, directory, card);
+    let first = checks::live_card(memory, cards, pages, live, primary, secondary, status, card);
     if first != 0 {
         return refused(first, 0);
     }
-    let live = directory.live;
-    if checks::count_live(&live, directory.cards) <= 2 {
+    if checks::count_live(live, cards) <= 2 {
         return refused(answer::TWO_LIVE, 0);
     }
     refused(0, 0)
 }
 
-pub fn desk_question(memory: &[u32], directory: Directory, card: u32) -> Outcome
-    ensures { λ r. ⌜ r ≡ firstRefusal (deskChecks directory (now (memory .entry)) card) 0 ⌝ }
+pub fn desk_question(
+    memory: &[u32],
+    cards: u32,
+    pages: u32,
+    live: &[bool],
+    primary: &[u32],
+    secondary: &[u32],
+    status: Status,
+    card: u32,
+) -> Outcome
+    requires { ⌜ (length (now live) ≡ 8) × (length (now primary) ≡ 64) × (length (now secondary) ≡ 64) ⌝ }
+    ensures { λ r. ⌜ r
+        ≡ firstRefusal
+        (deskChecks
+        (directoryOf cards pages (now (live .entry)) (now (primary .entry))
+        (now (secondary .entry)) status)
+        (now (memory .entry)) card)
+        0 ⌝ }
 {
-    refused(checks::card(memory, directory, card), 0)
+    refused(
+        checks::card(memory, cards, pages, live, primary, secondary, status, card),
+        0,
+    )
 }
 
 // The number alone: an accepted recovery answers a stamp, which is not known yet.
-pub fn recovery(memory: &[u32], directory: Directory) -> u32
+pub fn recovery(
+    memory: &[u32],
+    cards: u32,
+    pages: u32,
+    live: &[bool],
+    primary: &[u32],
+    secondary: &[u32],
+    status: Status,
+) -> u32
+    requires { ⌜ (length (now live) ≡ 8) × (length (now primary) ≡ 64) × (length (now secondary) ≡ 64) ⌝ }
     ensures { λ r. ⌜ r
-        ≡ firstRefusal (recoveryChecks directory (now (memory .entry))) 0 .number ⌝ }
+        ≡ firstRefusal
+        (recoveryChecks
+        (directoryOf cards pages (now (live .entry)) (now (primary .entry))
+        (now (secondary .entry)) status)
+        (now (memory .entry)))
+        0 .number ⌝ }
 {
-    let first = checks::fitting(memory, directory);
+    let first = checks::fitting(memory, cards, pages, live, primary, secondary, status);
     if first != 0 {
         return first;
     }
-    let status = directory.status;
     match status {
         Status::Running => answer::NONE_AWAITED,
         Status::Awaiting(_) => 0,
     }
 }
 
-pub fn join(memory: &[u32], directory: Directory, card: u32) -> Outcome
-    ensures { λ r. ⌜ r ≡ firstRefusal (joinChecks directory (now (memory .entry)) card) 0 ⌝ }
+pub fn join(
+    memory: &[u32],
+    cards: u32,
+    pages: u32,
+    live: &[bool],
+    primary: &[u32],
+    secondary: &[u32],
+    status: Status,
+    card: u32,
+) -> Outcome
+    requires { ⌜ (length (now live) ≡ 8) × (length (now primary) ≡ 64) × (length (now secondary) ≡ 64) ⌝ }
+    ensures { λ r. ⌜ r
+        ≡ firstRefusal
+        (joinChecks
+        (directoryOf cards pages (now (live .entry)) (now (primary .entry))
+        (now (secondary .entry)) status)
+        (now (memory .entry)) card)
+        0 ⌝ }
 {
-    let first = checks::card(memory, directory, card);
+    let first = checks::card(memory, cards, pages, live, primary, secondary, status, card);
     if first != 0 {
         return refused(first, 0);
     }
-    if directory.is_live(card) {
+    let at = card as usize;
+    if live[at] {
         return refused(answer::CARD_LIVE, 0);
     }
-    let live = directory.live;
-    if conflict::any_open(memory, directory.cards, directory.pages, &live) {
+    if conflict::any_open(memory, cards, pages, live) {
         return refused(answer::JOIN_WHILE_OPEN, 0);
     }
     refused(0, 0)

@@ -2,35 +2,28 @@
 use mathlib.Core.Path.{refl}
 use borrow.Author.Needs.{needs}
 use borrow.Author.Tests.{le-leb, lt-leb}
-use Rattle.protocol.specs.Checks.{runningChecks}
 use Rattle.checks.proofs.Order.{refused-before, passed-before, last-passes, first-refuses}
 use Rattle.checks.proofs.card.Statement.{statement}
 use Rattle.checks.proofs.card.Tie as tie
 
 returns : tie.Need-returns
-returns c =
-    let a = c .before .before .before .args in
-    let checks = runningChecks (a .directory) (a .memory .now) in
-    rw (refused-before _ _ checks refl (c .before .running .ensures) (c .if1 .taken))
+returns c = rw (refused-before _ _ _ refl (c .before .running .ensures) (c .if1 .taken))
 
 returns-2 : tie.Need-returns-2
 returns-2 c =
-    let a = c .before .before .before .before .before .args in
-    let checks = runningChecks (a .directory) (a .memory .now) in
+    let test = c .before in
     rw (
-      passed-before _ _ checks refl (c .before .before .before .running .ensures) (c .before .before .if1 .left),
+      passed-before _ _ _ refl (test .before .running .ensures) (test .if1 .left),
       first-refuses _ _ _ _ _ (le-leb _ _ (c .if2 .taken)),
     )
 
 returns-3 : tie.Need-returns-3
 returns-3 c =
-    let a = c .before .before .before .before .before .args in
-    let checks = runningChecks (a .directory) (a .memory .now) in
+    let test = c .before in
     rw (
-      passed-before _ _ checks refl (c .before .before .before .running .ensures) (c .before .before .if1 .left),
+      passed-before _ _ _ refl (test .before .running .ensures) (test .if1 .left),
       last-passes _ _ _ _ (lt-leb _ _ (c .if2 .left)),
     )
 
 pub card-spec : {M : Type 1} → statement M
-card-spec = tie.close
-    (tie.spec (λ c κs. search needs) returns returns-2 returns-3)
+card-spec = tie.close (tie.spec (λ c κs. search needs) returns returns-2 returns-3)

@@ -1,8 +1,7 @@
 -- Rests on its two tests, the checks in order; a rack that passes the first is within its limits.
-use mathlib.Core.Path.{_≡_, sym, _∙_}
+use mathlib.Core.Path.{sym, _∙_}
 use native.Mathlib.Omega.{arith}
-use borrow.Author.Needs.{needs, length-unmapped}
-use lib.ListN.{length}
+use borrow.Author.Needs.{needs}
 use Rattle.protocol.proofs.Limits.{within-limits}
 use Rattle.protocol.specs.Checks.{firstRefusal}
 use Rattle.checks.proofs.fitting.Statement.{statement}
@@ -14,39 +13,27 @@ returns c = simp (sym (c .before .outside-limits .ensures) ∙ c .if1 .taken)
 
 unfit-rack-requires : tie.Need-unfit-rack-requires
 unfit-rack-requires c κs =
-    let test = c .before .before .before .before .before .before in
-    let limited = test .before in
-    let start = limited .before .before in
-    let d = start .args .directory in
-    let arrays = start .good .1 .0 .1 .1 .1 .1 in
-    let marks : length (d .live) ≡ 8 = length-unmapped _ (d .live) 8 (arrays .0 .1 .0 .1) in
-    let primaries : length (d .primary) ≡ 64 = length-unmapped _ (d .primary) 64 (arrays .1 .0 .1 .0 .1) in
-    let secondaries : length (d .secondary) ≡ 64 = length-unmapped _ (d .secondary) 64 (arrays .1 .1 .0 .1 .0 .1) in
-    let within = within-limits _ _ _ (sym (limited .outside-limits .ensures) ∙ test .if1 .left) in
+    let arrays = c .before .before .before .before .before .before .pre in
+    let within = within-limits _ _ _ (sym (c .before .outside-limits .ensures) ∙ c .if1 .left) in
     ((within .pages-most, within .whole), (omega arith, (omega arith, omega arith)))
 
 returns-2 : tie.Need-returns-2
 unfolding firstRefusal
 returns-2 c =
-    let test = c .before .before .before .before .before .before .before .before in
-    let limited = test .before in
+    let test = c .before .before in
     simp (
-      sym (limited .outside-limits .ensures) ∙ test .if1 .left,
+      sym (test .before .outside-limits .ensures) ∙ test .if1 .left,
       sym (c .before .unfit-rack .ensures) ∙ c .if2 .taken,
     )
 
 returns-3 : tie.Need-returns-3
 unfolding firstRefusal
 returns-3 c =
-    let test = c .before .before .before .before .before .before .before .before in
-    let limited = test .before in
+    let test = c .before .before in
     simp (
-      sym (limited .outside-limits .ensures) ∙ test .if1 .left,
+      sym (test .before .outside-limits .ensures) ∙ test .if1 .left,
       sym (c .before .unfit-rack .ensures) ∙ c .if2 .left,
     )
 
 pub fitting-spec : {M : Type 1} → statement M
-fitting-spec =
-    tie.close
-    (tie.spec (λ c κs. search needs) returns (λ c. search needs) (λ c. search needs) (λ c. search needs)
-    unfit-rack-requires returns-2 returns-3)
+fitting-spec = tie.close (tie.spec (λ c κs. search needs) returns unfit-rack-requires returns-2 returns-3)

@@ -1,7 +1,8 @@
 -- Rests on its checks: a refused fetch leaves the buffer, an accepted one finds its page and a primary that is a card.
-use mathlib.Core.Path.{refl}
+use mathlib.Core.Path.{_≡_, refl}
 use native.Mathlib.Omega.{arith}
-use borrow.Author.Needs.{needs}
+use borrow.Author.Needs.{needs, length-unmapped}
+use lib.ListN.{length}
 use Rattle.memory.proofs.Index.{area-in}
 use Rattle.protocol.specs.Fetch.{committedPage}
 use Rattle.rack.proofs.Fitting.{fitting}
@@ -9,11 +10,21 @@ use Rattle.rack.proofs.Results.{fetch-facts, fetch-refused, fetch-accep
 use Rattle.rack.proofs.fetch_page.Statement.{statement}
 use Rattle.rack.proofs.fetch_page.Tie as tie
 
+fetch-requires : tie.Need-fetch-requires
+fetch-requires c κs =
+    let start = c .before .before .before .before .before .before .before .before in
+    let d = start .args .directory in
+    let arrays = start .good .1 .0 .1 .1 .1 .1 in
+    let marks : length (d .live) ≡ 8 = length-unmapped _ (d .live) 8 (arrays .0 .1 .0 .1) in
+    let primaries : length (d .primary) ≡ 64 = length-unmapped _ (d .primary) 64 (arrays .1 .0 .1 .0 .1) in
+    let secondaries : length (d .secondary) ≡ 64 = length-unmapped _ (d .secondary) 64 (arrays .1 .1 .0 .1 .0 .1) in
+    (marks, primaries, secondaries)
+
 returns : tie.Need-returns
 returns c =
     let answered = c .before .before in
     let first = answered .before in
-    let start = first .before .before .before in
+    let start = first .before .before .before .before .before .before .before .before .before in
     let a = start .args in
     let d = a .directory in
     let m = a .memory .now in
@@ -23,7 +34,7 @@ returns c =
 area-size-requires : tie.Need-area-size-requires
 area-size-requires c κs =
     let first = c .before .before .before in
-    let start = first .before .before .before in
+    let start = first .before .before .before .before .before .before .before .before .before in
     let a = start .args in
     let d = a .directory in
     let m = a .memory .now in
@@ -32,9 +43,9 @@ area-size-requires c κs =
 
 array-read-home : tie.Need-array-read-home
 array-read-home c =
-    let test = c .before .before in
+    let test = c .before in
     let first = test .before .before .before in
-    let start = first .before .before .before in
+    let start = first .before .before .before .before .before .before .before .before .before in
     let a = start .args in
     let d = a .directory in
     let m = a .memory .now in
@@ -42,12 +53,24 @@ array-read-home c =
     let fit = fitting (passed .runs .fits) in
     search needs
 
+cast-home : tie.Need-cast-home
+cast-home c =
+    let test = c .before in
+    let first = test .before .before .before in
+    let start = first .before .before .before .before .before .before .before .before .before in
+    let a = start .args in
+    let d = a .directory in
+    let m = a .memory .now in
+    let passed = fetch-facts d m (a .page) (a .buffer .now) (first .fetch .ensures) (test .if1 .left) in
+    let fit = fitting (passed .runs .fits) in
+    omega (arith, fit .primary-below (a .page) (passed .page-below), fit .within .cards-most)
+
 load-run-requires : tie.Need-load-run-requires
 load-run-requires c κs =
-    let sized = c .before .before in
+    let sized = c .before in
     let test = sized .before in
     let first = test .before .before .before in
-    let start = first .before .before .before in
+    let start = first .before .before .before .before .before .before .before .before .before in
     let a = start .args in
     let d = a .directory in
     let m = a .memory .now in
@@ -61,11 +84,11 @@ returns-2 : tie.Need-returns-2
 unfolding committedPage
 returns-2 c =
     let loaded = c .before .before in
-    let sized = loaded .before .before .before in
+    let sized = loaded .before .before in
     let test = sized .before in
     let answered = test .before .before in
     let first = answered .before in
-    let start = first .before .before .before in
+    let start = first .before .before .before .before .before .before .before .before .before in
     let a = start .args in
     let d = a .directory in
     let m = a .memory .now in
@@ -77,6 +100,4 @@ returns-2 c =
 pub fetch-page-spec : {M : Type 1} → statement M
 fetch-page-spec =
     tie.close
-    (tie.spec (λ c κs. search needs) (λ c κs. search needs) returns area-size-requires (λ c. search needs)
-    array-read-home (λ c. search needs) (λ c. search needs) (λ c. search needs) (λ c. search needs)
-    load-run-requires (λ c. search needs) returns-2)
+    (tie.spec (λ c. search needs) (λ c. search needs) (λ c. search needs) fetch-requires (λ c κs. search needs) returns area-size-requires (λ c. search needs) array-read-home cast-home (λ c. search needs) (λ c. search needs) (λ c. search needs) load-run-requires (λ c. search needs) returns-2)

@@ -10,11 +10,21 @@ use Rattle.rack.proofs.Results.{step-facts, step-refused, step-accepted
 use Rattle.rack.proofs.make_step.Statement.{statement}
 use Rattle.rack.proofs.make_step.Tie as tie
 
+step-requires : tie.Need-step-requires
+step-requires c κs =
+    let start = c .before .before .before .before .before .before .before .before in
+    let d = start .args .directory in
+    let arrays = start .good .1 .0 .1 .1 .1 .1 in
+    let marks : length (d .live) ≡ 8 = length-unmapped _ (d .live) 8 (arrays .0 .1 .0 .1) in
+    let primaries : length (d .primary) ≡ 64 = length-unmapped _ (d .primary) 64 (arrays .1 .0 .1 .0 .1) in
+    let secondaries : length (d .secondary) ≡ 64 = length-unmapped _ (d .secondary) 64 (arrays .1 .1 .0 .1 .0 .1) in
+    (marks, primaries, secondaries)
+
 returns : tie.Need-returns
 returns c =
     let answered = c .before .before in
     let first = answered .before in
-    let start = first .before .before .before in
+    let start = first .before .before .before .before .before .before .before .before .before in
     let a = start .args in
     let d = a .directory in
     let m = a .memory .now in
@@ -23,9 +33,9 @@ returns c =
 step-release-requires : tie.Need-step-release-requires
 step-release-requires c κs =
     let next-at = c .before .before .before .before in
-    let test = next-at .before .before .before .before in
+    let test = next-at .before in
     let first = test .before .before .before in
-    let start = first .before .before .before in
+    let start = first .before .before .before .before .before .before .before .before .before in
     let a = start .args in
     let d = a .directory in
     let m = a .memory .now in
@@ -47,10 +57,10 @@ returns-2 : tie.Need-returns-2
 returns-2 c =
     let stepped = c .before .before in
     let next = stepped .before .before .before .before .before in
-    let test = next .before .before .before .before in
+    let test = next .before in
     let answered = test .before .before in
     let first = answered .before in
-    let start = first .before .before .before in
+    let start = first .before .before .before .before .before .before .before .before .before in
     let a = start .args in
     let d = a .directory in
     let m = a .memory .now in
@@ -61,6 +71,4 @@ returns-2 c =
 pub make-step-spec : {M : Type 1} → statement M
 make-step-spec =
     tie.close
-    (tie.spec (λ c κs. search needs) (λ c κs. search needs) (λ c. search needs) returns (λ c κs. search needs)
-    (λ c. search needs) (λ c. search needs) (λ c. search needs) (λ c. search needs) step-release-requires
-    (λ c. search needs) returns-2)
+    (tie.spec (λ c. search needs) (λ c. search needs) (λ c. search needs) step-requires (λ c κs. search needs) (λ c. search needs) returns (λ c κs. search needs) (λ c. search needs) (λ c. search needs) (λ c. search needs) (λ c. search needs) step-release-requires (λ c. search needs) returns-2)

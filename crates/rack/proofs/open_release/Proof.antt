@@ -20,7 +20,7 @@ returns c =
     let d = a .directory in
     let m = a .memory .now in
     let r = releaseOf (a .number) (a .t5) in
-    rw (opening-refused d m (a .card) r (a .list .now) (first .opening .ensures) (c .if1 .taken))
+    rw (opening-refused d m (a .card) r (a .list .now) (first .opening-refusal .ensures) (c .if1 .taken))
     (answered .answer-of .ensures, (refl, refl))
 
 area-size-requires : tie.Need-area-size-requires
@@ -31,7 +31,7 @@ area-size-requires c κs =
     let d = a .directory in
     let m = a .memory .now in
     let r = releaseOf (a .number) (a .t5) in
-    let passed = opening-facts d m (a .card) r (a .list .now) (first .opening .ensures) (c .if1 .left) in
+    let passed = opening-facts d m (a .card) r (a .list .now) (first .opening-refusal .ensures) (c .if1 .left) in
     omega (arith, fitting (passed .runs .fits) .within .pages-most)
 
 open-release-requires : tie.Need-open-release-requires
@@ -44,7 +44,7 @@ open-release-requires c κs =
     let d = a .directory in
     let m = a .memory .now in
     let r = releaseOf (a .number) (a .t5) in
-    let passed = opening-facts d m (a .card) r (a .list .now) (first .opening .ensures) (test .if1 .left) in
+    let passed = opening-facts d m (a .card) r (a .list .now) (first .opening-refusal .ensures) (test .if1 .left) in
     let area = area-in _ (passed .below) (fitting (passed .runs .fits) .within .whole) in
     let few = allowed-few (d .pages) (a .list .now) (passed .allowed) in
     let good = start .good .1 .1 .1 .1 .0 in
@@ -64,7 +64,7 @@ returns-2 c =
     let m = a .memory .now in
     let r = releaseOf (a .number) (a .t5) in
     let stored = rw (sized .area-size .ensures) at (stored-at .open-release .ensures) in
-    rw (opening-accepted d m (a .card) r (a .list .now) (first .opening .ensures) (test .if1 .left))
+    rw (opening-accepted d m (a .card) r (a .list .now) (first .opening-refusal .ensures) (test .if1 .left))
     (answered .answer-of .ensures, (refl, stored))
 
 pub open-release-spec : {M : Type 1} → statement M

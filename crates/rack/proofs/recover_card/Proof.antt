@@ -10,10 +10,20 @@ use Rattle.rack.proofs.Results.{recovery-facts, recovery-refused, recov
 use Rattle.rack.proofs.recover_card.Statement.{statement}
 use Rattle.rack.proofs.recover_card.Tie as tie
 
+recovery-requires : tie.Need-recovery-requires
+recovery-requires c κs =
+    let start = c .before .before .before .before .before .before .before .before in
+    let d = start .args .directory in
+    let arrays = start .good .1 .0 .1 .1 .1 .1 in
+    let marks : length (d .live) ≡ 8 = length-unmapped _ (d .live) 8 (arrays .0 .1 .0 .1) in
+    let primaries : length (d .primary) ≡ 64 = length-unmapped _ (d .primary) 64 (arrays .1 .0 .1 .0 .1) in
+    let secondaries : length (d .secondary) ≡ 64 = length-unmapped _ (d .secondary) 64 (arrays .1 .1 .0 .1 .0 .1) in
+    (marks, primaries, secondaries)
+
 returns : tie.Need-returns
 unfolding zeros
 returns c =
-    let start = c .before .before .before .before in
+    let start = c .before .before .before .before .before .before .before .before .before .before in
     let a = start .args in
     let d = a .directory in
     let m = a .memory .now in
@@ -25,7 +35,7 @@ recover-memory-requires c κs =
     let awaiting = c .before .before in
     let test = awaiting .before in
     let first = test .before in
-    let start = first .before .before .before in
+    let start = first .before .before .before .before .before .before .before .before .before in
     let a = start .args in
     let d = a .directory in
     let m = a .memory .now in
@@ -44,7 +54,7 @@ recovered-directory-requires : tie.Need-recovered-directory-requires
 recovered-directory-requires c κs =
     let test = c .before .before .before .before .before .before .before in
     let first = test .before in
-    let start = first .before .before .before in
+    let start = first .before .before .before .before .before .before .before .before .before in
     let a = start .args in
     let d = a .directory in
     let m = a .memory .now in
@@ -57,7 +67,7 @@ returns-2 c =
     let awaiting = recovering .before .before .before in
     let test = awaiting .before in
     let first = test .before in
-    let start = first .before .before .before in
+    let start = first .before .before .before .before .before .before .before .before .before in
     let a = start .args in
     let d = a .directory in
     let m = a .memory .now in
@@ -69,5 +79,4 @@ returns-2 c =
 pub recover-card-spec : {M : Type 1} → statement M
 recover-card-spec =
     tie.close
-    (tie.spec (λ c κs. search needs) (λ c. search needs) returns (λ c κs. search needs) (λ c. search needs)
-    recover-memory-requires recovered-directory-requires (λ c. search needs) (λ c. search needs) returns-2)
+    (tie.spec (λ c. search needs) (λ c. search needs) (λ c. search needs) recovery-requires (λ c. search needs) returns (λ c κs. search needs) (λ c. search needs) recover-memory-requires recovered-directory-requires (λ c. search needs) (λ c. search needs) returns-2)

@@ -1,61 +1,55 @@
 -- Rests on the order of checks: those for a card, then its own tests in the same order.
-use mathlib.Core.Path.{_≡_, refl, sym, _∙_}
+use mathlib.Core.Path.{refl, sym, _∙_}
 use native.Mathlib.Omega.{arith}
-use borrow.Author.Needs.{needs, length-unmapped}
-use lib.ListN.{length}
-use Rattle.protocol.specs.Checks.{cardChecks}
+use borrow.Author.Needs.{needs}
+use Rattle.directory.specs.Directory.{directoryOf}
 use Rattle.checks.proofs.Order.{refused-before, passed-before, first-refuses, first-passes, last-passes}
-use Rattle.refusals.proofs.Passing.{card-within}
+use Rattle.checks.proofs.Passing.{card-within}
 use Rattle.refusals.proofs.join.Statement.{statement}
 use Rattle.refusals.proofs.join.Tie as tie
 
 returns : tie.Need-returns
 returns c =
-    let first = c .before .before in
-    let start = first .before .before in
+    let test = c .before in
+    rw (refused-before _ _ _ refl (test .before .card .ensures) (test .if1 .taken)) (c .refused .ensures)
+
+mark-read : tie.Need-shared-slice-read-if2
+mark-read c =
+    let test = c .before in
+    let start = c .before .before .before .before .before .before .before in
     let a = start .args in
-    let checks = cardChecks (a .directory) (a .memory .now) (a .card) in
-    rw (refused-before _ _ checks refl (first .card .ensures) (c .before .if1 .taken)) (c .refused .ensures)
+    let d = directoryOf (a .cards) (a .pages) (a .live .now) (a .primary .now) (a .secondary .now) (a .status) in
+    let arrays = start .pre in
+    let card = card-within d (a .memory .now) (a .card) (test .before .card .ensures) (test .if1 .left) in
+    omega (arith, card .0 .cards-most, card .1)
 
 returns-2 : tie.Need-returns-2
 returns-2 c =
-    let marked = c .before .before in
-    let test = marked .before in
-    let first = test .before in
-    let start = first .before .before in
-    let a = start .args in
-    let checks = cardChecks (a .directory) (a .memory .now) (a .card) in
+    let test = c .before .before .before in
     rw (
-      passed-before _ _ checks refl (first .card .ensures) (test .if1 .left),
-      first-refuses _ _ _ _ _ (sym (marked .is-live .ensures) ∙ c .before .if2 .taken),
+      passed-before _ _ _ refl (test .before .card .ensures) (test .if1 .left),
+      first-refuses _ _ _ _ _ (c .before .if2 .taken),
     )
     (c .refused2 .ensures)
 
 any-open-requires : tie.Need-any-open-requires
 any-open-requires c κs =
-    let test = c .before .before .before .before in
-    let first = test .before in
-    let start = first .before .before in
+    let test = c .before .before in
+    let start = c .before .before .before .before .before .before .before .before in
     let a = start .args in
-    let d = a .directory in
-    let arrays = start .good .1 .0 .1 .1 .1 .1 in
-    let marks : length (d .live) ≡ 8 = length-unmapped _ (d .live) 8 (arrays .0 .1 .0 .1) in
-    let within = card-within d (a .memory .now) (a .card) (first .card .ensures) (test .if1 .left) .0 in
+    let d = directoryOf (a .cards) (a .pages) (a .live .now) (a .primary .now) (a .secondary .now) (a .status) in
+    let arrays = start .pre in
+    let within = card-within d (a .memory .now) (a .card) (test .before .card .ensures) (test .if1 .left) .0 in
     ((within .pages-most, within .whole), omega arith)
 
 returns-3 : tie.Need-returns-3
 returns-3 c =
     let searched = c .before .before in
-    let test-2 = searched .before .before .before in
-    let marked = test-2 .before in
-    let test = marked .before in
-    let first = test .before in
-    let start = first .before .before in
-    let a = start .args in
-    let checks = cardChecks (a .directory) (a .memory .now) (a .card) in
+    let test-2 = searched .before in
+    let test = test-2 .before .before in
     rw (
-      passed-before _ _ checks refl (first .card .ensures) (test .if1 .left),
-      first-passes _ _ _ _ _ (sym (marked .is-live .ensures) ∙ test-2 .if2 .left),
+      passed-before _ _ _ refl (test .before .card .ensures) (test .if1 .left),
+      first-passes _ _ _ _ _ (test-2 .if2 .left),
       first-refuses _ _ _ _ _ (sym (searched .any-open .ensures) ∙ c .before .if3 .taken),
     )
     (c .refused3 .ensures)
@@ -63,16 +57,11 @@ returns-3 c =
 returns-4 : tie.Need-returns-4
 returns-4 c =
     let searched = c .before .before in
-    let test-2 = searched .before .before .before in
-    let marked = test-2 .before in
-    let test = marked .before in
-    let first = test .before in
-    let start = first .before .before in
-    let a = start .args in
-    let checks = cardChecks (a .directory) (a .memory .now) (a .card) in
+    let test-2 = searched .before in
+    let test = test-2 .before .before in
     rw (
-      passed-before _ _ checks refl (first .card .ensures) (test .if1 .left),
-      first-passes _ _ _ _ _ (sym (marked .is-live .ensures) ∙ test-2 .if2 .left),
+      passed-before _ _ _ refl (test .before .card .ensures) (test .if1 .left),
+      first-passes _ _ _ _ _ (test-2 .if2 .left),
       last-passes _ _ _ _ (sym (searched .any-open .ensures) ∙ c .before .if3 .left),
     )
     (c .refused4 .ensures)
@@ -80,6 +69,5 @@ returns-4 c =
 pub join-spec : {M : Type 1} → statement M
 join-spec =
     tie.close
-    (tie.spec (λ c κs. search needs) (λ c κs. search needs) returns (λ c κs. search needs)
-    (λ c κs. search needs) returns-2 (λ c. search needs) any-open-requires (λ c κs. search needs) returns-3
-    (λ c κs. search needs) returns-4)
+    (tie.spec (λ c κs. search needs) (λ c κs. search needs) returns mark-read (λ c κs. search needs) returns-2
+    any-open-requires (λ c κs. search needs) returns-3 (λ c κs. search needs) returns-4)

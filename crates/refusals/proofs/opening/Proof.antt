@@ -1,46 +1,34 @@
 -- Rests on the order of checks: those for a live card, then those for number and list.
-use mathlib.Core.Path.{_≡_, refl}
+use mathlib.Core.Path.{refl}
 use native.Mathlib.Omega.{arith}
-use borrow.Author.Needs.{needs, length-unmapped}
-use lib.ListN.{length}
-use Rattle.protocol.specs.Checks.{liveCardChecks}
+use borrow.Author.Needs.{needs}
+use Rattle.directory.specs.Directory.{directoryOf}
 use Rattle.checks.proofs.Order.{refused-before, passed-before}
-use Rattle.refusals.proofs.Passing.{live-card-within}
+use Rattle.checks.proofs.Passing.{live-card-within}
 use Rattle.refusals.proofs.opening.Statement.{statement}
 use Rattle.refusals.proofs.opening.Tie as tie
 
 returns : tie.Need-returns
 returns c =
-    let first = c .before .before in
-    let start = first .before .before .before in
-    let a = start .args in
-    let checks = liveCardChecks (a .directory) (a .memory .now) (a .card) in
-    rw (refused-before _ _ checks refl (first .live-card .ensures) (c .before .if1 .taken)) (c .refused .ensures)
+    let test = c .before in
+    rw (refused-before _ _ _ refl (test .before .live-card .ensures) (test .if1 .taken)) (c .refused .ensures)
 
 number-refusal-requires : tie.Need-number-refusal-requires
 number-refusal-requires c κs =
-    let test = c .before .before in
-    let first = test .before in
-    let start = first .before .before .before in
+    let start = c .before .before .before .before .before .before .before in
     let a = start .args in
-    let d = a .directory in
-    let arrays = start .good .1 .0 .1 .1 .1 .1 in
-    let marks : length (d .live) ≡ 8 = length-unmapped _ (d .live) 8 (arrays .0 .1 .0 .1) in
-    let card = live-card-within d (a .memory .now) (a .card) (first .live-card .ensures) (test .if1 .left) in
+    let d = directoryOf (a .cards) (a .pages) (a .live .now) (a .primary .now) (a .secondary .now) (a .status) in
+    let arrays = start .pre in
+    let card = live-card-within d (a .memory .now) (a .card) (c .before .live-card .ensures) (c .if1 .left) in
     let within = card .0 in
     ((within .pages-most, within .whole), (omega arith, card .1))
 
 returns-2 : tie.Need-returns-2
 returns-2 c =
-    let test = c .before .before .before in
-    let first = test .before in
-    let start = first .before .before .before in
-    let a = start .args in
-    let checks = liveCardChecks (a .directory) (a .memory .now) (a .card) in
-    rw (passed-before _ _ checks refl (first .live-card .ensures) (test .if1 .left)) (c .number-refusal .ensures)
+    let test = c .before in
+    rw (passed-before _ _ _ refl (test .before .live-card .ensures) (test .if1 .left)) (c .number-refusal .ensures)
 
 pub opening-spec : {M : Type 1} → statement M
 opening-spec =
     tie.close
-    (tie.spec (λ c κs. search needs) (λ c κs. search needs) returns (λ c. search needs) number-refusal-requires
-    returns-2)
+    (tie.spec (λ c κs. search needs) (λ c κs. search needs) returns number-refusal-requires returns-2)

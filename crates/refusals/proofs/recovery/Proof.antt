@@ -2,34 +2,29 @@
 use mathlib.Core.Bool.{not}
 use mathlib.Core.Path.{refl, ap}
 use borrow.Author.Needs.{needs}
-use Rattle.protocol.specs.Checks.{fittingChecks, awaitsRecovery}
+use Rattle.protocol.specs.Checks.{awaitsRecovery}
 use Rattle.checks.proofs.Order.{refused-before, passed-before, first-refuses, last-passes}
 use Rattle.refusals.proofs.recovery.Statement.{statement}
 use Rattle.refusals.proofs.recovery.Tie as tie
 
 returns : tie.Need-returns
-returns c =
-    let a = c .before .before .before .args in
-    let checks = fittingChecks (a .directory) (a .memory .now) in
-    rw (refused-before _ _ checks refl (c .before .fitting .ensures) (c .if1 .taken))
+returns c = rw (refused-before _ _ _ refl (c .before .fitting .ensures) (c .if1 .taken))
 
 returns-2 : tie.Need-returns-2
 unfolding awaitsRecovery
 returns-2 c =
-    let a = c .before .before .before .before .before .args in
-    let checks = fittingChecks (a .directory) (a .memory .now) in
+    let test = c .before .before in
     rw (
-      passed-before _ _ checks refl (c .before .before .before .fitting .ensures) (c .before .before .if1 .left),
+      passed-before _ _ _ refl (test .before .fitting .ensures) (test .if1 .left),
       first-refuses _ _ _ _ _ (ap (λ s. not (awaitsRecovery s)) (c .enum-told .given .1)),
     )
 
 returns-3 : tie.Need-returns-3
 unfolding awaitsRecovery
 returns-3 c =
-    let a = c .before .before .before .before .before .args in
-    let checks = fittingChecks (a .directory) (a .memory .now) in
+    let test = c .before .before in
     rw (
-      passed-before _ _ checks refl (c .before .before .before .fitting .ensures) (c .before .before .if1 .left),
+      passed-before _ _ _ refl (test .before .fitting .ensures) (test .if1 .left),
       last-passes _ _ _ _ (ap (λ s. not (awaitsRecovery s)) (c .enum-told2 .given .1)),
     )
 
