@@ -25,3 +25,20 @@ module _ (pages : ℕ) (s : Cursor) (index w : ℕ) (steady : Steady s) where
 
   pub word-kept : (step : Step) → step ≡ wordStep pages s index w → Kept (s .prices + 1) step
   word-kept step e = subst (Kept (s .prices + 1)) (sym e) (case-kept (word-case pages s index w))
+
+-- a word that is no price counts none, and names a page of the rack
+abbrev pub Passed : ℕ → ℕ → Step → Type 0
+Passed pages prices (Next t) = (t .prices ≡ prices) × (t .next ≤ pages)
+Passed pages prices End = Unit {0}
+Passed pages prices Fault = Unit {0}
+
+module _ (pages : ℕ) (s : Cursor) (index w : ℕ) (idle : s .due ≤ 0) (named : s .next ≤ pages) where
+  case-passed : {step : Step} → WordCase pages s index w step → Passed pages (s .prices) step
+  case-passed (a-price due) = omega arith
+  case-passed (a-page none one gap up fits) = omega arith
+  case-passed (a-run none two first some fits past) = omega arith
+  case-passed (an-end none fifteen gap own) = tt
+  case-passed (a-fault none) = tt
+
+  pub word-passed : (step : Step) → step ≡ wordStep pages s index w → Passed pages (s .prices) step
+  word-passed step e = subst (Passed pages (s .prices)) (sym e) (case-passed (word-case pages s index w))

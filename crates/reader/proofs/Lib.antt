@@ -1,3 +1,5 @@
 -- Laws on reading that the reader's loops cite.
 pub mod Turns
 pub mod Keeping
+pub mod Listing
+pub mod Lent

@@ -1,3 +1,4 @@
 -- What the contracts of the reader cite beside the definitions of `diff`.
 pub mod Steady
 pub mod Found
+pub mod Listed

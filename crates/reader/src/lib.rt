@@ -2,14 +2,17 @@
 // area, and one price.
 ghost use mathlib.Core.Path.{_≡_};
 ghost use Prim.Native.Nat.{_+_, _<_, _≤_};
+ghost use mathlib.Core.List.{map};
 ghost use lib.ListN.{length};
+ghost use lib.Seq.{sets};
 ghost use Rattle.answer.specs.Outcome.{answerOf};
 ghost use Rattle.memory.specs.Layout.{listStart, listSize};
 ghost use Rattle.memory.specs.Area.{AreaIn, loadRun};
 ghost use Rattle.diff.specs.Reading.{start, pastPrice, pageStep, runStep, endStep, wordStep, readDiff, checkDiff};
-ghost use Rattle.diff.specs.Prices.{pricesOf};
+ghost use Rattle.diff.specs.Prices.{labelOf, pricesOf};
 ghost use Rattle.reader.specs.Steady.{Steady};
 ghost use Rattle.reader.specs.Found.{nthPrice};
+ghost use Rattle.reader.specs.Listed.{priceOf};
 use answer::Answer;
 use diff::Cursor;
 use diff::Price;
@@ -228,4 +231,66 @@ pub fn nth_stored(memory: &[u32], size: usize, card: usize, pages: u32, n: u32) 
     let from = card * size + memory::LIST_START;
     let end = from + memory::LIST_SIZE;
     nth_price(&memory[from..end], pages, n)
+}
+
+// Lists the prices of a diff: label j (32 × page + word) and price j, from 0 on. The words after
+// the last one are kept.
+pub fn list_prices(list: &[u32], pages: u32, labels: &mut [u32], prices: &mut [u32])
+    requires { ⌜ (length (now list) ≤ 512) × (pages ≤ 64) ⌝ }
+    requires { ⌜ (length (now labels) ≡ 512) × (length (now prices) ≡ 512) ⌝ }
+    ensures labels { λ _. ⌜ now (labels .exit)
+        ≡ sets (now (labels .entry)) 0 (map labelOf (pricesOf pages (now (list .entry)))) ⌝ }
+    ensures prices { λ _. ⌜ now (prices .exit)
+        ≡ sets (now (prices .entry)) 0 (map priceOf (pricesOf pages (now (list .entry)))) ⌝ }
+{
+    let mut s = cursor();
+    let mut index: usize = 0;
+    while index < list.len() {
+        let w = list[index];
+        if 0 < s.due {
+            let at = s.prices as usize;
+            labels[at] = 32 * (s.next - 1) + s.word;
+            prices[at] = w;
+            s = price_read(s);
+            index += 1;
+        } else {
+            match read_word(s, w, index, pages) {
+                Step::Next(t) => {
+                    s = t;
+                    index += 1;
+                }
+                Step::End => {
+                    return;
+                }
+                Step::Fault => {
+                    return;
+                }
+            }
+        }
+    }
+}
+
+// Lists the prices of the list of the open release in a card's area.
+pub fn list_stored(
+    memory: &[u32],
+    size: usize,
+    card: usize,
+    pages: u32,
+    labels: &mut [u32],
+    prices: &mut [u32],
+)
+    requires { ⌜ (676 ≤ size) × AreaIn (length (now memory)) size card × (pages ≤ 64) ⌝ }
+    requires { ⌜ (length (now labels) ≡ 512) × (length (now prices) ≡ 512) ⌝ }
+    ensures labels { λ _. ⌜ now (labels .exit)
+        ≡ sets (now (labels .entry)) 0
+        (map labelOf
+        (pricesOf pages (loadRun size (now (memory .entry)) card listStart listSize))) ⌝ }
+    ensures prices { λ _. ⌜ now (prices .exit)
+        ≡ sets (now (prices .entry)) 0
+        (map priceOf
+        (pricesOf pages (loadRun size (now (memory .entry)) card listStart listSize))) ⌝ }
+{
+    let from = card * size + memory::LIST_START;
+    let end = from + memory::LIST_SIZE;
+    list_prices(&memory[from..end], pages, labels, prices);
 }

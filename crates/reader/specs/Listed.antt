@@ -1,0 +1,8 @@
+-- What a list of prices is written out as, beside its labels (`labelOf`).
+-- Assumes nothing: these are definitions.
+use Prim.Native.Nat.{ℕ}
+use Rattle.diff.specs.declared.Price.{Price}
+
+-- the number that a price sets its word to
+abbrev pub priceOf : Price → ℕ
+priceOf p = p .price
