@@ -1,6 +1,6 @@
 -- Several steps of a release: those that it has left fall one by one.
 use Prim.Native.Nat.{ℕ, suc, _+_, _-_, _<_, _≤_}
-use mathlib.Core.Path.{_≡_, refl, _∙_}
+use mathlib.Core.Path.{_≡_, refl, ap, _∙_}
 use mathlib.Core.List.{List}
 use native.Mathlib.Omega.{arith}
 use lib.ListN.{length}
@@ -60,6 +60,12 @@ module _ (d : Directory) (backup : ℕ) (c : ℕ) (few : c < 8) where
       let next = steps-more d backup m c few area (omega arith) in
       record { prices = rw (list-kept (sizeOf d) m _ c kept) (some .prices); few = some .few; counts = omega arith }
 
+  -- a step that is not the close keeps the list
+  pub list-after : (m : List ℕ) → AreaIn (length m) (sizeOf d) c → {k left : ℕ}
+      → StepsLeft (d .pages) m c k (left + 1) → 0 < left
+      → openList (sizeOf d) (stepMemory d backup m c) c ≡ openList (sizeOf d) m c
+  list-after m area some more = list-kept (sizeOf d) m _ c (step-keeps-own d backup m c few area (omega arith))
+
 -- ---- a loop of steps
 
 -- how far it is: what is left of the steps gives what all of them give
@@ -67,11 +73,12 @@ pub record StepsMade (d : Directory) (backup c k : ℕ) (before : List ℕ) (tot
   where
     pub same : length m ≡ length before
     pub some : 0 < left → StepsLeft (d .pages) m c k left
+    pub list : 0 < left → openList (sizeOf d) m c ≡ openList (sizeOf d) before c
     pub rest : stepTimes d backup c left m ≡ stepTimes d backup c total before
 
 module _ {d : Directory} {backup c k : ℕ} {before : List ℕ} {total : ℕ} where
   pub steps-none : StepsLeft (d .pages) before c k total → StepsMade d backup c k before total before total
-  steps-none some = record { same = refl; some = λ _. some; rest = refl }
+  steps-none some = record { same = refl; some = λ _. some; list = λ _. refl; rest = refl }
 
   pub steps-one : {m next : List ℕ} {left : ℕ} → c < 8 → AreaIn (length before) (sizeOf d) c
       → StepsMade d backup c k before total m left → 0 < left → length next ≡ length m → next ≡ stepMemory d backup m c
@@ -80,9 +87,13 @@ module _ {d : Directory} {backup c k : ℕ} {before : List ℕ} {total : ℕ} wh
   steps-one {m} {next} {left} few area far more same made =
       let one : left ≡ left - 1 + 1 = omega arith in
       let first : left ≡ suc (left - 1) = omega arith in
+      let here : AreaIn (length m) (sizeOf d) c = rw (far .same) area in
+      let some = rw one at (far .some more) in
       record {
         same = same ∙ far .same;
-        some = λ again. rw made (left-after d backup c few m (rw (far .same) area) (rw one at (far .some more)) again);
+        some = λ again. rw made (left-after d backup c few m here some again);
+        list = λ again.
+            ap (λ x. openList (sizeOf d) x c) made ∙ list-after d backup c few m here some again ∙ far .list more;
         rest = rw made (rw first at (far .rest));
       }
 

@@ -1,24 +1,33 @@
--- The prices of an open release: how many there are, and the one that is found by its number.
-use Prim.Native.Nat.{ℕ, zero, suc, _<_}
-use mathlib.Core.Path.{_≡_, refl, sym, _∙_}
-use mathlib.Core.List.{List, [], _∷_}
+-- The prices of an open release: how many there are, the one that is found by its number, and a table of them.
+use Prim.Native.Nat.{ℕ, zero, suc, _+_, _-_, _*_, _/_, _%_, _<_, _≤_}
+use mathlib.Core.Path.{_≡_, refl, sym, ap, _∙_}
+use mathlib.Core.List.{List, [], _∷_, map}
+use mathlib.Core.Bool.{Bool, true, false}
 use native.Mathlib.Omega.{arith}
-use lib.ListN.{length, getD}
+use borrow.Author.Tests.{lt-ltb, le-ltb, ltb-true, ltb-false}
+use lib.ListN.{length, getD, List·getD-eq-default}
+use lib.Seq.{sets}
+use lib.Dec.{ltb}
+use Rattle.laws.proofs.Bools.{by-cond}
 use Rattle.memory.specs.Layout.{areaSize, listStart, listSize}
-use Rattle.memory.specs.Area.{loadRun}
+use Rattle.memory.specs.Area.{AreaIn, loadRun}
+use Rattle.memory.proofs.Runs.{length-load-run}
 use Rattle.diff.specs.declared.Price.{Price}
 use Rattle.diff.specs.declared.Verdict.{Verdict}
 use Rattle.diff.specs.declared.Verdict.the-variants.{Good, Faulty}
 use Rattle.diff.specs.Reading.{start, readDiff}
-use Rattle.diff.specs.Prices.{pricesOf}
+use Rattle.diff.specs.Prices.{labelOf, pricesOf}
 use Rattle.diff.proofs.Derivation.{not-good, good-prices}
 use Rattle.diff.proofs.Stored.{good-counts, good-few, prices-on-pages, price-on-page}
 use Rattle.reader.specs.declared.Found.{Found}
 use Rattle.reader.specs.declared.Found.the-variants.{Priced, Nothing}
 use Rattle.reader.specs.Found.{nthPrice}
+use Rattle.reader.specs.Listed.{priceOf}
+use Rattle.reader.proofs.Listing.{listed-at, few-prices}
 use Rattle.protocol.specs.Release.{openList, openPrices}
 use Rattle.protocol.proofs.Writes.{noPrice}
-use Rattle.release.specs.Stepping.{GoodRelease, Counted}
+use Rattle.release.specs.Stepping.{GoodRelease, Counted, Listed}
+use Rattle.release.specs.Stepping.{priceNumber, NumberedPrice, listedPrice}
 
 -- what reading the list of a good release finds: as many prices as it says, and they are few
 module _ (pages size : ℕ) (m : List ℕ) (card : ℕ) (sized : size ≡ areaSize pages) (good : GoodRelease pages m card)
@@ -41,33 +50,105 @@ module _ (pages size : ℕ) (m : List ℕ) (card : ℕ) (sized : size ≡ areaSi
 
 -- ---- a price by its number
 
-nth-price-at : (ps : List Price) (n : ℕ) → n < length ps → nthPrice ps n ≡ Priced (getD ps n noPrice)
-unfolding nthPrice
-nth-price-at [] n within = absurd (omega arith)
-nth-price-at (p ∷ ps) zero within = refl
-nth-price-at (p ∷ ps) (suc n) within = nth-price-at ps n (omega arith)
+module _ (p : Price) where
+  numbered : (ps : List Price) (n : ℕ) → nthPrice ps n ≡ Priced p → getD ps n p ≡ p
+  unfolding nthPrice
+  numbered [] n is = refl
+  numbered (q ∷ ps) zero is = cc
+  numbered (q ∷ ps) (suc n) is = numbered ps n is
 
-same-priced : {p q : Price} → Priced p ≡ Priced q → p ≡ q
-same-priced e = cc
+  past-last : (ps : List Price) (n : ℕ) → nthPrice ps n ≡ Nothing → getD ps n p ≡ p
+  unfolding nthPrice
+  past-last [] n is = refl
+  past-last (q ∷ ps) zero is = absurd (let z : _≡_ {A = ℕ} 0 1 = cc in omega arith)
+  past-last (q ∷ ps) (suc n) is = past-last ps n is
 
-not-nothing : {p : Price} → Nothing ≡ Priced p → ⊥
-not-nothing e = let z : _≡_ {A = ℕ} 0 1 = cc in omega arith
+  any-default : (ps : List Price) (n : ℕ) (q : Price) → n < length ps → getD ps n p ≡ getD ps n q
+  any-default [] n q within = absurd (omega arith)
+  any-default (r ∷ ps) zero q within = refl
+  any-default (r ∷ ps) (suc n) q within = any-default ps n q (omega arith)
 
--- what a search for price n of the open release finds, where it has so many
+-- what a search for price n of the open release finds
 module _ (pages size : ℕ) (m : List ℕ) (card n : ℕ) (sized : size ≡ areaSize pages) {found : Found}
-    (finds : found ≡ nthPrice (pricesOf pages (loadRun size m card listStart listSize)) n)
-    (within : n < length (openPrices pages m card)) where
-  finds-price : found ≡ Priced (getD (openPrices pages m card) n noPrice)
+    (finds : found ≡ nthPrice (pricesOf pages (loadRun size m card listStart listSize)) n) (p : Price) where
+  pub found-price : found ≡ Priced p → NumberedPrice pages m card n p
   unfolding openList
-  finds-price = (rw sized at finds) ∙ nth-price-at (openPrices pages m card) n within
+  found-price is = numbered p (openPrices pages m card) n (sym (rw sized at finds) ∙ is)
 
-  pub found-price : {p : Price} → found ≡ Priced p
-      → (p ≡ getD (openPrices pages m card) n noPrice) × (p .page < pages) × (p .word < 32)
-  found-price is =
-      let same = same-priced (sym is ∙ finds-price) in
-      let all = prices-on-pages pages (openList (areaSize pages) m card) in
-      let on = price-on-page pages (openPrices pages m card) n noPrice all within in
-      (same, rw same (on .0), rw same (on .1))
+  pub found-nothing : found ≡ Nothing → NumberedPrice pages m card n p
+  unfolding openList
+  found-nothing is = past-last p (openPrices pages m card) n (sym (rw sized at finds) ∙ is)
 
-  pub found-nothing : found ≡ Nothing → ⊥
-  found-nothing is = not-nothing (sym is ∙ finds-price)
+-- ---- the price that a step stores
+
+module _ (pages : ℕ) (m : List ℕ) (card : ℕ) where
+  abbrev prices : List Price
+  prices = openPrices pages m card
+
+  -- the price of this number is on a page of the rack
+  pub record PriceAt (n : ℕ) (p : Price) : Type 0 where
+    pub is : p ≡ getD prices n noPrice
+    pub on-page : p .page < pages
+    pub in-page : p .word < 32
+
+  price-at : (n : ℕ) (p : Price) → n < length prices → NumberedPrice pages m card n p → PriceAt n p
+  price-at n p within numbered =
+      let on = price-on-page pages prices n p (prices-on-pages pages (openList (areaSize pages) m card)) within in
+      record {
+        is = sym numbered ∙ any-default p prices n noPrice within;
+        on-page = rw numbered at (on .0);
+        in-page = rw numbered at (on .1);
+      }
+
+  module _ (k steps : ℕ) (p : Price) (counted : k ≡ length prices)
+      (due : NumberedPrice pages m card (priceNumber k steps) p) where
+    pub tentative-price : steps < 2 * k → PriceAt (steps / 2) p
+    tentative-price below = price-at (steps / 2) p (omega arith) (rw (lt-ltb _ _ below) at due)
+
+    pub committed-price : 2 * k + 9 ≤ steps → steps < 4 * k + 9 → PriceAt ((steps - (2 * k + 9)) / 2) p
+    committed-price past below =
+        price-at ((steps - (2 * k + 9)) / 2) p (omega arith) (rw (le-ltb steps (2 * k) (omega arith)) at due)
+
+-- ---- a table of prices
+
+-- it has a place for each number that a step asks for
+pub number-listed : (k steps : ℕ) {long : ℕ} → k < 512 → steps ≤ 4 * k + 10 → long ≡ 512 → priceNumber k steps < long
+number-listed k steps {long} few most is =
+    by-cond (λ n. n < long) (ltb steps (2 * k)) _ _ (λ below. omega (arith, ltb-true)) (λ past. omega arith)
+
+-- label and price of the same number are a price
+from-label : (p : Price) (label price : ℕ) → p .word < 32 → label ≡ labelOf p → price ≡ priceOf p
+    → p ≡ record { page = label / 32; word = label % 32; price = price }
+from-label p label price in-page of-label of-price =
+    let page : label / 32 ≡ p .page = omega arith in
+    let word : label % 32 ≡ p .word = omega arith in
+    rw (page, word, of-price)
+
+module _ (pages size : ℕ) (m : List ℕ) (card : ℕ) (sized : size ≡ areaSize pages) (out : List ℕ)
+    {labels prices : List ℕ} (long : length out ≡ 512) (long-labels : length labels ≡ 512) (long-prices : length prices ≡ 512)
+    (of-labels : labels ≡ sets out 0 (map labelOf (pricesOf pages (loadRun size m card listStart listSize))))
+    (of-prices : prices ≡ sets out 0 (map priceOf (pricesOf pages (loadRun size m card listStart listSize)))) where
+  abbrev ps : List Price
+  ps = openPrices pages m card
+
+  listed-price : AreaIn (length m) size card → 676 ≤ size → (n : ℕ) (below : Bool) → ltb n (length ps) ≡ below
+      → NumberedPrice pages m card n (listedPrice labels prices n)
+  unfolding openList
+  listed-price area big n true test =
+      let within = ltb-true n (length ps) test in
+      let q = listedPrice labels prices n in
+      let run = length-load-run size m card listStart listSize area (omega arith) in
+      let few : length ps ≤ 512 = omega (arith, rw sized at run, few-prices pages (openList (areaSize pages) m card)) in
+      let on = price-on-page pages ps n q (prices-on-pages pages (openList (areaSize pages) m card)) within in
+      let label = ap (λ xs. getD xs n 0) (rw sized at of-labels) ∙ listed-at labelOf ps out n q (omega arith) within in
+      let price = ap (λ xs. getD xs n 0) (rw sized at of-prices) ∙ listed-at priceOf ps out n q (omega arith) within in
+      from-label (getD ps n q) _ _ (on .1) label price
+  listed-price area big n false test = List·getD-eq-default ps _ (ltb-false n (length ps) test)
+
+  pub listed : AreaIn (length m) size card → 676 ≤ size → Listed pages m card labels prices
+  listed area big =
+      record {
+        labels-long = long-labels;
+        prices-long = long-prices;
+        is = λ n. listed-price area big n (ltb n (length ps)) refl;
+      }

@@ -1,20 +1,21 @@
 -- What a step relies on: a memory of its stated length, homes that are cards, and a release whose list reads well.
 -- A rack that passed its checks has it.
-use Prim.Native.Nat.{ℕ, _*_, _+_, _-_, _%_, _<_, _≤_}
+use Prim.Native.Nat.{ℕ, _*_, _+_, _-_, _/_, _%_, _<_, _≤_}
 use mathlib.Core.Path.{_≡_}
 use mathlib.Core.List.{List}
 use mathlib.Core.Bool.{Bool, cond}
 use lib.ListN.{length, getD}
-use lib.Dec.{eqb}
+use lib.Dec.{ltb, eqb}
 use Rattle.memory.specs.Layout.{areaSize}
 use Rattle.memory.specs.Area.{AreaIn}
 use Rattle.directory.specs.declared.Directory.{Directory}
 use Rattle.directory.specs.declared.Status.the-variants.{Running}
 use Rattle.directory.specs.Directory.{directoryOf}
+use Rattle.diff.specs.declared.Price.{Price}
 use Rattle.diff.specs.declared.Verdict.the-variants.{Good}
 use Rattle.diff.specs.Reading.{readDiff}
 use Rattle.protocol.specs.Release.{sizeOf, openRelease, openList, openPrices, stepsOf, stepsIn}
-use Rattle.protocol.specs.Release.{Write, noWrite, releaseWrites}
+use Rattle.protocol.specs.Release.{Write, noWrite, releaseWrites, makeWrite}
 
 -- a card with a mark, and with an area in a memory of so many words
 pub record CardIn (live : List Bool) (words size card : ℕ) : Type 0 where
@@ -61,6 +62,34 @@ homesOf pages live primary secondary = directoryOf 0 pages live primary secondar
 abbrev pub storeAfter : Directory → ℕ → List ℕ → ℕ → ℕ → Write
 storeAfter d backup m card steps =
     getD (releaseWrites d backup card (openRelease (sizeOf d) m card) (openPrices (d .pages) m card)) steps noWrite
+
+-- the memory after it
+abbrev pub afterStore : ℕ → List Bool → List ℕ → List ℕ → ℕ → List ℕ → ℕ → ℕ → List ℕ
+afterStore pages live primary secondary backup m card steps =
+    makeWrite live (areaSize pages) m (storeAfter (homesOf pages live primary secondary) backup m card steps)
+
+-- the number of the price that this step stores, of a release of k prices; 0 where it stores another word
+abbrev pub priceNumber : ℕ → ℕ → ℕ
+priceNumber k steps = cond (ltb steps (2 * k)) (steps / 2) ((steps - (2 * k + 9)) / 2)
+
+-- p is the price of this number of the release open on a card, if it has so many
+abbrev pub NumberedPrice : ℕ → List ℕ → ℕ → ℕ → Price → Type 0
+NumberedPrice pages m card n p = getD (openPrices pages m card) n p ≡ p
+
+-- p is the price that the next step stores, if it stores one
+abbrev pub PriceDue : ℕ → List ℕ → ℕ → ℕ → Price → Type 0
+PriceDue pages m card k p = NumberedPrice pages m card (priceNumber k (stepsOf (areaSize pages) m card)) p
+
+-- the price of this number in a table of labels and prices
+abbrev pub listedPrice : List ℕ → List ℕ → ℕ → Price
+listedPrice labels prices n =
+    record { page = getD labels n 0 / 32; word = getD labels n 0 % 32; price = getD prices n 0 }
+
+-- a table of the prices of the release open on a card
+pub record Listed (pages : ℕ) (m : List ℕ) (card : ℕ) (labels prices : List ℕ) : Type 0 where
+  pub labels-long : length labels ≡ 512
+  pub prices-long : length prices ≡ 512
+  pub is : (n : ℕ) → NumberedPrice pages m card n (listedPrice labels prices n)
 
 -- the home of a page that the store of this number goes to, among those of one half: secondary if even, else primary
 abbrev pub homeAt : List ℕ → List ℕ → ℕ → ℕ → ℕ

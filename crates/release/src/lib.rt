@@ -3,17 +3,18 @@
 ghost use mathlib.Core.Path.{_≡_};
 ghost use Prim.Native.Nat.{_+_, _*_, _<_, _≤_};
 ghost use lib.ListN.{length, getD};
-ghost use Rattle.memory.specs.Layout.{areaSize, recordStamp, recordDesk};
+ghost use Rattle.memory.specs.Layout.{areaSize, pageStart, recordStamp, recordDesk};
 ghost use Rattle.memory.specs.Area.{AreaIn};
-ghost use Rattle.protocol.specs.Release.{releaseOf, openRelease, openPrices, writeOf, noWrite};
-ghost use Rattle.protocol.specs.Release.{priceWrites, makeWrite, close, stepMemory};
+ghost use Rattle.protocol.specs.Release.{releaseOf, openRelease, writeOf, makeWrite, close};
+ghost use Rattle.protocol.specs.Release.{stepMemory};
 ghost use Rattle.protocol.specs.Opening.{openMemory};
 ghost use Rattle.release.specs.Stepping.{CardIn, HomesIn, GoodRelease, Counted};
-ghost use Rattle.release.specs.Stepping.{homesOf, storeAfter, homeAt};
+ghost use Rattle.release.specs.Stepping.{homesOf, homeAt, afterStore, priceNumber};
+ghost use Rattle.release.specs.Stepping.{NumberedPrice, PriceDue};
 
 mod running;
 
-use diff::Verdict;
+use diff::Price;
 use reader::Found;
 pub use running::Left;
 pub use running::make_steps;
@@ -102,39 +103,30 @@ fn home_at(primary: &[u32], secondary: &[u32], page: usize, at: u32) -> u32
 }
 
 // The store numbered `at` of the 2k that write one half of the pages: of each price in order at
-// the secondary, then at the primary.
+// the secondary, then at the primary. The price is number at / 2.
 fn step_price(
     memory: &mut [u32],
     pages: u32,
     live: &[bool],
     primary: &[u32],
     secondary: &[u32],
-    card: usize,
+    p: Price,
     at: u32,
     half: usize,
 )
     requires { ⌜ HomesIn (now live) pages (now primary) (now secondary) (length (now memory)) ⌝ }
-    requires { ⌜ CardIn (now live) (length (now memory)) (areaSize pages) card ⌝ }
-    requires { ⌜ (at < 2 * length (openPrices pages (now memory) card)) × (half ≤ 32) ⌝ }
+    requires { ⌜ (p .page < pages) × (p .word < 32) × (half ≤ 32) ⌝ }
     ensures { λ _. ⌜ now (memory .exit)
         ≡ makeWrite (now (live .entry)) (areaSize pages) (now (memory .entry))
-        (getD
-        (priceWrites
-        (homesOf pages (now (live .entry)) (now (primary .entry)) (now (secondary .entry)))
-        half (openPrices pages (now (memory .entry)) card))
-        at noWrite) ⌝ }
+        (writeOf (homeAt (now (primary .entry)) (now (secondary .entry)) at (p .page))
+        (pageStart (p .page) + (half + p .word)) (p .price)) ⌝ }
 {
     let size = memory::area_size(pages);
-    match reader::nth_stored(memory, size, card, pages, at / 2) {
-        Found::Priced(p) => {
-            let page = p.page as usize;
-            let home = home_at(primary, secondary, page, at) as usize;
-            let start = memory::PAGES_START + 64 * page;
-            let word = half + p.word as usize;
-            write_price(memory, size, live, home, start, word, p.price);
-        }
-        Found::Nothing => {}
-    }
+    let page = p.page as usize;
+    let home = home_at(primary, secondary, page, at) as usize;
+    let start = memory::PAGES_START + 64 * page;
+    let word = half + p.word as usize;
+    write_price(memory, size, live, home, start, word, p.price);
 }
 
 // Word j of the release's desk, in the even desk of its record at the backup if its number is
@@ -178,7 +170,7 @@ fn step_mark(
     write_word(memory, size, live, backup, record + mark, number);
 }
 
-// The store of a step before the close: `steps` are made, of a release of k prices.
+// The store of a step before the close: `steps` are made, of a release of k prices; `p` is due.
 fn step_store(
     memory: &mut [u32],
     pages: u32,
@@ -189,36 +181,44 @@ fn step_store(
     card: usize,
     steps: u32,
     k: u32,
+    p: Price,
 )
     requires { ⌜ HomesIn (now live) pages (now primary) (now secondary) (length (now memory)) ⌝ }
     requires { ⌜ CardIn (now live) (length (now memory)) (areaSize pages) card ⌝ }
     requires { ⌜ CardIn (now live) (length (now memory)) (areaSize pages) backup ⌝ }
     requires { ⌜ (steps < 4 * k + 10) × Counted pages (now memory) card k ⌝ }
+    requires { ⌜ NumberedPrice pages (now memory) card (priceNumber k steps) p ⌝ }
     ensures { λ _. ⌜ now (memory .exit)
-        ≡ makeWrite (now (live .entry)) (areaSize pages) (now (memory .entry))
-        (storeAfter
-        (homesOf pages (now (live .entry)) (now (primary .entry)) (now (secondary .entry))) backup
-        (now (memory .entry)) card steps) ⌝ }
+        ≡ afterStore pages (now (live .entry)) (now (primary .entry)) (now (secondary .entry))
+        backup (now (memory .entry)) card steps ⌝ }
 {
-    let size = memory::area_size(pages);
     if steps < 2 * k {
-        step_price(memory, pages, live, primary, secondary, card, steps, 0);
+        step_price(memory, pages, live, primary, secondary, p, steps, 0);
         return;
     }
     if steps < 2 * k + 8 {
-        step_desk(memory, size, live, backup, card, (steps - 2 * k) as usize);
+        let j = (steps - 2 * k) as usize;
+        step_desk(memory, memory::area_size(pages), live, backup, card, j);
         return;
     }
     if steps == 2 * k + 8 {
-        step_mark(memory, size, live, backup, card, 0);
+        step_mark(memory, memory::area_size(pages), live, backup, card, 0);
         return;
     }
     if steps < 4 * k + 9 {
-        let at = steps - (2 * k + 9);
-        step_price(memory, pages, live, primary, secondary, card, at, 32);
+        step_price(
+            memory,
+            pages,
+            live,
+            primary,
+            secondary,
+            p,
+            steps - (2 * k + 9),
+            32,
+        );
         return;
     }
-    step_mark(memory, size, live, backup, card, 1);
+    step_mark(memory, memory::area_size(pages), live, backup, card, 1);
 }
 
 // One step of a release of k prices: one store, and one more in word 10; or the close.
@@ -231,11 +231,13 @@ fn make_step(
     backup: usize,
     card: usize,
     k: u32,
+    p: Price,
 )
     requires { ⌜ HomesIn (now live) pages (now primary) (now secondary) (length (now memory)) ⌝ }
     requires { ⌜ CardIn (now live) (length (now memory)) (areaSize pages) card ⌝ }
     requires { ⌜ CardIn (now live) (length (now memory)) (areaSize pages) backup ⌝ }
     requires { ⌜ Counted pages (now memory) card k ⌝ }
+    requires { ⌜ PriceDue pages (now memory) card k p ⌝ }
     ensures { λ _. ⌜ now (memory .exit)
         ≡ stepMemory
         (homesOf pages (now (live .entry)) (now (primary .entry)) (now (secondary .entry))) backup
@@ -257,8 +259,40 @@ fn make_step(
         card,
         steps,
         k,
+        p,
     );
     memory::store_word(memory, size, card, memory::STEPS_MADE, steps + 1);
+}
+
+// ---- the price that is due
+
+// The number of the price that a step stores: `steps` are made, of a release of k prices.
+fn price_number(k: u32, steps: u32) -> u32
+    requires { ⌜ k < 512 ⌝ }
+    ensures { λ r. ⌜ r ≡ priceNumber k steps ⌝ }
+{
+    if steps < 2 * k {
+        return steps / 2;
+    }
+    if steps < 2 * k + 9 {
+        return 0;
+    }
+    (steps - (2 * k + 9)) / 2
+}
+
+// The price of this number of the release open on a card; any, if it has not so many.
+fn find_price(memory: &[u32], size: usize, pages: u32, card: usize, n: u32) -> Price
+    requires { ⌜ (size ≡ areaSize pages) × AreaIn (length (now memory)) size card ⌝ }
+    ensures { λ r. ⌜ NumberedPrice pages (now (memory .entry)) card n r ⌝ }
+{
+    match reader::nth_stored(memory, size, card, pages, n) {
+        Found::Priced(p) => p,
+        Found::Nothing => Price {
+            page: 0,
+            word: 0,
+            price: 0,
+        },
+    }
 }
 
 // Makes one step of the release that is open on a card.
@@ -281,10 +315,8 @@ pub fn step_release(
         (now (memory .entry)) card ⌝ }
 {
     let size = memory::area_size(pages);
-    match reader::read_stored(memory, size, card, pages) {
-        Verdict::Good(k, _) => {
-            make_step(memory, pages, live, primary, secondary, backup, card, k);
-        }
-        Verdict::Faulty(_) => {}
-    }
+    let k = running::count_prices(memory, size, pages, card);
+    let steps = memory::load_word(memory, size, card, memory::STEPS_MADE);
+    let p = find_price(memory, size, pages, card, price_number(k, steps));
+    make_step(memory, pages, live, primary, secondary, backup, card, k, p);
 }

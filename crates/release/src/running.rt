@@ -1,16 +1,17 @@
 // Several steps of a release.
 ghost use mathlib.Core.Path.{_≡_};
-ghost use Prim.Native.Nat.{_≤_};
+ghost use Prim.Native.Nat.{_<_, _≤_};
 ghost use lib.ListN.{length};
 ghost use Rattle.memory.specs.Layout.{areaSize};
 ghost use Rattle.memory.specs.Area.{AreaIn};
 ghost use Rattle.protocol.specs.Recovery.{stepTimes};
 ghost use Rattle.release.specs.Stepping.{CardIn, HomesIn, GoodRelease, Counted, homesOf};
-ghost use Rattle.release.specs.Stepping.{StepsLeft, leftOf};
+ghost use Rattle.release.specs.Stepping.{StepsLeft, Listed, leftOf, listedPrice};
+use diff::Price;
 use diff::Verdict;
 
 // How many prices the release open on a card has.
-fn count_prices(memory: &[u32], size: usize, pages: u32, card: usize) -> u32
+pub(crate) fn count_prices(memory: &[u32], size: usize, pages: u32, card: usize) -> u32
     requires { ⌜ (size ≡ areaSize pages) × AreaIn (length (now memory)) size card ⌝ }
     requires { ⌜ GoodRelease pages (now memory) card ⌝ }
     ensures { λ r. ⌜ Counted pages (now (memory .entry)) card r ⌝ }
@@ -41,7 +42,55 @@ pub fn steps_left(memory: &[u32], pages: u32, card: usize) -> Left
     Left { prices, steps }
 }
 
-// Makes so many steps of a release of k prices, no more than it has left.
+// The price of this number in a table of labels and prices.
+fn listed_price(labels: &[u32], prices: &[u32], n: usize) -> Price
+    requires { ⌜ (n < length (now labels)) × (n < length (now prices)) ⌝ }
+    ensures { λ r. ⌜ r ≡ listedPrice (now (labels .entry)) (now (prices .entry)) n ⌝ }
+{
+    let label = labels[n];
+    Price {
+        page: label / 32,
+        word: label % 32,
+        price: prices[n],
+    }
+}
+
+// Makes so many steps of a release of k prices, no more than it has left; its prices are listed.
+fn make_listed(
+    memory: &mut [u32],
+    pages: u32,
+    live: &[bool],
+    primary: &[u32],
+    secondary: &[u32],
+    backup: usize,
+    card: usize,
+    k: u32,
+    steps: u32,
+    labels: &[u32],
+    prices: &[u32],
+)
+    requires { ⌜ HomesIn (now live) pages (now primary) (now secondary) (length (now memory)) ⌝ }
+    requires { ⌜ CardIn (now live) (length (now memory)) (areaSize pages) card ⌝ }
+    requires { ⌜ CardIn (now live) (length (now memory)) (areaSize pages) backup ⌝ }
+    requires { ⌜ StepsLeft pages (now memory) card k steps ⌝ }
+    requires { ⌜ Listed pages (now memory) card (now labels) (now prices) ⌝ }
+    ensures { λ _. ⌜ now (memory .exit)
+        ≡ stepTimes
+        (homesOf pages (now (live .entry)) (now (primary .entry)) (now (secondary .entry))) backup
+        card steps (now (memory .entry)) ⌝ }
+{
+    let size = memory::area_size(pages);
+    let mut left = steps;
+    while 0 < left {
+        let made = memory::load_word(memory, size, card, memory::STEPS_MADE);
+        let n = crate::price_number(k, made) as usize;
+        let p = listed_price(labels, prices, n);
+        crate::make_step(memory, pages, live, primary, secondary, backup, card, k, p);
+        left -= 1;
+    }
+}
+
+// Makes so many steps of a release of k prices, no more than it has left. Reads its list once.
 pub fn make_steps(
     memory: &mut [u32],
     pages: u32,
@@ -62,9 +111,21 @@ pub fn make_steps(
         (homesOf pages (now (live .entry)) (now (primary .entry)) (now (secondary .entry))) backup
         card steps (now (memory .entry)) ⌝ }
 {
-    let mut left = steps;
-    while 0 < left {
-        crate::make_step(memory, pages, live, primary, secondary, backup, card, k);
-        left -= 1;
-    }
+    let size = memory::area_size(pages);
+    let mut labels = [0u32; 512];
+    let mut prices = [0u32; 512];
+    reader::list_stored(memory, size, card, pages, &mut labels, &mut prices);
+    make_listed(
+        memory,
+        pages,
+        live,
+        primary,
+        secondary,
+        backup,
+        card,
+        k,
+        steps,
+        &labels,
+        &prices,
+    );
 }

@@ -38,7 +38,8 @@ step-store-requires c κs =
     let size = load .before .before in
     let start = size .before .before .before .before .before in
     let made = rw (size .area-size .ensures) at (load .load-word .ensures) in
-    (start .pre .0, (start .pre .1 .0, (start .pre .1 .1 .0, (omega arith, start .pre .1 .1 .1))))
+    let pre = start .pre in
+    (pre .0, (pre .1 .0, (pre .1 .1 .0, ((omega arith, pre .1 .1 .1 .0), rw made (pre .1 .1 .1 .1)))))
 
 add-store-word : tie.Need-add-store-word
 unfolding stepsOf

@@ -1,42 +1,38 @@
--- Rests on `read-counts`: reading the list finds its k prices.
+-- Rests on what `count_prices`, the load of the steps and `find_price` ensure.
 use native.Mathlib.Omega.{arith}
 use borrow.Author.Needs.{needs}
-use Rattle.release.proofs.Prices.{read-counts, read-not-faulty}
+use Rattle.protocol.specs.Release.{stepsOf}
 use Rattle.release.proofs.step_release.Statement.{statement}
 use Rattle.release.proofs.step_release.Tie as tie
 
-read-stored-requires : tie.Need-read-stored-requires
-read-stored-requires c κs =
-    let start = c .before .before .before .before .before .before in
-    rw (c .before .area-size .ensures) (omega arith, start .pre .1 .0 .area)
+count-prices-requires : tie.Need-count-prices-requires
+count-prices-requires c κs =
+    let size = c .before .area-size .ensures in
+    let pre = c .before .before .before .before .before .before .pre in
+    ((size, rw size (pre .1 .0 .area)), pre .1 .1 .1)
+
+load-word-requires : tie.Need-load-word-requires
+load-word-requires c κs = rw (c .before .before .before .area-size .ensures) (c .before .before .before .before .before .before .before .before .pre .1 .0 .area, omega arith)
+
+price-number-requires : tie.Need-price-number-requires
+price-number-requires c κs = c .before .before .before .count-prices .ensures .few
+
+find-price-requires : tie.Need-find-price-requires
+find-price-requires c κs =
+    let size = c .before .before .before .before .before .before .area-size .ensures in
+    (size, rw size (c .before .before .before .before .before .before .before .before .before .before .before .pre .1 .0 .area))
 
 make-step-requires : tie.Need-make-step-requires
+unfolding stepsOf
 make-step-requires c κs =
-    let read = c .before .before .before .before in
-    let size = read .before .before in
-    let start = size .before .before .before .before .before in
-    let a = start .args in
-    let counted =
-    read-counts (a .pages) _ (a .memory .now) (a .card) (size .area-size .ensures) (start .pre .1 .1 .1)
-    (read .read-stored .ensures) (c .before .before .k .given .1)
-    in
-    (start .pre .0, (start .pre .1 .0, (start .pre .1 .1 .0, counted)))
-
-returns : tie.Need-returns
-returns c = search needs
-
-returns-2 : tie.Need-returns-2
-returns-2 c =
-    let read = c .before .before in
-    let size = read .before .before in
-    let start = size .before .before .before .before .before in
-    let a = start .args in
-    absurd
-    (read-not-faulty (a .pages) _ (a .memory .now) (a .card) (size .area-size .ensures) (start .pre .1 .1 .1)
-    (read .read-stored .ensures) (c .enum-told .given .1))
+    let pre = c .before .before .before .before .before .before .before .before .before .before .before .before .before .pre in
+    let counted = c .before .before .before .before .before .before .count-prices .ensures in
+    let made = rw (c .before .before .before .before .before .before .before .before .area-size .ensures) at (c .before .before .before .before .load-word .ensures) in
+    let due = rw (c .before .before .price-number .ensures, made) at (c .before .find-price .ensures) in
+    (pre .0, (pre .1 .0, (pre .1 .1 .0, (counted, due))))
 
 pub step-release-spec : {M : Type 1} → statement M
 step-release-spec =
     tie.close
-    (tie.spec (λ c κs. search needs) read-stored-requires (λ c. search needs) make-step-requires (λ c. search needs)
-    (λ c. search needs) returns (λ c. search needs) returns-2)
+    (tie.spec (λ c κs. search needs) count-prices-requires load-word-requires price-number-requires
+    find-price-requires make-step-requires (λ c. search needs) (λ c. search needs))

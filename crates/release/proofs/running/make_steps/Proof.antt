@@ -1,50 +1,33 @@
--- Rests on `StepsMade`: what is left of the steps gives what all of them give.
+-- Rests on `listed`: what `list_stored` writes is a table of the release's prices.
+use Prim.Native.Nat.{ℕ}
+use mathlib.Core.Path.{_≡_}
 use native.Mathlib.Omega.{arith}
 use borrow.Author.Needs.{needs}
-use Rattle.release.specs.Stepping.{homesOf}
-use Rattle.release.proofs.Callers.{homes-kept, card-kept}
-use Rattle.release.proofs.Left.{StepsMade, counted-left, steps-none, steps-one, steps-all}
+use lib.ListN.{length, replicate}
+use Rattle.release.proofs.Prices.{listed}
 use Rattle.release.proofs.running.make_steps.Statement.{statement}
 use Rattle.release.proofs.running.make_steps.Tie as tie
 
-abbrev Inv-loop : tie.InvT-loop
-Inv-loop memory₀ pages live primary secondary backup card k steps left₀ memory left =
-    StepsMade (homesOf pages live primary secondary) backup card k memory₀ steps memory left
+list-stored-requires : tie.Need-list-stored-requires
+list-stored-requires c κs =
+    let pre = c .before .before .before .before .before .before .before .before .pre in
+    rw (c .before .before .before .area-size .ensures) ((omega arith, pre .1 .0 .area, pre .0 .few), (search needs, search needs))
 
-abbrev μ-loop : tie.MeasureT-loop
-μ-loop memory₀ pages live primary secondary backup card k steps left₀ memory left = left
-
-loop-holds : tie.Need-loop-holds Inv-loop μ-loop
-loop-holds c = steps-none (c .before .before .before .before .pre .1 .1 .1)
-
-make-step-requires : tie.Need-make-step-requires Inv-loop μ-loop
-make-step-requires c κs =
-    let far = c .before .before .loop .inv in
-    let same = far .same in
-    let pre = c .before .before .before .before .before .before .before .pre in (
-      homes-kept (pre .0) same,
-      (
-        card-kept (pre .1 .0) same,
-        (
-          card-kept (pre .1 .1 .0) same,
-          counted-left (far .some (c .before .loop-test .taken)) (c .before .loop-test .taken),
-        ),
-      ),
-    )
-
-loop-again : tie.Need-loop-again Inv-loop μ-loop
-loop-again c =
-    let made = c .before .before in
-    let turn = made .before .before in
-    let card = turn .before .before .before .before .before .before .pre .1 .0 in
-    steps-one (card .eight) (card .area) (turn .before .loop .inv) (turn .loop-test .taken) (c .before .memory .given)
-    (made .make-step .ensures)
-
-returns : tie.Need-returns Inv-loop μ-loop
-returns c = steps-all (c .before .loop .inv) (c .loop-test .left)
+make-listed-requires : tie.Need-make-listed-requires
+make-listed-requires c κs =
+    let start = c .before .before .before .before .before .before .before .before .before .before .before .before .before .before in
+    let a = start .args in
+    let pre = start .pre in
+    let size = c .before .before .before .before .before .before .before .before .before .area-size .ensures in
+    let stored = c .before .before .before .before .before .list-stored .ensures in
+    let table =
+    listed (a .pages) _ (a .memory .now) (a .card) size (replicate 512 0) (search needs) (search needs) (search needs)
+    (stored .0) (stored .1) (rw size (pre .1 .0 .area)) (omega arith)
+    in
+    (pre .0, (pre .1 .0, (pre .1 .1 .0, (pre .1 .1 .1, table))))
 
 pub make-steps-spec : {M : Type 1} → statement M
 make-steps-spec =
     tie.close
-    (tie.spec Inv-loop μ-loop loop-holds make-step-requires (λ c. omega arith) (λ c. omega arith) loop-again
-    (λ c. search needs) returns)
+    (tie.spec (λ c κs. search needs) (λ c. search needs) (λ c. search needs) list-stored-requires (λ c. search needs)
+    (λ c. search needs) make-listed-requires (λ c. search needs) (λ c. search needs))

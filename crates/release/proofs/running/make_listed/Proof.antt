@@ -1,0 +1,79 @@
+-- Rests on `StepsMade`: what is left of the steps gives what all of them give; the list stays, and so does its table.
+use Prim.Native.Nat.{_<_}
+use mathlib.Core.Path.{_≡_}
+use native.Mathlib.Omega.{arith}
+use borrow.Author.Needs.{needs}
+use Rattle.memory.specs.Layout.{areaSize}
+use Rattle.protocol.specs.Release.{stepsOf}
+use Rattle.release.specs.Stepping.{homesOf, priceNumber}
+use Rattle.release.proofs.Callers.{homes-kept, card-kept}
+use Rattle.release.proofs.Prices.{number-listed}
+use Rattle.release.proofs.Left.{StepsMade, counted-left, steps-none, steps-one, steps-all}
+use Rattle.release.proofs.running.make_listed.Statement.{statement}
+use Rattle.release.proofs.running.make_listed.Tie as tie
+
+abbrev Inv-loop : tie.InvT-loop
+Inv-loop memory₀ pages live primary secondary backup card k steps labels prices size left₀ memory left =
+    StepsMade (homesOf pages live primary secondary) backup card k memory₀ steps memory left
+
+abbrev μ-loop : tie.MeasureT-loop
+μ-loop memory₀ pages live primary secondary backup card k steps labels prices size left₀ memory left = left
+
+loop-holds : tie.Need-loop-holds Inv-loop μ-loop
+loop-holds c = steps-none (c .before .before .before .before .before .before .before .pre .1 .1 .1 .0)
+
+load-word-requires : tie.Need-load-word-requires Inv-loop μ-loop
+load-word-requires c κs =
+    let card = card-kept (c .before .before .before .before .before .before .before .before .before .before .pre .1 .0) (c .before .before .loop .inv .same) in
+    rw (c .before .before .before .area-size .ensures) (card .area, omega arith)
+
+price-number-requires : tie.Need-price-number-requires Inv-loop μ-loop
+price-number-requires c κs = c .before .before .before .loop .inv .some (c .before .before .loop-test .taken) .few
+
+listed-price-requires : tie.Need-listed-price-requires Inv-loop μ-loop
+unfolding stepsOf
+listed-price-requires c κs =
+    let some = c .before .before .before .before .loop .inv .some (c .before .before .before .loop-test .taken) in
+    let made = rw (c .before .before .before .before .before .area-size .ensures) at (c .before .load-word .ensures) in
+    let listed = c .before .before .before .before .before .before .before .before .before .before .before .before .pre .1 .1 .1 .1 in
+    rw (c .price-number .ensures) (
+      number-listed _ _ (some .few) (omega arith) (listed .labels-long),
+      number-listed _ _ (some .few) (omega arith) (listed .prices-long),
+    )
+
+make-step-requires : tie.Need-make-step-requires Inv-loop μ-loop
+unfolding stepsOf
+make-step-requires c κs =
+    let far = c .before .before .before .before .before .before .loop .inv in
+    let more = c .before .before .before .before .before .loop-test .taken in
+    let pre = c .before .before .before .before .before .before .before .before .before .before .before .before .before .before .pre in
+    let made = rw (c .before .before .before .before .before .before .before .area-size .ensures) at (c .before .before .before .load-word .ensures) in
+    let listed = pre .1 .1 .1 .1 in (
+      homes-kept (pre .0) (far .same),
+      (
+        card-kept (pre .1 .0) (far .same),
+        (
+          card-kept (pre .1 .1 .0) (far .same),
+          (
+            counted-left (far .some more) more,
+            rw (c .before .listed-price .ensures, c .before .before .price-number .ensures, made, far .list more) (listed .is _),
+          ),
+        ),
+      ),
+    )
+
+loop-again : tie.Need-loop-again Inv-loop μ-loop
+loop-again c =
+    let card = c .before .before .before .before .before .before .before .before .before .before .before .before .before .before .before .before .before .pre .1 .0 in
+    steps-one (card .eight) (card .area) (c .before .before .before .before .before .before .before .before .before .loop .inv) (c .before .before .before .before .before .before .before .before .loop-test .taken) (c .before .memory .given)
+    (c .before .before .make-step .ensures)
+
+returns : tie.Need-returns Inv-loop μ-loop
+returns c = steps-all (c .before .loop .inv) (c .loop-test .left)
+
+pub make-listed-spec : {M : Type 1} → statement M
+make-listed-spec =
+    tie.close
+    (tie.spec Inv-loop μ-loop (λ c κs. search needs) loop-holds load-word-requires price-number-requires
+    (λ c. search needs) listed-price-requires make-step-requires (λ c. omega arith) (λ c. omega arith) loop-again
+    (λ c. search needs) returns)
