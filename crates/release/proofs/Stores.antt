@@ -5,9 +5,9 @@ use mathlib.Core.List.{List}
 use mathlib.Core.Bool.{Bool}
 use native.Mathlib.Nat.{add-zero}
 use native.Mathlib.Omega.{arith}
-use borrow.Author.Tests.{lt-ltb, le-ltb}
+use borrow.Author.Tests.{lt-ltb, le-ltb, ltb-true, ltb-false}
 use lib.ListN.{length, getD}
-use lib.Dec.{eqb}
+use lib.Dec.{ltb, eqb}
 use Rattle.laws.proofs.Bools.{by-cond}
 use Rattle.memory.specs.Layout.{areaSize, deskSize, stepsMade, releaseDesk, recordStamp, recordDone, recordDesk}
 use Rattle.memory.specs.Layout.{pageStart, tentativeHalf, committedHalf}
@@ -19,7 +19,7 @@ use Rattle.protocol.specs.Release.{sizeOf, Release, openRelease, openPrices, st
 use Rattle.protocol.specs.Release.{priceWrites, makeWrite, close, stepMemory}
 use Rattle.protocol.proofs.Writes.{noPrice, price-write-at, length-writes, write-tentative, write-desk}
 use Rattle.protocol.proofs.Writes.{write-stamp, write-committed, write-done}
-use Rattle.release.specs.Stepping.{CardIn, HomesIn, homesOf, storeAfter, homeAt}
+use Rattle.release.specs.Stepping.{CardIn, HomesIn, homesOf, storeAfter, homeAt, recordWrite}
 
 -- ---- the desk of the open release: 8 words, from word 12 on
 
@@ -68,12 +68,12 @@ module _ (d : Directory) (backup : ℕ) (m : List ℕ) (card steps : ℕ) (area 
       price-write-at d tentativeHalf prices steps below
       ∙ sym (write-tentative d backup card release prices eight steps below)
 
-  pub desk-store : (j : ℕ) → steps ≡ 2 * length prices + j → j < 8
-      → writeOf backup (recordDesk card (release .number) + j) (getD (release .desk) j 0) ≡ stored
-  desk-store j at within = sym (write-desk d backup card release prices eight steps j at within)
-
-  pub stamp-store : steps ≡ 2 * length prices + 8 → writeOf backup (recordStamp card + 0) (release .number) ≡ stored
-  stamp-store at = rw add-zero (sym (write-stamp d backup card release prices eight steps at))
+  pub record-store : (at : ℕ) → steps ≡ 2 * length prices + at → at < 9 → recordWrite backup card release at ≡ stored
+  record-store at is within =
+      by-cond (λ (w : Write). w ≡ stored) (ltb at 8) _ _
+      (λ below. sym (write-desk d backup card release prices eight steps at is (ltb-true at 8 below)))
+      (λ past.
+      rw add-zero (sym (write-stamp d backup card release prices eight steps (omega (arith, ltb-false at 8 past)))))
 
   pub committed-store : (j : ℕ) → steps ≡ 2 * length prices + 9 + j → j < 2 * length prices
       → getD (priceWrites d committedHalf prices) j noWrite ≡ stored

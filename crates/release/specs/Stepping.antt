@@ -6,7 +6,7 @@ use mathlib.Core.List.{List}
 use mathlib.Core.Bool.{Bool, cond}
 use lib.ListN.{length, getD}
 use lib.Dec.{ltb, eqb}
-use Rattle.memory.specs.Layout.{areaSize}
+use Rattle.memory.specs.Layout.{areaSize, recordStamp, recordDesk}
 use Rattle.memory.specs.Area.{AreaIn}
 use Rattle.directory.specs.declared.Directory.{Directory}
 use Rattle.directory.specs.declared.Status.the-variants.{Running}
@@ -15,7 +15,8 @@ use Rattle.diff.specs.declared.Price.{Price}
 use Rattle.diff.specs.declared.Verdict.the-variants.{Good}
 use Rattle.diff.specs.Reading.{readDiff}
 use Rattle.protocol.specs.Release.{sizeOf, openRelease, openList, openPrices, stepsOf, stepsIn}
-use Rattle.protocol.specs.Release.{Write, noWrite, releaseWrites, makeWrite}
+use Rattle.protocol.specs.Release.{Release, Write, writeOf, noWrite, releaseWrites, makeWrite}
+use Rattle.protocol.specs.Release.{stepMemory}
 
 -- a card with a mark, and with an area in a memory of so many words
 pub record CardIn (live : List Bool) (words size card : ℕ) : Type 0 where
@@ -67,6 +68,16 @@ storeAfter d backup m card steps =
 abbrev pub afterStore : ℕ → List Bool → List ℕ → List ℕ → ℕ → List ℕ → ℕ → ℕ → List ℕ
 afterStore pages live primary secondary backup m card steps =
     makeWrite live (areaSize pages) m (storeAfter (homesOf pages live primary secondary) backup m card steps)
+
+-- the memory after a step
+abbrev pub afterStep : ℕ → List Bool → List ℕ → List ℕ → ℕ → List ℕ → ℕ → List ℕ
+afterStep pages live primary secondary = stepMemory (homesOf pages live primary secondary)
+
+-- the store of this number among the nine between the prices, in the record at the backup: the desk, then the stamp
+abbrev pub recordWrite : ℕ → ℕ → Release → ℕ → Write
+recordWrite backup card r at =
+    cond (ltb at 8) (writeOf backup (recordDesk card (r .number) + at) (getD (r .desk) at 0))
+    (writeOf backup (recordStamp card + 0) (r .number))
 
 -- the number of the price that this step stores, of a release of k prices; 0 where it stores another word
 abbrev pub priceNumber : ℕ → ℕ → ℕ

@@ -6,11 +6,10 @@ ghost use lib.ListN.{length, getD};
 ghost use Rattle.memory.specs.Layout.{areaSize, pageStart, recordStamp, recordDesk};
 ghost use Rattle.memory.specs.Area.{AreaIn};
 ghost use Rattle.protocol.specs.Release.{releaseOf, openRelease, writeOf, makeWrite, close};
-ghost use Rattle.protocol.specs.Release.{stepMemory};
 ghost use Rattle.protocol.specs.Opening.{openMemory};
 ghost use Rattle.release.specs.Stepping.{CardIn, HomesIn, GoodRelease, Counted};
-ghost use Rattle.release.specs.Stepping.{homesOf, homeAt, afterStore, priceNumber};
-ghost use Rattle.release.specs.Stepping.{NumberedPrice, PriceDue};
+ghost use Rattle.release.specs.Stepping.{homeAt, afterStore, afterStep, recordWrite};
+ghost use Rattle.release.specs.Stepping.{priceNumber, NumberedPrice, PriceDue};
 
 mod running;
 
@@ -170,6 +169,29 @@ fn step_mark(
     write_word(memory, size, live, backup, record + mark, number);
 }
 
+// The store numbered `at` of the nine between the prices: the eight words of the desk, then the stamp.
+fn step_record(
+    memory: &mut [u32],
+    size: usize,
+    live: &[bool],
+    backup: usize,
+    card: usize,
+    at: usize,
+)
+    requires { ⌜ CardIn (now live) (length (now memory)) size card ⌝ }
+    requires { ⌜ CardIn (now live) (length (now memory)) size backup ⌝ }
+    requires { ⌜ (676 ≤ size) × (at < 9) ⌝ }
+    ensures { λ _. ⌜ now (memory .exit)
+        ≡ makeWrite (now (live .entry)) size (now (memory .entry))
+        (recordWrite backup card (openRelease size (now (memory .entry)) card) at) ⌝ }
+{
+    if at < 8 {
+        step_desk(memory, size, live, backup, card, at);
+        return;
+    }
+    step_mark(memory, size, live, backup, card, 0);
+}
+
 // The store of a step before the close: `steps` are made, of a release of k prices; `p` is due.
 fn step_store(
     memory: &mut [u32],
@@ -196,26 +218,14 @@ fn step_store(
         step_price(memory, pages, live, primary, secondary, p, steps, 0);
         return;
     }
-    if steps < 2 * k + 8 {
-        let j = (steps - 2 * k) as usize;
-        step_desk(memory, memory::area_size(pages), live, backup, card, j);
-        return;
-    }
-    if steps == 2 * k + 8 {
-        step_mark(memory, memory::area_size(pages), live, backup, card, 0);
+    if steps < 2 * k + 9 {
+        let at = (steps - 2 * k) as usize;
+        step_record(memory, memory::area_size(pages), live, backup, card, at);
         return;
     }
     if steps < 4 * k + 9 {
-        step_price(
-            memory,
-            pages,
-            live,
-            primary,
-            secondary,
-            p,
-            steps - (2 * k + 9),
-            32,
-        );
+        let at = steps - (2 * k + 9);
+        step_price(memory, pages, live, primary, secondary, p, at, 32);
         return;
     }
     step_mark(memory, memory::area_size(pages), live, backup, card, 1);
@@ -236,11 +246,9 @@ fn make_step(
     requires { ⌜ HomesIn (now live) pages (now primary) (now secondary) (length (now memory)) ⌝ }
     requires { ⌜ CardIn (now live) (length (now memory)) (areaSize pages) card ⌝ }
     requires { ⌜ CardIn (now live) (length (now memory)) (areaSize pages) backup ⌝ }
-    requires { ⌜ Counted pages (now memory) card k ⌝ }
-    requires { ⌜ PriceDue pages (now memory) card k p ⌝ }
+    requires { ⌜ Counted pages (now memory) card k × PriceDue pages (now memory) card k p ⌝ }
     ensures { λ _. ⌜ now (memory .exit)
-        ≡ stepMemory
-        (homesOf pages (now (live .entry)) (now (primary .entry)) (now (secondary .entry))) backup
+        ≡ afterStep pages (now (live .entry)) (now (primary .entry)) (now (secondary .entry)) backup
         (now (memory .entry)) card ⌝ }
 {
     let size = memory::area_size(pages);
@@ -310,8 +318,7 @@ pub fn step_release(
     requires { ⌜ CardIn (now live) (length (now memory)) (areaSize pages) backup ⌝ }
     requires { ⌜ GoodRelease pages (now memory) card ⌝ }
     ensures { λ _. ⌜ now (memory .exit)
-        ≡ stepMemory
-        (homesOf pages (now (live .entry)) (now (primary .entry)) (now (secondary .entry))) backup
+        ≡ afterStep pages (now (live .entry)) (now (primary .entry)) (now (secondary .entry)) backup
         (now (memory .entry)) card ⌝ }
 {
     let size = memory::area_size(pages);

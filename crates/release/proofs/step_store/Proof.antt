@@ -1,5 +1,5 @@
--- Rests on the store of each phase: `tentative-store`, `desk-store`, `stamp-store`, `committed-store`, `done-store`; the
--- price that is due is on a page (`tentative-price`, `committed-price`).
+-- Rests on the store of each phase: `tentative-store`, `record-store`, `committed-store`, `done-store`; the price that is
+-- due is on a page (`tentative-price`, `committed-price`).
 use Prim.Native.Nat.{_+_, _-_, _*_}
 use mathlib.Core.Path.{refl, ap, _∙_}
 use native.Mathlib.Omega.{arith}
@@ -8,8 +8,7 @@ use Rattle.memory.specs.Layout.{areaSize, tentativeHalf, committedHalf}
 use Rattle.protocol.specs.Release.{openPrices, makeWrite}
 use Rattle.release.specs.Stepping.{homesOf}
 use Rattle.release.proofs.Prices.{tentative-price, committed-price}
-use Rattle.release.proofs.Stores.{price-store, tentative-store, desk-store, stamp-store}
-use Rattle.release.proofs.Stores.{committed-store, done-store}
+use Rattle.release.proofs.Stores.{price-store, tentative-store, record-store, committed-store, done-store}
 use Rattle.release.proofs.step_store.Statement.{statement}
 use Rattle.release.proofs.step_store.Tie as tie
 
@@ -44,8 +43,8 @@ returns c =
     (openPrices (a .pages) m (a .card)) (a .steps) (omega arith) (price .is) refl
     ∙ place)
 
-step-desk-requires : tie.Need-step-desk-requires
-step-desk-requires c κs =
+step-record-requires : tie.Need-step-record-requires
+step-record-requires c κs =
     let pre = c .before .before .before .before .before .before .before .before .pre in
     rw (c .area-size .ensures) (pre .1 .0, (pre .1 .1 .0, (omega arith, omega arith)))
 
@@ -55,46 +54,32 @@ returns-2 c =
     let a = start .args in
     let pre = start .pre in
     let d = homesOf (a .pages) (a .live .now) (a .primary .now) (a .secondary .now) in
-    let place = desk-store d (a .backup) (a .memory .now) (a .card) (a .steps) (pre .1 .0 .area) in
+    let place = record-store d (a .backup) (a .memory .now) (a .card) (a .steps) (pre .1 .0 .area) in
     rw (← place (a .steps - 2 * a .k) (omega arith) (omega arith))
-    (rw (c .before .before .before .area-size .ensures) at (c .before .before .step-desk .ensures))
-
-step-mark-requires : tie.Need-step-mark-requires
-step-mark-requires c κs =
-    let pre = c .before .before .before .before .before .before .before .before .before .pre in
-    rw (c .area-size2 .ensures) (pre .1 .0, (pre .1 .1 .0, (omega arith, omega arith)))
-
-returns-3 : tie.Need-returns-3
-returns-3 c =
-    let start = c .before .before .before .before .before .before .before .before .before .before .before .before in
-    let a = start .args in
-    let pre = start .pre in
-    let d = homesOf (a .pages) (a .live .now) (a .primary .now) (a .secondary .now) in
-    rw (← stamp-store d (a .backup) (a .memory .now) (a .card) (a .steps) (pre .1 .0 .area) (omega arith))
-    (rw (c .before .before .before .area-size2 .ensures) at (c .before .before .step-mark .ensures))
+    (rw (c .before .before .before .area-size .ensures) at (c .before .before .step-record .ensures))
 
 step-price-requires-2 : tie.Need-step-price-requires-2
 step-price-requires-2 c κs =
-    let start = c .before .before .before .before .before .before .before .before .before in
+    let start = c .before .before .before .before .before .before .before .before in
     let a = start .args in
     let pre = start .pre in
     let counted = pre .1 .1 .1 .0 .1 in
     let price =
     committed-price (a .pages) (a .memory .now) (a .card) (a .k) (a .steps) (a .p) (counted .prices) (pre .1 .1 .1 .1)
-    (omega arith) (c .before .if4 .taken)
+    (omega arith) (c .before .if3 .taken)
     in
     (pre .0, (price .on-page, price .in-page, omega arith))
 
-returns-4 : tie.Need-returns-4
-returns-4 c =
-    let start = c .before .before .before .before .before .before .before .before .before .before .before .before in
+returns-3 : tie.Need-returns-3
+returns-3 c =
+    let start = c .before .before .before .before .before .before .before .before .before .before .before in
     let a = start .args in
     let pre = start .pre in
     let m = a .memory .now in
     let counted = pre .1 .1 .1 .0 .1 in
     let price =
     committed-price (a .pages) m (a .card) (a .k) (a .steps) (a .p) (counted .prices) (pre .1 .1 .1 .1) (omega arith)
-    (c .before .before .before .before .if4 .taken)
+    (c .before .before .before .before .if3 .taken)
     in
     let d = homesOf (a .pages) (a .live .now) (a .primary .now) (a .secondary .now) in
     let at = a .steps - (2 * a .k + 9) in
@@ -107,26 +92,25 @@ returns-4 c =
     (openPrices (a .pages) m (a .card)) at (omega arith) (price .is) refl
     ∙ place)
 
-step-mark-requires-2 : tie.Need-step-mark-requires-2
-step-mark-requires-2 c κs =
-    let pre = c .before .before .before .before .before .before .before .before .before .before .pre in
-    rw (c .area-size3 .ensures) (pre .1 .0, (pre .1 .1 .0, (omega arith, omega arith)))
+step-mark-requires : tie.Need-step-mark-requires
+step-mark-requires c κs =
+    let pre = c .before .before .before .before .before .before .before .before .before .pre in
+    rw (c .area-size2 .ensures) (pre .1 .0, (pre .1 .1 .0, (omega arith, omega arith)))
 
-returns-5 : tie.Need-returns-5
-returns-5 c =
-    let start = c .before .before .before .before .before .before .before .before .before .before .before .before .before in
+returns-4 : tie.Need-returns-4
+returns-4 c =
+    let start = c .before .before .before .before .before .before .before .before .before .before .before .before in
     let a = start .args in
     let pre = start .pre in
     let d = homesOf (a .pages) (a .live .now) (a .primary .now) (a .secondary .now) in
     rw (← done-store d (a .backup) (a .memory .now) (a .card) (a .steps) (pre .1 .0 .area) (omega arith))
-    (rw (c .before .before .before .area-size3 .ensures) at (c .before .before .step-mark2 .ensures))
+    (rw (c .before .before .before .area-size2 .ensures) at (c .before .before .step-mark .ensures))
 
 pub step-store-spec : {M : Type 1} → statement M
 step-store-spec =
     tie.close
     (tie.spec (λ c. search needs) step-price-requires (λ c. search needs) returns (λ c. search needs)
     (λ c. search needs) (λ c. search needs) (λ c. search needs) (λ c. search needs) (λ c κs. search needs)
-    step-desk-requires (λ c. search needs) returns-2 (λ c. search needs) (λ c. search needs) (λ c κs. search needs)
-    step-mark-requires (λ c. search needs) returns-3 (λ c. search needs) (λ c. search needs) (λ c. search needs)
-    (λ c. search needs) (λ c. search needs) step-price-requires-2 (λ c. search needs) returns-4 (λ c κs. search needs)
-    step-mark-requires-2 (λ c. search needs) returns-5)
+    step-record-requires (λ c. search needs) returns-2 (λ c. search needs) (λ c. search needs) (λ c. search needs)
+    (λ c. search needs) (λ c. search needs) step-price-requires-2 (λ c. search needs) returns-3 (λ c κs. search needs)
+    step-mark-requires (λ c. search needs) returns-4)

@@ -1,0 +1,27 @@
+-- Rests on its test: a word of the desk below 8, else the stamp.
+use native.Mathlib.Omega.{arith}
+use borrow.Author.Needs.{needs}
+use borrow.Author.Tests.{lt-ltb, le-ltb}
+use Rattle.release.proofs.step_record.Statement.{statement}
+use Rattle.release.proofs.step_record.Tie as tie
+
+step-desk-requires : tie.Need-step-desk-requires
+step-desk-requires c κs =
+    let pre = c .before .before .before .before .pre in
+    (pre .0, (pre .1 .0, (pre .1 .1 .0, c .before .if1 .taken)))
+
+returns : tie.Need-returns
+returns c = rw (lt-ltb _ _ (c .before .before .before .before .if1 .taken)) (c .before .before .step-desk .ensures)
+
+step-mark-requires : tie.Need-step-mark-requires
+step-mark-requires c κs =
+    let pre = c .before .before .before .before .pre in
+    (pre .0, (pre .1 .0, (pre .1 .1 .0, omega arith)))
+
+returns-2 : tie.Need-returns-2
+returns-2 c = rw (le-ltb _ _ (c .before .before .before .before .if1 .left)) (c .before .before .step-mark .ensures)
+
+pub step-record-spec : {M : Type 1} → statement M
+step-record-spec =
+    tie.close
+    (tie.spec step-desk-requires (λ c. search needs) returns step-mark-requires (λ c. search needs) returns-2)
