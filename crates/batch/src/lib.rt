@@ -10,12 +10,14 @@ ghost use Rattle.memory.specs.Layout.{areaSize};
 ghost use Rattle.directory.specs.Directory.{backupOf};
 ghost use Rattle.protocol.specs.Release.{sizeOf};
 ghost use Rattle.protocol.specs.Checks.{firstRefusal};
+ghost use Rattle.protocol.specs.Step.{stepChecks};
 ghost use Rattle.protocol.specs.Recovery.{stepTimes};
 ghost use Rattle.release.specs.Stepping.{CardIn, HomesIn, GoodRelease, leftOf};
 ghost use Rattle.batch.specs.Steps.{steps, stoppedAt};
 ghost use Rattle.batch.specs.FetchAll.{fetchAllChecks, fetchAll, pagesOf, PrimariesIn};
 ghost use Rattle.batch.specs.FetchAll.{wordsAfter, showNext, primariesOf};
 use answer::Answer;
+use answer::Outcome;
 use directory::Directory;
 
 // ---- steps
@@ -67,6 +69,28 @@ fn make_steps(memory: &mut [u32], directory: Directory, card: u32, count: u32) -
     made
 }
 
+// The first refusal of a step, or the number 0.
+fn step_refusal(memory: &[u32], directory: Directory, card: u32) -> Outcome
+    ensures { λ r. ⌜ r ≡ firstRefusal (stepChecks directory (now (memory .entry)) card) 0 ⌝ }
+{
+    let cards = directory.cards;
+    let pages = directory.pages;
+    let live = directory.live;
+    let primary = directory.primary;
+    let secondary = directory.secondary;
+    let status = directory.status;
+    refusals::step(
+        memory,
+        cards,
+        pages,
+        &live,
+        &primary,
+        &secondary,
+        status,
+        card,
+    )
+}
+
 // All steps asked for are made, or no release is open for the next one.
 fn answer_to(count: u32, made: u32) -> Answer
     ensures { λ r. ⌜ r ≡ answerOf (stoppedAt count made) ⌝ }
@@ -95,7 +119,7 @@ pub fn steps(memory: &mut [u32], directory: Directory, card: u32, count: u32) ->
             answer,
         };
     }
-    let first = refusals::step(memory, directory, card);
+    let first = step_refusal(memory, directory, card);
     if first.number != 0 {
         let answer = answer::answer_of(first);
         return StepsReply {
@@ -127,11 +151,17 @@ fn fetch_refusal(memory: &[u32], directory: Directory, room: usize) -> u32
     ensures { λ r. ⌜ r
         ≡ firstRefusal (fetchAllChecks directory (now (memory .entry)) room) 0 .number ⌝ }
 {
-    let first = checks::running(memory, directory);
+    let cards = directory.cards;
+    let pages = directory.pages;
+    let live = directory.live;
+    let primary = directory.primary;
+    let secondary = directory.secondary;
+    let status = directory.status;
+    let first = checks::running(memory, cards, pages, &live, &primary, &secondary, status);
     if first != 0 {
         return first;
     }
-    if room != 32 * (directory.pages as usize) {
+    if room != 32 * (pages as usize) {
         return answer::WRONG_BUFFER;
     }
     0

@@ -26,7 +26,7 @@ returns-2 c =
     let d = a .directory in
     let m = a .memory .now in
     let some = first .before .before .if1 .left in
-    rw (first-refused d (a .card) m (a .count) (first .step .ensures) (c .before .if2 .taken) some)
+    rw (first-refused d (a .card) m (a .count) (first .step-refusal .ensures) (c .before .if2 .taken) some)
     (refl, (c .answer-of .ensures, (refl, refl)))
 
 make-steps-requires : tie.Need-make-steps-requires
@@ -40,7 +40,7 @@ make-steps-requires c κs =
     let marks : length (d .live) ≡ 8 = length-unmapped _ (d .live) 8 (arrays .0 .1 .0 .1) in
     let primaries : length (d .primary) ≡ 64 = length-unmapped _ (d .primary) 64 (arrays .1 .0 .1 .0 .1) in
     let secondaries : length (d .secondary) ≡ 64 = length-unmapped _ (d .secondary) 64 (arrays .1 .1 .0 .1 .0 .1) in
-    let passed = step-facts d m (a .card) (first .step .ensures) (c .before .if2 .left) in
+    let passed = step-facts d m (a .card) (first .step-refusal .ensures) (c .before .if2 .left) in
     let fit = fitting (passed .runs .fits) in
     let card-at : (x : ℕ) → x < d .cards → CardIn (d .live) (length m) (sizeOf d) x
     = λ x. card-in (d .live) (sizeOf d) marks (fit .within .cards-most) (fit .within .whole)
@@ -61,7 +61,7 @@ returns-3 c =
     let a = start .args in
     let d = a .directory in
     let m = a .memory .now in
-    let passed = step-facts d m (a .card) (first .step .ensures) (test .if2 .left) in
+    let passed = step-facts d m (a .card) (first .step-refusal .ensures) (test .if2 .left) in
     let some : 0 < a .count = omega (arith, first .before .before .if1 .left) in
     let made = stepped .make-steps .ensures in
     rw (all-made d (a .card) m (a .count) passed some (made .0)) (refl, (c .answer-to .ensures, (refl, made .1)))

@@ -10,16 +10,6 @@ use Rattle.rack.proofs.Results.{desk-facts, desk-refused, desk-accepted
 use Rattle.rack.proofs.ask_desk.Statement.{statement}
 use Rattle.rack.proofs.ask_desk.Tie as tie
 
-desk-question-requires : tie.Need-desk-question-requires
-desk-question-requires c κs =
-    let start = c .before .before .before .before .before .before .before in
-    let d = start .args .directory in
-    let arrays = start .good .1 .0 .1 .1 .1 .1 in
-    let marks : length (d .live) ≡ 8 = length-unmapped _ (d .live) 8 (arrays .0 .1 .0 .1) in
-    let primaries : length (d .primary) ≡ 64 = length-unmapped _ (d .primary) 64 (arrays .1 .0 .1 .0 .1) in
-    let secondaries : length (d .secondary) ≡ 64 = length-unmapped _ (d .secondary) 64 (arrays .1 .1 .0 .1 .0 .1) in
-    (marks, primaries, secondaries)
-
 load-desk-requires : tie.Need-load-desk-requires
 load-desk-requires c κs =
     let test = c .before .before in
@@ -64,4 +54,4 @@ returns-2 c =
 pub ask-desk-spec : {M : Type 1} → statement M
 ask-desk-spec =
     tie.close
-    (tie.spec (λ c. search needs) (λ c. search needs) (λ c. search needs) desk-question-requires (λ c κs. search needs) (λ c. search needs) (λ c. search needs) load-desk-requires returns returns-2)
+    (tie.spec (λ c. search needs) (λ c. search needs) (λ c. search needs) (λ c κs. search needs) (λ c κs. search needs) (λ c. search needs) (λ c. search needs) load-desk-requires returns returns-2)

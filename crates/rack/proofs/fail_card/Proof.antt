@@ -1,20 +1,9 @@
 -- Rests on its checks: a refused failure leaves the directory, an accepted one marks the card dead.
-use mathlib.Core.Path.{_≡_, refl}
-use borrow.Author.Needs.{needs, length-unmapped}
-use lib.ListN.{length}
+use mathlib.Core.Path.{refl}
+use borrow.Author.Needs.{needs}
 use Rattle.rack.proofs.Results.{failure-refused, failure-accepted}
 use Rattle.rack.proofs.fail_card.Statement.{statement}
 use Rattle.rack.proofs.fail_card.Tie as tie
-
-failure-requires : tie.Need-failure-requires
-failure-requires c κs =
-    let start = c .before .before .before .before .before .before .before in
-    let d = start .args .directory in
-    let arrays = start .good .1 .0 .1 .1 .1 .1 in
-    let marks : length (d .live) ≡ 8 = length-unmapped _ (d .live) 8 (arrays .0 .1 .0 .1) in
-    let primaries : length (d .primary) ≡ 64 = length-unmapped _ (d .primary) 64 (arrays .1 .0 .1 .0 .1) in
-    let secondaries : length (d .secondary) ≡ 64 = length-unmapped _ (d .secondary) 64 (arrays .1 .1 .0 .1 .0 .1) in
-    (marks, primaries, secondaries)
 
 returns : tie.Need-returns
 returns c =
@@ -42,4 +31,4 @@ returns-2 c =
 pub fail-card-spec : {M : Type 1} → statement M
 fail-card-spec =
     tie.close
-    (tie.spec (λ c. search needs) (λ c. search needs) (λ c. search needs) failure-requires (λ c κs. search needs) returns (λ c κs. search needs) (λ c κs. search needs) returns-2)
+    (tie.spec (λ c. search needs) (λ c. search needs) (λ c. search needs) (λ c κs. search needs) (λ c κs. search needs) returns (λ c κs. search needs) (λ c κs. search needs) returns-2)

@@ -1,24 +1,13 @@
 -- Rests on its checks: a refused fetch leaves the buffer, an accepted one finds its page and a primary that is a card.
-use mathlib.Core.Path.{_≡_, refl}
+use mathlib.Core.Path.{refl}
 use native.Mathlib.Omega.{arith}
-use borrow.Author.Needs.{needs, length-unmapped}
-use lib.ListN.{length}
+use borrow.Author.Needs.{needs}
 use Rattle.memory.proofs.Index.{area-in}
 use Rattle.protocol.specs.Fetch.{committedPage}
 use Rattle.rack.proofs.Fitting.{fitting}
 use Rattle.rack.proofs.Results.{fetch-facts, fetch-refused, fetch-accepted}
 use Rattle.rack.proofs.fetch_page.Statement.{statement}
 use Rattle.rack.proofs.fetch_page.Tie as tie
-
-fetch-requires : tie.Need-fetch-requires
-fetch-requires c κs =
-    let start = c .before .before .before .before .before .before .before .before in
-    let d = start .args .directory in
-    let arrays = start .good .1 .0 .1 .1 .1 .1 in
-    let marks : length (d .live) ≡ 8 = length-unmapped _ (d .live) 8 (arrays .0 .1 .0 .1) in
-    let primaries : length (d .primary) ≡ 64 = length-unmapped _ (d .primary) 64 (arrays .1 .0 .1 .0 .1) in
-    let secondaries : length (d .secondary) ≡ 64 = length-unmapped _ (d .secondary) 64 (arrays .1 .1 .0 .1 .0 .1) in
-    (marks, primaries, secondaries)
 
 returns : tie.Need-returns
 returns c =
@@ -100,4 +89,4 @@ returns-2 c =
 pub fetch-page-spec : {M : Type 1} → statement M
 fetch-page-spec =
     tie.close
-    (tie.spec (λ c. search needs) (λ c. search needs) (λ c. search needs) fetch-requires (λ c κs. search needs) returns area-size-requires (λ c. search needs) array-read-home cast-home (λ c. search needs) (λ c. search needs) (λ c. search needs) load-run-requires (λ c. search needs) returns-2)
+    (tie.spec (λ c. search needs) (λ c. search needs) (λ c. search needs) (λ c κs. search needs) (λ c κs. search needs) returns area-size-requires (λ c. search needs) array-read-home cast-home (λ c. search needs) (λ c. search needs) (λ c. search needs) load-run-requires (λ c. search needs) returns-2)

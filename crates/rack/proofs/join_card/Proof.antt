@@ -7,16 +7,6 @@ use Rattle.rack.proofs.Results.{join-facts, join-refused, join-accepted
 use Rattle.rack.proofs.join_card.Statement.{statement}
 use Rattle.rack.proofs.join_card.Tie as tie
 
-join-requires : tie.Need-join-requires
-join-requires c κs =
-    let start = c .before .before .before .before .before .before .before .before in
-    let d = start .args .directory in
-    let arrays = start .good .1 .0 .1 .1 .1 .1 in
-    let marks : length (d .live) ≡ 8 = length-unmapped _ (d .live) 8 (arrays .0 .1 .0 .1) in
-    let primaries : length (d .primary) ≡ 64 = length-unmapped _ (d .primary) 64 (arrays .1 .0 .1 .0 .1) in
-    let secondaries : length (d .secondary) ≡ 64 = length-unmapped _ (d .secondary) 64 (arrays .1 .1 .0 .1 .0 .1) in
-    (marks, primaries, secondaries)
-
 returns : tie.Need-returns
 returns c =
     let answered = c .before .before in
@@ -56,4 +46,4 @@ returns-2 c =
 pub join-card-spec : {M : Type 1} → statement M
 join-card-spec =
     tie.close
-    (tie.spec (λ c. search needs) (λ c. search needs) (λ c. search needs) join-requires (λ c κs. search needs) (λ c. search needs) returns join-memory-requires (λ c κs. search needs) (λ c. search needs) returns-2)
+    (tie.spec (λ c. search needs) (λ c. search needs) (λ c. search needs) (λ c κs. search needs) (λ c κs. search needs) (λ c. search needs) returns join-memory-requires (λ c κs. search needs) (λ c. search needs) returns-2)

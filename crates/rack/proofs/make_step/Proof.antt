@@ -10,16 +10,6 @@ use Rattle.rack.proofs.Results.{step-facts, step-refused, step-accepted
 use Rattle.rack.proofs.make_step.Statement.{statement}
 use Rattle.rack.proofs.make_step.Tie as tie
 
-step-requires : tie.Need-step-requires
-step-requires c κs =
-    let start = c .before .before .before .before .before .before .before .before in
-    let d = start .args .directory in
-    let arrays = start .good .1 .0 .1 .1 .1 .1 in
-    let marks : length (d .live) ≡ 8 = length-unmapped _ (d .live) 8 (arrays .0 .1 .0 .1) in
-    let primaries : length (d .primary) ≡ 64 = length-unmapped _ (d .primary) 64 (arrays .1 .0 .1 .0 .1) in
-    let secondaries : length (d .secondary) ≡ 64 = length-unmapped _ (d .secondary) 64 (arrays .1 .1 .0 .1 .0 .1) in
-    (marks, primaries, secondaries)
-
 returns : tie.Need-returns
 returns c =
     let answered = c .before .before in
@@ -71,4 +61,4 @@ returns-2 c =
 pub make-step-spec : {M : Type 1} → statement M
 make-step-spec =
     tie.close
-    (tie.spec (λ c. search needs) (λ c. search needs) (λ c. search needs) step-requires (λ c κs. search needs) (λ c. search needs) returns (λ c κs. search needs) (λ c. search needs) (λ c. search needs) (λ c. search needs) (λ c. search needs) step-release-requires (λ c. search needs) returns-2)
+    (tie.spec (λ c. search needs) (λ c. search needs) (λ c. search needs) (λ c κs. search needs) (λ c κs. search needs) (λ c. search needs) returns (λ c κs. search needs) (λ c. search needs) (λ c. search needs) (λ c. search needs) (λ c. search needs) step-release-requires (λ c. search needs) returns-2)

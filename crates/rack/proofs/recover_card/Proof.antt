@@ -10,16 +10,6 @@ use Rattle.rack.proofs.Results.{recovery-facts, recovery-refused, recov
 use Rattle.rack.proofs.recover_card.Statement.{statement}
 use Rattle.rack.proofs.recover_card.Tie as tie
 
-recovery-requires : tie.Need-recovery-requires
-recovery-requires c κs =
-    let start = c .before .before .before .before .before .before .before .before in
-    let d = start .args .directory in
-    let arrays = start .good .1 .0 .1 .1 .1 .1 in
-    let marks : length (d .live) ≡ 8 = length-unmapped _ (d .live) 8 (arrays .0 .1 .0 .1) in
-    let primaries : length (d .primary) ≡ 64 = length-unmapped _ (d .primary) 64 (arrays .1 .0 .1 .0 .1) in
-    let secondaries : length (d .secondary) ≡ 64 = length-unmapped _ (d .secondary) 64 (arrays .1 .1 .0 .1 .0 .1) in
-    (marks, primaries, secondaries)
-
 returns : tie.Need-returns
 unfolding zeros
 returns c =
@@ -79,4 +69,4 @@ returns-2 c =
 pub recover-card-spec : {M : Type 1} → statement M
 recover-card-spec =
     tie.close
-    (tie.spec (λ c. search needs) (λ c. search needs) (λ c. search needs) recovery-requires (λ c. search needs) returns (λ c κs. search needs) (λ c. search needs) recover-memory-requires recovered-directory-requires (λ c. search needs) (λ c. search needs) returns-2)
+    (tie.spec (λ c. search needs) (λ c. search needs) (λ c. search needs) (λ c κs. search needs) (λ c. search needs) returns (λ c κs. search needs) (λ c. search needs) recover-memory-requires recovered-directory-requires (λ c. search needs) (λ c. search needs) returns-2)
