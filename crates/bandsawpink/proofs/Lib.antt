@@ -1,3 +1,3 @@
 -- What the proofs of the exported functions cite.
 pub mod Stored
-pub mod Answers
+pub mod Told

@@ -2,11 +2,13 @@
 -- Assumes nothing: these are definitions.
 use Prim.Native.Nat.{ℕ}
 use mathlib.Core.List.{List}
-use mathlib.Core.Bool.{cond}
+use mathlib.Core.Bool.{Bool, cond}
 use Rattle.answer.specs.declared.Outcome.{Outcome}
 use Rattle.protocol.specs.Result.{Result, accepted}
-use Rattle.bandsawpink.specs.declared.RackAnswer.{RackAnswer}
-use Rattle.bandsawpink.specs.declared.RackDeskAnswer.{RackDeskAnswer}
+use Rattle.bandsawpink.specs.declared.answers.RackAnswer.{RackAnswer}
+use Rattle.bandsawpink.specs.declared.answers.RackDeskAnswer.{RackDeskAnswer}
+use Rattle.bandsawpink.specs.declared.answers.RackStepsAnswer.{RackStepsAnswer}
+use Rattle.bandsawpink.specs.declared.answers.RackFetchAllAnswer.{RackFetchAllAnswer}
 use Rattle.bandsawpink.specs.Words.{wordsOf}
 
 abbrev pub answered : Outcome → RackAnswer
@@ -14,6 +16,12 @@ answered o = record { number = o .number; value = o .value }
 
 abbrev pub answeredDesk : Outcome → List ℕ → RackDeskAnswer
 answeredDesk o desk = record { number = o .number; value = o .value; desk = desk }
+
+abbrev pub answeredSteps : Outcome → ℕ → RackStepsAnswer
+answeredSteps o made = record { number = o .number; made = made; value = o .value }
+
+abbrev pub answeredPages : Outcome → List Bool → RackFetchAllAnswer
+answeredPages o shown = record { number = o .number; value = o .value; shown = shown }
 
 -- a refusal keeps the words, whatever they are
 abbrev pub directoryAfter : List ℕ → Result → List ℕ

@@ -1,10 +1,9 @@
 // The rack's calls for programs in C and Rust: the functions of include/bandsawpink.h. Each does
-// what the call of `rack` does, on any argument; C hands in a slice as a pointer and a length.
+// what the call that it names does, on any argument; C hands in a slice as a pointer and a length.
 ghost use mathlib.Core.Path.{_≡_};
 ghost use mathlib.Core.Bool.{cond};
 ghost use lib.Dec.{eqb};
 ghost use lib.ListN.{length};
-ghost use Rattle.answer.specs.Outcome.{outcome};
 ghost use Rattle.diff.specs.Making.{makeDiff, bufferAfter};
 ghost use Rattle.protocol.specs.Release.{releaseOf};
 ghost use Rattle.protocol.specs.Formatting.{formatting};
@@ -15,49 +14,20 @@ ghost use Rattle.protocol.specs.Failure.{failure};
 ghost use Rattle.protocol.specs.Recovery.{recovery};
 ghost use Rattle.protocol.specs.Join.{join};
 ghost use Rattle.protocol.specs.DeskQuestion.{deskQuestion};
+ghost use Rattle.batch.specs.Steps.{steps};
+ghost use Rattle.batch.specs.FetchAll.{fetchAll};
 ghost use Rattle.bandsawpink.specs.Words.{directoryIn, wordsOf};
 ghost use Rattle.bandsawpink.specs.Answers.{answered, answeredDesk, directoryAfter};
-use answer::Answer;
+ghost use Rattle.bandsawpink.specs.Answers.{answeredSteps, answeredPages};
 use directory::Directory;
 
+mod answers;
 mod words;
 
-// 0 and what the call gives, or the refusal and its place.
-#[repr(C)]
-pub struct RackAnswer {
-    pub number: u32,
-    pub value: u64,
-}
-
-// An answer with desk words: all zero if it is refused.
-#[repr(C)]
-pub struct RackDeskAnswer {
-    pub number: u32,
-    pub value: u64,
-    pub desk: [u32; 8],
-}
-
-// An answer in numbers.
-fn in_numbers(answer: Answer) -> RackAnswer
-    ensures { λ r. ⌜ r ≡ answered (outcome answer) ⌝ }
-{
-    let o = answer::outcome_of(answer);
-    RackAnswer {
-        number: o.number,
-        value: o.value,
-    }
-}
-
-fn with_desk(answer: Answer, desk: [u32; 8]) -> RackDeskAnswer
-    ensures { λ r. ⌜ r ≡ answeredDesk (outcome answer) desk ⌝ }
-{
-    let told = in_numbers(answer);
-    RackDeskAnswer {
-        number: told.number,
-        value: told.value,
-        desk,
-    }
-}
+use answers::RackAnswer;
+use answers::RackDeskAnswer;
+use answers::RackFetchAllAnswer;
+use answers::RackStepsAnswer;
 
 // Writes the directory that a call left, unless it was refused.
 fn hand_back(words: &mut [u32], number: u32, directory: Directory)
@@ -89,7 +59,7 @@ pub extern "C" fn rack_format(
     let answer = reply.answer;
     let formatted = reply.directory;
     words::write_directory(directory, formatted);
-    in_numbers(answer)
+    answers::in_numbers(answer)
 }
 
 // `rack::open_release`, which keeps the directory.
@@ -113,7 +83,7 @@ pub extern "C" fn rack_open(
     let taken = words::directory_in(directory);
     let reply = rack::open_release(memory, taken, card, number, *desk, list);
     let answer = reply.answer;
-    in_numbers(answer)
+    answers::in_numbers(answer)
 }
 
 // `rack::make_step`, which keeps the directory.
@@ -128,7 +98,28 @@ pub extern "C" fn rack_step(memory: &mut [u32], directory: &[u32; 139], card: u3
     let taken = words::directory_in(directory);
     let reply = rack::make_step(memory, taken, card);
     let answer = reply.answer;
-    in_numbers(answer)
+    answers::in_numbers(answer)
+}
+
+// `batch::steps`, which keeps the directory.
+#[no_mangle]
+pub extern "C" fn rack_steps(
+    memory: &mut [u32],
+    directory: &[u32; 139],
+    card: u32,
+    count: u32,
+) -> RackStepsAnswer
+    ensures answer { λ r. ⌜ r
+        ≡ answeredSteps
+        (steps (directoryIn (now (directory .entry))) (now (memory .entry)) card count .outcome)
+        (steps (directoryIn (now (directory .entry))) (now (memory .entry)) card count .made) ⌝ }
+    ensures memory { λ _. ⌜ now (memory .exit)
+        ≡ steps (directoryIn (now (directory .entry))) (now (memory .entry)) card count .memory ⌝ }
+{
+    let taken = words::directory_in(directory);
+    let reply = batch::steps(memory, taken, card, count);
+    let answer = reply.answer;
+    answers::with_made(answer, reply.made)
 }
 
 // `rack::fetch_page`, which keeps the directory.
@@ -150,7 +141,31 @@ pub extern "C" fn rack_fetch(
     let taken = words::directory_in(directory);
     let reply = rack::fetch_page(memory, taken, page, buffer);
     let answer = reply.answer;
-    in_numbers(answer)
+    answers::in_numbers(answer)
+}
+
+// `batch::fetch_all`, which keeps the directory.
+#[no_mangle]
+pub extern "C" fn rack_fetch_all(
+    memory: &[u32],
+    directory: &[u32; 139],
+    buffer: &mut [u32],
+) -> RackFetchAllAnswer
+    ensures answer { λ r. ⌜ r
+        ≡ answeredPages
+        (fetchAll (directoryIn (now (directory .entry))) (now (memory .entry))
+        (now (buffer .entry)) .outcome)
+        (fetchAll (directoryIn (now (directory .entry))) (now (memory .entry))
+        (now (buffer .entry)) .pages .shown) ⌝ }
+    ensures buffer { λ _. ⌜ now (buffer .exit)
+        ≡ fetchAll (directoryIn (now (directory .entry))) (now (memory .entry))
+        (now (buffer .entry)) .pages .words ⌝ }
+{
+    let taken = words::directory_in(directory);
+    let reply = batch::fetch_all(memory, taken, buffer);
+    let answer = reply.answer;
+    let shown = reply.shown;
+    answers::with_shown(answer, shown)
 }
 
 // `rack::fail_card`.
@@ -166,7 +181,7 @@ pub extern "C" fn rack_fail(memory: &[u32], directory: &mut [u32; 139], card: u3
     let taken = words::directory_in(directory);
     let reply = rack::fail_card(memory, taken, card);
     let told = reply.answer;
-    let answer = in_numbers(told);
+    let answer = answers::in_numbers(told);
     let failed = reply.directory;
     hand_back(directory, answer.number, failed);
     answer
@@ -189,7 +204,7 @@ pub extern "C" fn rack_recover(memory: &mut [u32], directory: &mut [u32; 139]) -
     let reply = rack::recover_card(memory, taken);
     let told = reply.answer;
     let desk = reply.desk;
-    let answer = with_desk(told, desk);
+    let answer = answers::with_desk(told, desk);
     let recovered = reply.directory;
     hand_back(directory, answer.number, recovered);
     answer
@@ -210,7 +225,7 @@ pub extern "C" fn rack_join(memory: &mut [u32], directory: &mut [u32; 139], card
     let taken = words::directory_in(directory);
     let reply = rack::join_card(memory, taken, card);
     let told = reply.answer;
-    let answer = in_numbers(told);
+    let answer = answers::in_numbers(told);
     let joined = reply.directory;
     hand_back(directory, answer.number, joined);
     answer
@@ -228,7 +243,7 @@ pub extern "C" fn rack_desk(memory: &[u32], directory: &[u32; 139], card: u32) -
     let reply = rack::ask_desk(memory, taken, card);
     let told = reply.answer;
     let desk = reply.desk;
-    with_desk(told, desk)
+    answers::with_desk(told, desk)
 }
 
 // `maker::make`.
@@ -241,5 +256,5 @@ pub extern "C" fn rack_make_list(working: &[u32], twins: &[u32], buffer: &mut [u
         ≡ bufferAfter (now (working .entry)) (now (twins .entry)) (now (buffer .entry)) ⌝ }
 {
     let answer = maker::make(working, twins, buffer);
-    in_numbers(answer)
+    answers::in_numbers(answer)
 }

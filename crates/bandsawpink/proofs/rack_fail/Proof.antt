@@ -1,7 +1,7 @@
 -- Rests on the call of the rack.
 use mathlib.Core.Path.{_∙_}
 use borrow.Author.Needs.{needs}
-use Rattle.bandsawpink.proofs.Answers.{answer-told}
+use Rattle.bandsawpink.proofs.Told.{answer-told}
 use Rattle.bandsawpink.proofs.rack_fail.Statement.{statement}
 use Rattle.bandsawpink.proofs.rack_fail.Tie as tie
 

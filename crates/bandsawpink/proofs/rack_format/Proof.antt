@@ -2,7 +2,7 @@
 use mathlib.Core.Path.{ap, _∙_}
 use borrow.Author.Needs.{needs}
 use Rattle.bandsawpink.specs.Words.{wordsOf}
-use Rattle.bandsawpink.proofs.Answers.{answer-told}
+use Rattle.bandsawpink.proofs.Told.{answer-told}
 use Rattle.bandsawpink.proofs.rack_format.Statement.{statement}
 use Rattle.bandsawpink.proofs.rack_format.Tie as tie
 

@@ -4,7 +4,7 @@ use borrow.Author.Needs.{needs}
 use Rattle.protocol.specs.Release.{releaseOf}
 use Rattle.protocol.specs.Opening.{opening}
 use Rattle.bandsawpink.specs.Words.{directoryIn}
-use Rattle.bandsawpink.proofs.Answers.{answer-told}
+use Rattle.bandsawpink.proofs.Told.{answer-told}
 use Rattle.bandsawpink.proofs.rack_open.Statement.{statement}
 use Rattle.bandsawpink.proofs.rack_open.Tie as tie
 

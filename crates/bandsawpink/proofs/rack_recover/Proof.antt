@@ -1,7 +1,7 @@
 -- Rests on the call of the rack.
 use mathlib.Core.Path.{_∙_}
 use borrow.Author.Needs.{needs}
-use Rattle.bandsawpink.proofs.Answers.{desk-told}
+use Rattle.bandsawpink.proofs.Told.{desk-told}
 use Rattle.bandsawpink.proofs.rack_recover.Statement.{statement}
 use Rattle.bandsawpink.proofs.rack_recover.Tie as tie
 

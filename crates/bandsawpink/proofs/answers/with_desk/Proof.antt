@@ -1,7 +1,7 @@
 -- Rests on the answer in numbers.
 use borrow.Author.Needs.{needs}
-use Rattle.bandsawpink.proofs.with_desk.Statement.{statement}
-use Rattle.bandsawpink.proofs.with_desk.Tie as tie
+use Rattle.bandsawpink.proofs.answers.with_desk.Statement.{statement}
+use Rattle.bandsawpink.proofs.answers.with_desk.Tie as tie
 
 returns : tie.Need-returns
 returns c = rw (c .in-numbers .ensures)

@@ -1,7 +1,7 @@
 -- Rests on the answer's outcome.
 use borrow.Author.Needs.{needs}
-use Rattle.bandsawpink.proofs.in_numbers.Statement.{statement}
-use Rattle.bandsawpink.proofs.in_numbers.Tie as tie
+use Rattle.bandsawpink.proofs.answers.in_numbers.Statement.{statement}
+use Rattle.bandsawpink.proofs.answers.in_numbers.Tie as tie
 
 returns : tie.Need-returns
 returns c = rw (c .outcome-of .ensures)
