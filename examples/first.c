@@ -16,7 +16,7 @@ int main(void) {
     rack_answer made = rack_make_list(working, PRICES, twins, PRICES, list, RACK_LIST_WORDS);
     rack_answer opened = rack_open(memory, words, &directory, CARD, 1, desk, list, made.value);
     if (opened.number != RACK_ACCEPTED) return (int)opened.number;
-    for (int step = 0; step < 13; step++) rack_step(memory, words, &directory, CARD);
+    rack_steps(memory, words, &directory, CARD, 13);
 
     rack_fail(memory, words, &directory, CARD); /* between two stores, once the release counts */
     rack_desk_answer found = rack_recover(memory, words, &directory);

@@ -21,18 +21,24 @@ static int refused(const char *call, uint32_t number, uint64_t place) {
     return number != RACK_ACCEPTED;
 }
 
-/* One round: each page that can be fetched is radioed, a page in motion waits for the next round. */
+/* A page's prices: those that are not on the shelf yet are radioed. */
+static void send(uint32_t page, const uint32_t prices[RACK_PAGE_WORDS]) {
+    for (uint32_t word = 0; word < RACK_PAGE_WORDS; word++) {
+        uint32_t label = page * RACK_PAGE_WORDS + word;
+        if (shelf[label] == prices[word]) continue;
+        shelf[label] = prices[word];
+        printf("label %" PRIu32 ": %" PRIu32 ".%02" PRIu32 "\n", label, prices[word] / 100, prices[word] % 100);
+    }
+}
+
+/* One round: each page that was fetched is radioed, a page in motion waits for the next round. */
 static void send_all(void) {
+    uint32_t prices[PRICES];
+    rack_fetch_all_answer fetched = rack_fetch_all(memory, words, &directory, prices, PRICES);
+    if (refused("fetch", fetched.number, fetched.value)) return;
     for (uint32_t page = 0; page < PAGES; page++) {
-        uint32_t prices[RACK_PAGE_WORDS];
-        rack_answer fetched = rack_fetch(memory, words, &directory, page, prices, RACK_PAGE_WORDS);
-        if (refused("fetch", fetched.number, fetched.value)) continue;
-        for (uint32_t word = 0; word < RACK_PAGE_WORDS; word++) {
-            uint32_t label = page * RACK_PAGE_WORDS + word;
-            if (shelf[label] == prices[word]) continue;
-            shelf[label] = prices[word];
-            printf("label %" PRIu32 ": %" PRIu32 ".%02" PRIu32 "\n", label, prices[word] / 100, prices[word] % 100);
-        }
+        if (fetched.shown[page]) send(page, prices + page * RACK_PAGE_WORDS);
+        else printf("page %" PRIu32 " is in motion and waits\n", page);
     }
 }
 
@@ -45,13 +51,6 @@ static int open_release(uint32_t card, uint32_t number, const uint32_t working[P
     return !refused("opening", opened.number, opened.value);
 }
 
-/* Makes at most so many steps of it, and says how many. */
-static unsigned make_steps(uint32_t card, unsigned most) {
-    unsigned made = 0;
-    while (made < most && rack_step(memory, words, &directory, card).number == RACK_ACCEPTED) made++;
-    return made;
-}
-
 int main(void) {
     uint32_t working[PRICES];
     rack_answer formatted = rack_format(memory, words, CARDS, PAGES, &directory);
@@ -62,7 +61,7 @@ int main(void) {
     working[35] = 199;
     working[70] = 1099;
     if (!open_release(1, 1, working)) return 1;
-    printf("steps: %u\n", make_steps(1, UINT32_MAX));
+    printf("steps: %" PRIu32 "\n", rack_steps(memory, words, &directory, 1, UINT32_MAX).made);
     send_all();
 
     /* Ten percent off; the card fails at a step at which the release counts, with committed stores still to make. */
@@ -70,7 +69,7 @@ int main(void) {
     working[34] = 225;
     working[70] = 989;
     if (!open_release(1, 2, working)) return 1;
-    printf("steps: %u\n", make_steps(1, 14));
+    printf("steps: %" PRIu32 "\n", rack_steps(memory, words, &directory, 1, 14).made);
     send_all();
     rack_answer failed = rack_fail(memory, words, &directory, 1);
     if (refused("failure", failed.number, failed.value)) return 1;

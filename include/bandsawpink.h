@@ -31,9 +31,10 @@
 **
 ** Every call returns. A number of 0 says that it was accepted, and the value is what it gives.
 ** Any other number is a refusal, and the value is its place: 0 unless the list below names one. A
-** refusal changes no word of the memory, the directory, the list or the buffer; the one exception
-** is rack_format, which writes the empty directory. Checks run in the order that each function
-** names, and the first that fails is answered.
+** refusal changes no word of the memory, the directory, the list or the buffer. There are two
+** exceptions: rack_format writes the empty directory, and the steps that rack_steps made before
+** the refused one stand. Checks run in the order that each function names, and the first that
+** fails is answered.
 **
 ** Each function is proved to answer and to leave what the project's specification of the call
 ** defines, on any words.
@@ -48,7 +49,7 @@
 **     rack_answer answer = rack_format(memory, words, 3, 4, &directory);
 **     answer = rack_open(memory, words, &directory, 1, 1, desk, list, 4);
 **     if (answer.number != RACK_ACCEPTED) return refuse(answer);
-**     while (rack_step(memory, words, &directory, 1).number == RACK_ACCEPTED) { }
+**     rack_steps(memory, words, &directory, 1, UINT32_MAX);
 **     answer = rack_fetch(memory, words, &directory, 1, page, RACK_PAGE_WORDS);
 **
 ** and page[2] is 250.
@@ -105,6 +106,20 @@ typedef struct rack_desk_answer {
     uint32_t desk[RACK_DESK_WORDS]; /* all 0 if the call is refused */
 } rack_desk_answer;
 
+/* What rack_steps answers. */
+typedef struct rack_steps_answer {
+    uint32_t number;
+    uint32_t made;  /* the steps made: also if a refusal stopped them */
+    uint64_t value; /* accepted: the steps made; refused: the place */
+} rack_steps_answer;
+
+/* What rack_fetch_all answers. */
+typedef struct rack_fetch_all_answer {
+    uint32_t number;
+    uint64_t value;
+    uint8_t shown[RACK_MAX_PAGES]; /* 1 for each page that was copied, else 0; all 0 if refused */
+} rack_fetch_all_answer;
+
 /* The library was built for this layout. */
 #ifdef __cplusplus
 #define RACK_ASSERT(fact) static_assert(fact, #fact)
@@ -119,6 +134,9 @@ RACK_ASSERT(offsetof(rack_directory, primary) == 11 * sizeof(uint32_t));
 RACK_ASSERT(offsetof(rack_directory, secondary) == 75 * sizeof(uint32_t));
 RACK_ASSERT(sizeof(rack_answer) == 16 && offsetof(rack_answer, value) == 8);
 RACK_ASSERT(sizeof(rack_desk_answer) == 48 && offsetof(rack_desk_answer, desk) == 16);
+RACK_ASSERT(sizeof(rack_steps_answer) == 16 && offsetof(rack_steps_answer, made) == 4);
+RACK_ASSERT(offsetof(rack_steps_answer, value) == 8);
+RACK_ASSERT(sizeof(rack_fetch_all_answer) == 80 && offsetof(rack_fetch_all_answer, shown) == 16);
 RACK_ASSERT(sizeof(size_t) == 8);
 #undef RACK_ASSERT
 
@@ -152,8 +170,9 @@ RACK_ASSERT(sizeof(size_t) == 8);
 #define RACK_NO_PAGE 9         /* no such page */
 #define RACK_PAGE_IN_MOTION 10 /* the page is in an open release that already counts: fetch again
                                   once it is closed or recovered. Place: the lowest such card */
-#define RACK_WRONG_BUFFER 17   /* a page buffer not of 32 words; a list buffer shorter than the
-                                  list; a list over 512 words */
+#define RACK_WRONG_BUFFER 17   /* a page buffer not of 32 words; rack_fetch_all: a buffer not of 32
+                                  words for each page; a list buffer shorter than the list; a list
+                                  over 512 words */
 
 /* The rack's state */
 #define RACK_RECOVERY_AWAITED 11 /* a card has failed: rack_recover comes next */
@@ -198,11 +217,32 @@ rack_answer rack_step(uint32_t *memory, size_t words, const rack_directory *dire
                       uint32_t card);
 
 /*
+** Makes steps of the release that is open on a card, up to the count or a refusal: what so many
+** calls of rack_step do, for one check of the rack. Gives the number of steps made; a count of 0
+** makes none, checks nothing and gives 0. Refusals: 1, 2, 11, 3, 16, of the first step that is
+** refused; the steps before it, which the field made counts, stand. After the first step that can
+** only be 16: the close was among the steps made. So a count of UINT32_MAX makes all the steps
+** that are left, and is answered with 16 once the release is closed.
+*/
+rack_steps_answer rack_steps(uint32_t *memory, size_t words, const rack_directory *directory,
+                             uint32_t card, uint32_t count);
+
+/*
 ** Copies the 32 prices of a page into a buffer of 32 words. Gives 0. Refusals: 1, 2, 11, 9, 10,
 ** 17.
 */
 rack_answer rack_fetch(const uint32_t *memory, size_t words, const rack_directory *directory,
                        uint32_t page, uint32_t *buffer, size_t buffer_words);
+
+/*
+** Fetches every page in one call, with one check of the rack: the 32 prices of page p go to the
+** words 32 * p and on of a buffer of 32 words for each page of the rack. A page that rack_fetch
+** would refuse with 10 is not copied: its words of the buffer are kept, its mark in shown is 0,
+** and the call is accepted all the same. Gives 0. Refusals: 1, 2, 11, 17.
+*/
+rack_fetch_all_answer rack_fetch_all(const uint32_t *memory, size_t words,
+                                     const rack_directory *directory, uint32_t *buffer,
+                                     size_t buffer_words);
 
 /*
 ** A card fails: it is marked dead, and its recovery awaited. From here to its join its memory may

@@ -33,6 +33,9 @@ static int failed;
         EXPECT(memcmp(&directory, &directory_before, sizeof directory) == 0); \
     } while (0)
 
+/* That a call was accepted, gave 0 and kept memory and directory. */
+#define KEPT(call) REFUSED(call, RACK_ACCEPTED, 0)
+
 #define ACCEPTED(call) EXPECT((call).number == RACK_ACCEPTED)
 
 /* Two answers with desks, as answers whose desks are checked. */
@@ -110,6 +113,79 @@ static void reader_calls(void) {
     EXPECT(page[0] == 0 && page[31] == 0 && page[32] == 0xA5A5A5A5);
 }
 
+/* An answer to several steps, as an answer whose steps are checked. */
+static rack_answer made(rack_steps_answer stepped, uint32_t expected) {
+    EXPECT(stepped.made == expected);
+    if (stepped.number == RACK_ACCEPTED) EXPECT(stepped.value == expected);
+    rack_answer answer = { stepped.number, stepped.value };
+    return answer;
+}
+
+static void several_steps(void) {
+    static uint32_t memory_single[WORDS + 1];
+    format();
+    REFUSED(made(rack_steps(memory, WORDS - 1, &directory, 1, 2), 0), RACK_LIMITS, 0);
+    REFUSED(made(rack_steps(memory, WORDS, &directory, 3, 2), 0), RACK_NO_CARD, 0);
+    REFUSED(made(rack_steps(memory, WORDS, &directory, 1, 2), 0), RACK_NONE_OPEN, 0);
+    KEPT(made(rack_steps(memory, WORDS, &directory, 1, 0), 0));
+    KEPT(made(rack_steps(NULL, 0, &directory, 9, 0), 0));
+    memory[932 + 9] = 2;
+    REFUSED(made(rack_steps(memory, WORDS, &directory, 1, UINT32_MAX), 0), RACK_UNFIT, 0);
+    for (uint32_t count = 1; count <= 20; count++) {
+        format();
+        ACCEPTED(rack_open(memory, WORDS, &directory, 1, 1, desk, list, 5));
+        for (uint32_t step = 0; step < count; step++) rack_step(memory, WORDS, &directory, 1);
+        memcpy(memory_single, memory, sizeof memory);
+        format();
+        ACCEPTED(rack_open(memory, WORDS, &directory, 1, 1, desk, list, 5));
+        directory_before = directory;
+        rack_steps_answer stepped = rack_steps(memory, WORDS, &directory, 1, count);
+        EXPECT(stepped.number == (count == 20 ? RACK_NONE_OPEN : RACK_ACCEPTED));
+        EXPECT(stepped.made == (count == 20 ? 19 : count));
+        EXPECT(stepped.value == (count == 20 ? 0 : count));
+        EXPECT(memcmp(memory, memory_single, sizeof memory) == 0);
+        EXPECT(memcmp(&directory, &directory_before, sizeof directory) == 0);
+    }
+}
+
+/* A refused fetch of all pages, as an answer whose marks are checked. */
+static rack_answer none_shown(rack_fetch_all_answer fetched) {
+    uint8_t none[RACK_MAX_PAGES] = { 0 };
+    EXPECT(memcmp(fetched.shown, none, sizeof none) == 0);
+    rack_answer answer = { fetched.number, fetched.value };
+    return answer;
+}
+
+static void all_pages(void) {
+    uint32_t pages[129], pages_before[129];
+    uint8_t all[RACK_MAX_PAGES] = { 1, 1, 1, 1 }, but_1[RACK_MAX_PAGES] = { 1, 0, 1, 1 };
+    format();
+    memset(pages, 0xA5, sizeof pages);
+    memcpy(pages_before, pages, sizeof pages);
+    REFUSED(none_shown(rack_fetch_all(memory, WORDS + 1, &directory, pages, 128)), RACK_LIMITS, 0);
+    REFUSED(none_shown(rack_fetch_all(memory, WORDS, &directory, pages, 127)), RACK_WRONG_BUFFER, 0);
+    REFUSED(none_shown(rack_fetch_all(memory, WORDS, &directory, pages, 129)), RACK_WRONG_BUFFER, 0);
+    REFUSED(none_shown(rack_fetch_all(memory, WORDS, &directory, NULL, 0)), RACK_WRONG_BUFFER, 0);
+    directory.primary[3] = 7;
+    REFUSED(none_shown(rack_fetch_all(memory, WORDS, &directory, pages, 128)), RACK_UNFIT, 0);
+    EXPECT(memcmp(pages, pages_before, sizeof pages) == 0);
+    format();
+    ACCEPTED(rack_open(memory, WORDS, &directory, 1, 1, desk, list, 5));
+    ACCEPTED(rack_steps(memory, WORDS, &directory, 1, 13));
+    rack_fetch_all_answer fetched = rack_fetch_all(memory, WORDS, &directory, pages, 128);
+    EXPECT(fetched.number == RACK_ACCEPTED && fetched.value == 0);
+    EXPECT(memcmp(fetched.shown, but_1, sizeof but_1) == 0);
+    EXPECT(pages[31] == 0 && pages[32] == 0xA5A5A5A5 && pages[63] == 0xA5A5A5A5 && pages[64] == 0);
+    ACCEPTED(rack_steps(memory, WORDS, &directory, 1, 6));
+    fetched = rack_fetch_all(memory, WORDS, &directory, pages, 128);
+    EXPECT(fetched.number == RACK_ACCEPTED && fetched.value == 0);
+    EXPECT(memcmp(fetched.shown, all, sizeof all) == 0);
+    EXPECT(pages[33] == 0 && pages[34] == 250 && pages[35] == 199 && pages[127] == 0 && pages[128] == 0xA5A5A5A5);
+    ACCEPTED(rack_fail(memory, WORDS, &directory, 1));
+    REFUSED(none_shown(rack_fetch_all(memory, WORDS, &directory, pages, 128)), RACK_RECOVERY_AWAITED, 0);
+    REFUSED(made(rack_steps(memory, WORDS, &directory, 0, 1), 0), RACK_RECOVERY_AWAITED, 0);
+}
+
 static void card_calls(void) {
     uint32_t page[RACK_PAGE_WORDS];
     format();
@@ -154,7 +230,7 @@ static void list_maker(void) {
 
 /* Any words at all: whatever stands in memory and directory, each call returns, and a refused one keeps both. */
 static void any_words(void) {
-    uint32_t page[RACK_PAGE_WORDS], state = 1;
+    uint32_t page[RACK_PAGE_WORDS], pages[4 * RACK_PAGE_WORDS], state = 1;
     for (int round = 0; round < 2000; round++) {
         format();
         for (int change = 0; change <= round % 5; change++) {
@@ -169,13 +245,19 @@ static void any_words(void) {
         uint32_t numbers[] = {
             rack_fetch(memory, WORDS, &directory, card, page, 32).number,
             rack_desk(memory, WORDS, &directory, card).number,
+            rack_fetch_all(memory, WORDS, &directory, pages, 128).number,
         };
         EXPECT(numbers[0] <= RACK_WRONG_BUFFER && numbers[1] <= RACK_RECOVERY_AWAITED);
+        EXPECT(numbers[2] <= RACK_WRONG_BUFFER);
         uint32_t number = rack_open(memory, WORDS, &directory, card, 1, desk, list, 5).number;
         if (number != 0) EXPECT(memcmp(memory, memory_before, sizeof memory) == 0);
         memcpy(memory_before, memory, sizeof memory);
         number = rack_step(memory, WORDS, &directory, card).number;
         if (number != 0) EXPECT(memcmp(memory, memory_before, sizeof memory) == 0);
+        memcpy(memory_before, memory, sizeof memory);
+        rack_steps_answer stepped = rack_steps(memory, WORDS, &directory, card, round % 40);
+        EXPECT(stepped.made <= (uint32_t)round % 40);
+        if (stepped.made == 0) EXPECT(memcmp(memory, memory_before, sizeof memory) == 0);
         number = rack_fail(memory, WORDS, &directory, card).number;
         if (number != 0) EXPECT(memcmp(&directory, &directory_before, sizeof directory) == 0);
         memcpy(memory_before, memory, sizeof memory);
@@ -191,6 +273,8 @@ int main(void) {
     formatting();
     desk_calls();
     reader_calls();
+    several_steps();
+    all_pages();
     card_calls();
     list_maker();
     any_words();

@@ -8,9 +8,7 @@ fn main() -> Result<(), Refusal> {
     working[35] = 199;
     let list = make_list(&working, &twins)?;
     rack.open(1, 1, &[7; 8], &list)?;
-    for _ in 0..13 {
-        rack.step(1)?;
-    }
+    rack.steps(1, 13)?;
 
     rack.fail(1)?; // between two stores, once the release counts
     let found = rack.recover()?;

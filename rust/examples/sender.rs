@@ -1,7 +1,7 @@
 //! A sender: fetches every page of a rack and prints its labels as units and cents. Between its
 //! rounds a price desk releases changes, and a card fails in the middle of a release.
 
-use bandsawpink::{make_list, Desk, Rack, Refusal, PAGE_WORDS};
+use bandsawpink::{make_list, Desk, Page, Rack, Refusal, PAGE_WORDS};
 
 /// What the sender has radioed, and so what the shelf shows.
 struct Sender {
@@ -9,19 +9,20 @@ struct Sender {
 }
 
 impl Sender {
-    /// One round: each page that can be fetched is radioed; one that cannot waits for the next round.
-    fn send_all(&mut self, rack: &Rack) {
-        for page in 0..rack.pages() {
-            match rack.fetch(page) {
-                Ok(prices) => self.send(page, &prices),
-                Err(refusal) => println!("page {page} waits: {refusal}"),
+    /// One round: each page that was fetched is radioed; a page in motion waits for the next round.
+    fn send_all(&mut self, rack: &Rack) -> Result<(), Refusal> {
+        for (page, prices) in rack.fetch_all()?.iter().enumerate() {
+            match prices {
+                Some(prices) => self.send(page, prices),
+                None => println!("page {page} is in motion and waits"),
             }
         }
+        Ok(())
     }
 
-    fn send(&mut self, page: u32, prices: &[u32; PAGE_WORDS]) {
+    fn send(&mut self, page: usize, prices: &Page) {
         for (word, price) in prices.iter().enumerate() {
-            let label = page as usize * PAGE_WORDS + word;
+            let label = page * PAGE_WORDS + word;
             if self.shelf[label] != *price {
                 self.shelf[label] = *price;
                 println!("label {label}: {}.{:02}", price / 100, price % 100);
@@ -43,20 +44,18 @@ fn main() -> Result<(), Refusal> {
     working[70] = 1099;
     let list = make_list(&working, &sender.shelf)?;
     println!("released in {} steps", rack.release(1, 1, &desk, &list)?);
-    sender.send_all(&rack);
+    sender.send_all(&rack)?;
 
     let mut cheaper = sender.shelf.clone();
     cheaper[34] = 225;
     cheaper[70] = 989;
     let list = make_list(&cheaper, &sender.shelf)?;
     rack.open(1, 2, &desk, &list)?;
-    for _ in 0..14 {
-        rack.step(1)?;
-    }
-    sender.send_all(&rack);
+    rack.steps(1, 14)?;
+    sender.send_all(&rack)?;
     rack.fail(1)?;
     println!("card 1 recovered: release {}", rack.recover()?.stamp);
-    sender.send_all(&rack);
+    sender.send_all(&rack)?;
 
     rack.join(1)?;
     match rack.release(1, 2, &desk, &list) {
@@ -67,6 +66,5 @@ fn main() -> Result<(), Refusal> {
         ),
         Ok(_) => println!("released twice"),
     }
-    sender.send_all(&rack);
-    Ok(())
+    sender.send_all(&rack)
 }

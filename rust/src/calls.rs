@@ -31,6 +31,22 @@ pub struct DeskAnswer {
     pub desk: [u32; 8],
 }
 
+#[repr(C)]
+#[derive(Clone, Copy)]
+pub struct StepsAnswer {
+    pub number: u32,
+    pub made: u32,
+    pub value: u64,
+}
+
+#[repr(C)]
+#[derive(Clone, Copy)]
+pub struct FetchAllAnswer {
+    pub number: u32,
+    pub value: u64,
+    pub shown: [u8; 64],
+}
+
 // The library was built for this layout.
 const _: () = {
     assert!(size_of::<Directory>() == 139 * 4);
@@ -41,6 +57,9 @@ const _: () = {
     assert!(offset_of!(Directory, secondary) == 75 * 4);
     assert!(size_of::<Answer>() == 16 && offset_of!(Answer, value) == 8);
     assert!(size_of::<DeskAnswer>() == 48 && offset_of!(DeskAnswer, desk) == 16);
+    assert!(size_of::<StepsAnswer>() == 16 && offset_of!(StepsAnswer, made) == 4);
+    assert!(offset_of!(StepsAnswer, value) == 8);
+    assert!(size_of::<FetchAllAnswer>() == 80 && offset_of!(FetchAllAnswer, shown) == 16);
     assert!(size_of::<usize>() == 8);
 };
 
@@ -68,6 +87,13 @@ extern "C" {
         directory: *const Directory,
         card: u32,
     ) -> Answer;
+    pub fn rack_steps(
+        memory: *mut u32,
+        words: usize,
+        directory: *const Directory,
+        card: u32,
+        count: u32,
+    ) -> StepsAnswer;
     pub fn rack_fetch(
         memory: *const u32,
         words: usize,
@@ -76,6 +102,13 @@ extern "C" {
         buffer: *mut u32,
         buffer_words: usize,
     ) -> Answer;
+    pub fn rack_fetch_all(
+        memory: *const u32,
+        words: usize,
+        directory: *const Directory,
+        buffer: *mut u32,
+        buffer_words: usize,
+    ) -> FetchAllAnswer;
     pub fn rack_fail(
         memory: *const u32,
         words: usize,

@@ -1,11 +1,12 @@
 //! A price rack whose behaviour is proved: 3 to 8 cards, 1 to 64 pages of 32 prices, each page on two
 //! cards. A [`Rack`] owns its memory and directory; every call answers what the rack's specification
-//! defines, and one that is refused has changed nothing. `include/bandsawpink.h` is the manual.
+//! defines, and one that is refused has changed nothing (but see [`Stopped`]). `include/bandsawpink.h`
+//! is the manual.
 
 mod calls;
 mod refusal;
 
-pub use refusal::Refusal;
+pub use refusal::{Refusal, Stopped};
 
 use calls::{Answer, DeskAnswer, Directory, RUNNING};
 
@@ -133,6 +134,25 @@ impl Rack {
         .map(|_| ())
     }
 
+    /// Makes so many steps of the release that is open on a card; gives the count. A refusal stops
+    /// them: the close is among those made, or the first is refused.
+    pub fn steps(&mut self, card: u32, count: u32) -> Result<u32, Stopped> {
+        let words = self.memory.len();
+        // SAFETY: see above.
+        let answer = unsafe {
+            calls::rack_steps(
+                self.memory.as_mut_ptr(),
+                words,
+                &self.directory,
+                card,
+                count,
+            )
+        };
+        let made = answer.made;
+        Refusal::of(answer.number, answer.value)
+            .map_or(Ok(made), |refusal| Err(Stopped { made, refusal }))
+    }
+
     /// Opens a release and makes its steps to the close; gives their number.
     pub fn release(
         &mut self,
@@ -140,15 +160,12 @@ impl Rack {
         number: u32,
         desk: &Desk,
         list: &[u32],
-    ) -> Result<u64, Refusal> {
+    ) -> Result<u32, Refusal> {
         self.open(card, number, desk, list)?;
-        let mut steps = 0;
-        loop {
-            match self.step(card) {
-                Ok(()) => steps += 1,
-                Err(Refusal::NoneOpen) => return Ok(steps),
-                Err(refusal) => return Err(refusal),
-            }
+        match self.steps(card, u32::MAX) {
+            Ok(made) => Ok(made),
+            Err(stopped) if stopped.refusal == Refusal::NoneOpen => Ok(stopped.made),
+            Err(stopped) => Err(stopped.refusal),
         }
     }
 
@@ -168,6 +185,25 @@ impl Rack {
             )
         })
         .map(|_| prices)
+    }
+
+    /// The prices of every page; none of a page in motion, which a single fetch would refuse.
+    pub fn fetch_all(&self) -> Result<Vec<Option<Page>>, Refusal> {
+        let mut prices = vec![[0; PAGE_WORDS]; self.pages() as usize];
+        let (memory, words) = (self.memory.as_ptr(), self.memory.len());
+        let room = prices.as_flattened().len();
+        // SAFETY: see above.
+        let answer = unsafe {
+            let buffer = prices.as_flattened_mut().as_mut_ptr();
+            calls::rack_fetch_all(memory, words, &self.directory, buffer, room)
+        };
+        if let Some(refusal) = Refusal::of(answer.number, answer.value) {
+            return Err(refusal);
+        }
+        let pages = prices.into_iter().zip(answer.shown);
+        Ok(pages
+            .map(|(page, shown)| (shown != 0).then_some(page))
+            .collect())
     }
 
     /// A card fails: it is dead, and its recovery awaited.

@@ -1,7 +1,7 @@
 //! Each call through the static library: what is accepted, each refusal with its place, and that a
 //! refusal changes nothing.
 
-use bandsawpink::{make_list, Desk, Page, Rack, Recovered, Refusal};
+use bandsawpink::{make_list, Desk, Page, Rack, Recovered, Refusal, Stopped};
 
 const DESK: Desk = [1, 2, 3, 4, 5, 6, 7, 8];
 const LIST: [u32; 5] = [0x1000_0001, 0x2002_0002, 250, 199, 0xF000_0004];
@@ -24,6 +24,12 @@ fn opened(steps: usize) -> Rack {
         rack.step(1).unwrap();
     }
     rack
+}
+
+/// The refusal of several steps of which none was made.
+fn none_made(stopped: Stopped) -> Refusal {
+    assert_eq!(stopped.made, 0);
+    stopped.refusal
 }
 
 fn refused<T>(rack: &mut Rack, call: impl FnOnce(&mut Rack) -> Result<T, Refusal>) -> Refusal {
@@ -69,6 +75,52 @@ fn a_list_and_its_release() {
     assert_eq!(rack.fetch(1), Ok(page_1()));
     assert_eq!(rack.desk(1), Ok(DESK));
     assert_eq!(rack.release(1, 2, &DESK, &[0xF000_0000]), Ok(11));
+}
+
+#[test]
+fn several_steps_are_single_steps() {
+    for count in 0..=19 {
+        let mut rack = opened(0);
+        assert_eq!(rack.steps(1, count), Ok(count));
+        assert!(rack == opened(count as usize));
+    }
+    let mut rack = opened(0);
+    let closed = Stopped {
+        made: 19,
+        refusal: Refusal::NoneOpen,
+    };
+    assert_eq!(rack.steps(1, 20), Err(closed));
+    assert!(rack == opened(19));
+    assert_eq!(rack.steps(1, 0), Ok(0));
+    for (card, refusal) in [(1, Refusal::NoneOpen), (3, Refusal::NoCard)] {
+        assert_eq!(
+            refused(&mut rack, |r| r.steps(card, 1).map_err(none_made)),
+            refusal
+        );
+    }
+    assert_eq!(
+        closed.to_string(),
+        "stopped after 19 steps: no release is open on the card"
+    );
+    assert_eq!(Refusal::from(closed), Refusal::NoneOpen);
+}
+
+#[test]
+fn all_pages_are_single_pages() {
+    let empty = [0; 32];
+    assert_eq!(rack().fetch_all().unwrap(), [Some(empty); 4]);
+    let mut rack = opened(13);
+    let moving = [Some(empty), None, Some(empty), Some(empty)];
+    assert_eq!(rack.fetch_all().unwrap(), moving);
+    rack.steps(1, 6).unwrap();
+    let shown = [Some(empty), Some(page_1()), Some(empty), Some(empty)];
+    assert_eq!(rack.fetch_all().unwrap(), shown);
+    rack.fail(1).unwrap();
+    assert_eq!(
+        refused(&mut rack, |r| r.fetch_all()),
+        Refusal::RecoveryAwaited
+    );
+    assert_eq!(Rack::format(8, 64).unwrap().fetch_all().unwrap().len(), 64);
 }
 
 #[test]
