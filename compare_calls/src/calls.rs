@@ -4,20 +4,23 @@ use crate::guard::{Flush, Guarded};
 use crate::library;
 use second::{Answer, Directory};
 
-/// A call with its arguments. A list buffer or page buffer is given by what stands in it before.
+/// A call with its arguments. A buffer is given by what stands in it before.
 #[derive(Clone, Debug)]
 pub enum Call {
     Format { cards: u32, pages: u32 },
     Open { card: u32, number: u32, desk: [u32; 8], list: Vec<u32> },
     Step { card: u32 },
+    Steps { card: u32, count: u32 },
     Fetch { page: u32, buffer: Vec<u32> },
+    FetchAll { buffer: Vec<u32> },
     Fail { card: u32 },
     Recover,
     Join { card: u32 },
     AskDesk { card: u32 },
 }
 
-/// What a call answers: the answer, and a page, a desk, or nothing.
+/// What a call answers: the answer, and beside it a page, a desk, the steps made, all pages with a mark for each that
+/// was shown, or nothing.
 #[derive(Clone, PartialEq, Eq, Debug)]
 pub struct Reply {
     pub answer: Answer,
@@ -77,10 +80,22 @@ fn make_second(memory: &mut [u32], directory: Directory, call: &Call) -> (Direct
             plain(second::open_release(memory, directory, *card, *number, *desk, list))
         }
         Call::Step { card } => plain(second::make_step(memory, directory, *card)),
+        Call::Steps { card, count } => {
+            let (directory, answer, made) = second::make_steps(memory, directory, *card, *count);
+            // document 01 names no value for it: the library gives the steps made
+            let answer = if answer == Answer::Given(0) { Answer::Given(made.into()) } else { answer };
+            (directory, Reply { answer, beside: vec![made] })
+        }
         Call::Fetch { page, buffer } => {
             let mut beside = buffer.clone();
             let (directory, answer) = second::fetch_page(memory, directory, *page, &mut beside);
             (directory, Reply { answer, beside })
+        }
+        Call::FetchAll { buffer } => {
+            let mut words = buffer.clone();
+            let (directory, answer, shown) = second::fetch_all(memory, directory, &mut words);
+            words.extend(shown.map(u32::from));
+            (directory, Reply { answer, beside: words })
         }
         Call::Fail { card } => plain(second::fail_card(memory, directory, *card)),
         Call::Recover => {

@@ -100,7 +100,7 @@ fn damage_directory(random: &mut Random, directory: &mut Directory) {
 fn any_call(random: &mut Random, directory: &Directory) -> Call {
     let card = if random.one_in(6) { random.odd_word() } else { random.below(8) };
     let page = if random.one_in(6) { random.odd_word() } else { random.below(4) };
-    match random.below(9) {
+    match random.below(12) {
         0 => Call::Format { cards: random.below(10), pages: random.below(66) },
         1 | 2 => {
             let pages = directory.pages.clamp(1, 64);
@@ -113,6 +113,11 @@ fn any_call(random: &mut Random, directory: &Directory) -> Call {
         5 => Call::Fail { card },
         6 => Call::Recover,
         7 => Call::Join { card },
+        8 => Call::Steps { card, count: random.of(&[0, 1, 5, 30, 300, u32::MAX]) },
+        9 | 10 => {
+            let room = 32 * (directory.pages as usize).min(70);
+            Call::FetchAll { buffer: vec![5; if random.one_in(6) { room + 1 } else { room }] }
+        }
         _ => Call::AskDesk { card },
     }
 }

@@ -66,10 +66,20 @@ pub fn make(memory: &mut [u32], before: Directory, call: &Call, flush: Flush) ->
                 rack_open(at, len, d, *card, *number, desk.as_ptr(), list.as_ptr(), list.len()).into()
             }
             Call::Step { card } => rack_step(at, len, d, *card).into(),
+            Call::Steps { card, count } => {
+                let given = rack_steps(at, len, d, *card, *count);
+                Reply { answer: answer(given.number, given.value), beside: vec![given.made] }
+            }
             Call::Fetch { page, buffer } => {
                 let mut buffer = Guarded::new(buffer, flush);
                 let given = rack_fetch(at, len, d, *page, buffer.as_mut_ptr(), buffer.len());
                 Reply { answer: answer(given.number, given.value), beside: buffer.to_vec() }
+            }
+            Call::FetchAll { buffer } => {
+                let mut buffer = Guarded::new(buffer, flush);
+                let given = rack_fetch_all(at, len, d, buffer.as_mut_ptr(), buffer.len());
+                let marks = given.shown.map(u32::from);
+                Reply { answer: answer(given.number, given.value), beside: [&*buffer, &marks].concat() }
             }
             Call::Fail { card } => rack_fail(at, len, d, *card).into(),
             Call::Recover => rack_recover(at, len, d).into(),

@@ -37,7 +37,7 @@ impl Play {
             let reply = self.racks.call(&call).map_err(|error| format!("call {at}: {error}"))?;
             seen[number(&reply)] += 1;
             self.hold(&call, &reply).map_err(|error| format!("call {at}: {call:?}: {error}"))?;
-            self.note(&call, reply.accepted());
+            self.note(&call, &reply);
         }
         Ok(())
     }
@@ -64,8 +64,10 @@ impl Play {
         };
         match self.random.below(40) {
             0..=7 => self.opening(card),
-            8..=28 => Call::Step { card },
-            29..=32 => self.fetch(),
+            8..=24 => Call::Step { card },
+            25..=27 => Call::Steps { card, count: self.random.of(&[0, 1, 2, 7, 12, 20, u32::MAX]) },
+            28..=31 => self.fetch(),
+            32 => self.fetch_all(),
             33 => Call::Fail { card },
             34 => Call::Recover,
             35..=36 => Call::Join { card: self.away.first().copied().unwrap_or(card) },
@@ -81,6 +83,12 @@ impl Play {
         };
         let room = if self.random.one_in(12) { self.random.below(40) } else { 32 };
         Call::Fetch { page, buffer: vec![7; room as usize] }
+    }
+
+    fn fetch_all(&mut self) -> Call {
+        let room = 32 * self.racks.directory.pages;
+        let room = if self.random.one_in(12) { self.random.below(2 * room) } else { room };
+        Call::FetchAll { buffer: vec![7; room as usize] }
     }
 
     /// Mostly the next number, and short lists, so that releases come to their close.
@@ -105,6 +113,7 @@ impl Play {
         let expected = match call {
             _ if !reply.accepted() => return Ok(()),
             Call::Fetch { page, .. } => self.book.page(*page).to_vec(),
+            Call::FetchAll { buffer } => self.all_pages(buffer, &reply.beside),
             Call::Recover => self.book.last(self.book.failed()).1.to_vec(),
             Call::AskDesk { card } if !self.book.is_open(*card) => self.book.last(*card).1.to_vec(),
             _ => return Ok(()),
@@ -116,10 +125,25 @@ impl Play {
         }
     }
 
-    fn note(&mut self, call: &Call, accepted: bool) {
+    /// The book's words of each page that is marked as shown, those before of the others; then the marks.
+    fn all_pages(&self, before: &[u32], told: &[u32]) -> Vec<u32> {
+        let marks = &told[before.len()..];
+        let pages = before.chunks(32).zip(0..).flat_map(|(words, page)| match marks[page as usize] {
+            0 => words.to_vec(),
+            _ => self.book.page(page).to_vec(),
+        });
+        pages.chain(marks.iter().copied()).collect()
+    }
+
+    fn note(&mut self, call: &Call, reply: &Reply) {
+        let accepted = reply.accepted();
         let told = match call.clone() {
             Call::Open { card, number, desk, list } => book::Call::Open { card, number, desk, list },
             Call::Step { card } => book::Call::Step { card },
+            Call::Steps { card, .. } => {
+                (0..reply.beside[0]).for_each(|_| self.book.feed(&book::Call::Step { card }, true));
+                return;
+            }
             Call::Fail { card } => {
                 self.away.extend(accepted.then_some(card));
                 book::Call::Fail { card }
@@ -129,7 +153,7 @@ impl Play {
                 book::Call::Join { card }
             }
             Call::Recover => book::Call::Recover,
-            Call::Fetch { .. } | Call::AskDesk { .. } | Call::Format { .. } => return,
+            Call::Fetch { .. } | Call::FetchAll { .. } | Call::AskDesk { .. } | Call::Format { .. } => return,
         };
         self.book.feed(&told, accepted);
     }

@@ -19,6 +19,20 @@ pub struct RackDeskAnswer {
     pub desk: [u32; 8],
 }
 
+#[repr(C)]
+pub struct RackStepsAnswer {
+    pub number: u32,
+    pub made: u32,
+    pub value: u64,
+}
+
+#[repr(C)]
+pub struct RackFetchAllAnswer {
+    pub number: u32,
+    pub value: u64,
+    pub shown: [u8; 64],
+}
+
 pub type Words = *mut u32;
 pub type Lent = *const u32;
 
@@ -27,7 +41,9 @@ extern "C" {
     pub fn rack_format(memory: Words, len: usize, cards: u32, pages: u32, directory: Words) -> RackAnswer;
     pub fn rack_open(memory: Words, len: usize, directory: Lent, card: u32, number: u32, desk: Lent, list: Lent, words: usize) -> RackAnswer;
     pub fn rack_step(memory: Words, len: usize, directory: Lent, card: u32) -> RackAnswer;
+    pub fn rack_steps(memory: Words, len: usize, directory: Lent, card: u32, count: u32) -> RackStepsAnswer;
     pub fn rack_fetch(memory: Lent, len: usize, directory: Lent, page: u32, buffer: Words, words: usize) -> RackAnswer;
+    pub fn rack_fetch_all(memory: Lent, len: usize, directory: Lent, buffer: Words, words: usize) -> RackFetchAllAnswer;
     pub fn rack_fail(memory: Lent, len: usize, directory: Words, card: u32) -> RackAnswer;
     pub fn rack_recover(memory: Words, len: usize, directory: Words) -> RackDeskAnswer;
     pub fn rack_join(memory: Words, len: usize, directory: Words, card: u32) -> RackAnswer;
