@@ -42,10 +42,10 @@ impl Directory {
             ..Directory::empty()
         };
         for card in 0..cards {
-            directory = directory.mark_live(card);
+            directory.mark_live(card);
         }
         for page in 0..pages {
-            directory = directory.move_primary(page, page % cards);
+            directory.move_primary(page, page % cards);
         }
         directory
     }
@@ -96,25 +96,17 @@ impl Directory {
         [self.primary_of(page), self.secondary_of(page)]
     }
 
-    pub(crate) fn mark_live(mut self, card: u32) -> Directory {
+    pub(crate) fn mark_live(&mut self, card: u32) {
         self.live[card as usize] = true;
-        self
     }
 
-    pub(crate) fn mark_dead(mut self, card: u32) -> Directory {
+    pub(crate) fn mark_dead(&mut self, card: u32) {
         self.live[card as usize] = false;
-        self
-    }
-
-    pub(crate) fn with_status(mut self, status: Status) -> Directory {
-        self.status = status;
-        self
     }
 
     /// Moves a page's primary, and its secondary to the next live after it.
-    pub(crate) fn move_primary(mut self, page: u32, primary: u32) -> Directory {
+    pub(crate) fn move_primary(&mut self, page: u32, primary: u32) {
         self.primary[page as usize] = primary;
         self.secondary[page as usize] = self.next_live(primary);
-        self
     }
 }

@@ -7,6 +7,8 @@
 
 mod answer;
 pub mod book;
+pub mod by_reference;
+mod by_value;
 mod calls;
 mod checks;
 mod directory;
@@ -18,7 +20,7 @@ mod release;
 mod shelfrun;
 
 pub use answer::Answer;
-pub use calls::{
+pub use by_value::{
     ask_desk, fail_card, fetch_all, fetch_page, format_rack, join_card, make_step, make_steps,
     open_release, recover,
 };

@@ -8,17 +8,18 @@ use crate::layout::{
 use crate::record::Record;
 use crate::release::{all_steps, step, Release};
 
-/// Recovers the failed card of a checked rack: the directory after it and the
-/// card's record.
-pub fn recover_card(memory: &mut [u32], directory: Directory, failed: u32) -> (Directory, Record) {
-    let before = directory.mark_live(failed);
-    close_releases(memory, &directory, &before, failed);
+/// Recovers the failed card of a checked rack; gives the card's record.
+pub fn recover_card(memory: &mut [u32], directory: &mut Directory, failed: u32) -> Record {
+    let mut before = *directory;
+    before.mark_live(failed);
+    close_releases(memory, directory, &before, failed);
     let keeper = directory.record_keeper(failed);
     let record = Record::read(area(memory, directory.pages, keeper), failed);
-    settle_pages(memory, &directory, second_phase(&record));
-    let after = move_homes(memory, directory, failed);
-    write_records(memory, &before, &after, failed, &record);
-    (after.with_status(Status::Running), record)
+    settle_pages(memory, directory, second_phase(&record));
+    move_homes(memory, directory, failed);
+    write_records(memory, &before, directory, failed, &record);
+    directory.status = Status::Running;
+    record
 }
 
 /// "Each open release on a live card, ascending, is run to its close." Homes and
@@ -70,20 +71,18 @@ fn settle_pages(memory: &mut [u32], directory: &Directory, second_phase: bool) {
 
 /// "A page whose primary was f takes its secondary as primary. A page that lost
 /// a home gets as secondary the next live after its primary, with both copies."
-fn move_homes(memory: &mut [u32], directory: Directory, failed: u32) -> Directory {
-    let mut after = directory;
+fn move_homes(memory: &mut [u32], directory: &mut Directory, failed: u32) {
     for page in 0..directory.pages {
         let [primary, secondary] = directory.homes_of(page);
         if primary == failed {
-            after = after.move_primary(page, secondary);
+            directory.move_primary(page, secondary);
         } else if secondary == failed {
-            after = after.move_primary(page, primary);
+            directory.move_primary(page, primary);
         } else {
             continue;
         }
-        copy_page(memory, &after, page);
+        copy_page(memory, directory, page);
     }
-    after
 }
 
 /// Copies both copies of a page from its primary to its secondary.
@@ -112,9 +111,10 @@ fn write_records(
     }
 }
 
-/// Joins a dead card of a checked rack: the directory after it.
-pub fn join(memory: &mut [u32], before: Directory, joining: u32) -> Directory {
-    let after = before.mark_live(joining);
+/// Joins a dead card of a checked rack.
+pub fn join(memory: &mut [u32], directory: &mut Directory, joining: u32) {
+    let before = *directory;
+    directory.mark_live(joining);
     let pages = before.pages;
     let keeper = before.record_keeper(joining);
     let record = Record::read(area(memory, pages, keeper), joining);
@@ -122,14 +122,13 @@ pub fn join(memory: &mut [u32], before: Directory, joining: u32) -> Directory {
     own.fill(0);
     own[OWN_STAMP] = record.stamp;
     put_desk(own, OWN_DESK, &record.desk);
-    for dead in after.dead_cards() {
+    for dead in directory.dead_cards() {
         copy_record(memory, pages, dead, before.record_keeper(dead), joining);
     }
-    for card in after.backed_by(joining) {
+    for card in directory.backed_by(joining) {
         let record = Record::of_live(area(memory, pages, card));
         record.write(area_mut(memory, pages, joining), card);
     }
-    after
 }
 
 /// Copies the whole record of a dead card from one card to another.

@@ -3,7 +3,7 @@
 use std::io::{self, BufRead, ErrorKind, Write};
 
 use crate::answer::Answer;
-use crate::calls::{
+use crate::by_value::{
     fail_card, fetch_page, format_rack, join_card, make_steps, open_release, recover,
 };
 use crate::directory::Directory;
