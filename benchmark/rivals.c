@@ -1,5 +1,6 @@
 /* What a shop would use instead: LMDB without syncing, and SQLite in memory. Each holds two copies of 64 pages of 32
- * prices. Timed: forty prices changed in one transaction, and one page read. Prints rows of a table. */
+ * prices, one record for each page of each copy. Timed: the releases of forty prices that are timed of the rack, each in
+ * one transaction on both copies; one page read; all pages read. Prints rows of a table. */
 #define _POSIX_C_SOURCE 200809L
 #include <lmdb.h>
 #include <sqlite3.h>
@@ -10,7 +11,7 @@
 #include <time.h>
 #include <unistd.h>
 
-enum { PAGES = 64, WORDS = 32, PRICES = 40, ROUNDS = 41, RUNS = 400 };
+enum { PAGES = 64, WORDS = 32, PRICES = 40, ROUNDS = 201, RUNS = 40 };
 
 static void check(int failed, const char *what) {
     if (failed) {
@@ -40,14 +41,27 @@ static void row(const char *name, void (*run)(uint32_t)) {
         times[round] = (now() - start) / RUNS;
     }
     qsort(times, ROUNDS, sizeof times[0], ascending);
-    printf("| %s | %.0f ns | %.0f |\n", name, times[ROUNDS / 2], times[3 * ROUNDS / 4] - times[ROUNDS / 4]);
+    printf("| %s | %.0f | %.0f |\n", name, times[ROUNDS / 2], times[3 * ROUNDS / 4] - times[ROUNDS / 4]);
 }
 
 static uint32_t page_words[WORDS];
 
-/* Forty prices from word 0 on: page 0 whole, and 8 words of page 1. */
-static void change(uint32_t *words, int page, uint32_t price) {
-    for (int word = 0; word < WORDS && page * WORDS + word < PRICES; word++) words[word] = price;
+/* A release of forty prices: label at * stride + first for each. */
+struct release {
+    int stride, first;
+};
+
+static const struct release on_2_pages = {1, 0};      /* page 0 whole, and 8 words of page 1 */
+static const struct release on_40_pages = {WORDS, 5}; /* word 5 of each page */
+
+static int page_of(const struct release *release, int at) { return (at * release->stride + release->first) / WORDS; }
+
+/* Changes the prices of one page, of which the first is the release's at-th. Gives the first of the next page. */
+static int change(const struct release *release, int at, uint32_t price) {
+    int page = page_of(release, at);
+    for (; at < PRICES && page_of(release, at) == page; at++)
+        page_words[(at * release->stride + release->first) % WORDS] = price;
+    return at;
 }
 
 /* ---- LMDB */
@@ -71,21 +85,33 @@ static void get(MDB_txn *txn, int copy, int page) {
     memcpy(page_words, v.mv_data, sizeof page_words);
 }
 
-static void lmdb_release(uint32_t price) {
+static void lmdb_release(const struct release *release, uint32_t price) {
     MDB_txn *txn;
     check(mdb_txn_begin(env, NULL, 0, &txn), "mdb_txn_begin");
     for (int copy = 0; copy < 2; copy++)
-        for (int page = 0; page < 2; page++) {
+        for (int at = 0; at < PRICES;) {
+            int page = page_of(release, at);
             get(txn, copy, page);
-            change(page_words, page, price);
+            at = change(release, at, price);
             put(txn, copy, page);
         }
     check(mdb_txn_commit(txn), "mdb_txn_commit");
 }
 
+static void lmdb_release_2(uint32_t turn) { lmdb_release(&on_2_pages, turn); }
+
+static void lmdb_release_40(uint32_t turn) { lmdb_release(&on_40_pages, turn); }
+
 static void lmdb_read(uint32_t turn) {
     check(mdb_txn_renew(reading), "mdb_txn_renew");
     get(reading, 0, (int)(turn % PAGES));
+    mdb_txn_reset(reading);
+}
+
+static void lmdb_read_all(uint32_t turn) {
+    (void)turn;
+    check(mdb_txn_renew(reading), "mdb_txn_renew");
+    for (int page = 0; page < PAGES; page++) get(reading, 0, page);
     mdb_txn_reset(reading);
 }
 
@@ -104,8 +130,10 @@ static void lmdb(void) {
     check(mdb_txn_commit(txn), "mdb_txn_commit");
     check(mdb_txn_begin(env, NULL, MDB_RDONLY, &reading), "mdb_txn_begin");
     mdb_txn_reset(reading);
-    row("LMDB without sync: forty prices in one transaction", lmdb_release);
+    row("LMDB without sync: release of 40 prices on 2 pages", lmdb_release_2);
+    row("LMDB without sync: release of 40 prices on 40 pages", lmdb_release_40);
     row("LMDB: one page read", lmdb_read);
+    row("LMDB: all 64 pages read", lmdb_read_all);
     mdb_txn_abort(reading);
     mdb_env_close(env);
     unlink(file);
@@ -117,7 +145,7 @@ static void lmdb(void) {
 /* ---- SQLite */
 
 static sqlite3 *db;
-static sqlite3_stmt *insert, *selecting, *begin, *commit;
+static sqlite3_stmt *insert, *selecting, *selecting_all, *begin, *commit;
 
 static sqlite3_stmt *prepared(const char *sql) {
     sqlite3_stmt *statement;
@@ -147,41 +175,60 @@ static void sqlite_get(int copy, int page) {
     sqlite3_reset(selecting);
 }
 
-static void sqlite_release(uint32_t price) {
+static void sqlite_release(const struct release *release, uint32_t price) {
     stepped(begin, SQLITE_DONE);
     sqlite3_reset(begin);
     for (int copy = 0; copy < 2; copy++)
-        for (int page = 0; page < 2; page++) {
+        for (int at = 0; at < PRICES;) {
+            int page = page_of(release, at);
             sqlite_get(copy, page);
-            change(page_words, page, price);
+            at = change(release, at, price);
             sqlite_put(copy, page);
         }
     stepped(commit, SQLITE_DONE);
     sqlite3_reset(commit);
 }
 
+static void sqlite_release_2(uint32_t turn) { sqlite_release(&on_2_pages, turn); }
+
+static void sqlite_release_40(uint32_t turn) { sqlite_release(&on_40_pages, turn); }
+
 static void sqlite_read(uint32_t turn) { sqlite_get(0, (int)(turn % PAGES)); }
+
+static void sqlite_read_all(uint32_t turn) {
+    (void)turn;
+    for (int page = 0; page < PAGES; page++) {
+        stepped(selecting_all, SQLITE_ROW);
+        memcpy(page_words, sqlite3_column_blob(selecting_all, 0), sizeof page_words);
+    }
+    stepped(selecting_all, SQLITE_DONE);
+    sqlite3_reset(selecting_all);
+}
 
 static void sqlite(void) {
     check(sqlite3_open(":memory:", &db), "sqlite3_open");
     check(sqlite3_exec(db, "create table page (id integer primary key, words blob)", NULL, NULL, NULL), "create");
     insert = prepared("insert or replace into page values (?, ?)");
     selecting = prepared("select words from page where id = ?");
+    selecting_all = prepared("select words from page where id < 64");
     begin = prepared("begin");
     commit = prepared("commit");
     for (int copy = 0; copy < 2; copy++)
         for (int page = 0; page < PAGES; page++) sqlite_put(copy, page);
-    row("SQLite in memory: forty prices in one transaction", sqlite_release);
+    row("SQLite in memory: release of 40 prices on 2 pages", sqlite_release_2);
+    row("SQLite in memory: release of 40 prices on 40 pages", sqlite_release_40);
     row("SQLite: one page read", sqlite_read);
+    row("SQLite: all 64 pages read", sqlite_read_all);
     sqlite3_finalize(insert);
     sqlite3_finalize(selecting);
+    sqlite3_finalize(selecting_all);
     sqlite3_finalize(begin);
     sqlite3_finalize(commit);
     sqlite3_close(db);
 }
 
 int main(void) {
-    printf("| instead | time | spread |\n|---|---|---|\n");
+    printf("Instead of the rack, in nanoseconds:\n\n| instead | time | spread |\n|---|---|---|\n");
     lmdb();
     sqlite();
     return 0;

@@ -1,18 +1,23 @@
 //! Times the proved library beside the second implementation, call by call, and prints tables.
 
+mod calls;
 mod measure;
 mod racks;
+mod work;
 
 use compare_calls::raw::rack_make_list;
 use measure::{in_turn, Time};
-use racks::{list, Rack, PRICES};
+use racks::{list, spread_list, Rack, PRICES};
 use std::hint::black_box;
+use work::*;
 
-const STEPS: u32 = 4 * PRICES + 11;
+const SIZES: [(u32, u32); 2] = [(3, 4), (8, 64)];
 
 fn main() {
-    println!("| call | proved | spread | second | spread | ratio |");
-    println!("|---|---|---|---|---|---|");
+    println!("Times in nanoseconds. Rust is the second implementation, its directory in and out by value, or lent.");
+    println!();
+    println!("| call | proved | spread | Rust, by value | spread | ratio | Rust, by reference | spread | ratio |");
+    println!("|---|---|---|---|---|---|---|---|---|");
     fetches();
     openings();
     releases();
@@ -20,10 +25,12 @@ fn main() {
     lists();
     formattings();
     println!();
-    println!("One step of a release of {PRICES} prices, in nanoseconds, by cards, pages and other open releases:");
+    println!("The second implementation makes several steps one by one, each with its checks.");
     println!();
-    println!("| cards | pages | other releases | proved | second | ratio |");
-    println!("|---|---|---|---|---|---|");
+    println!("One step of a release of {PRICES} prices, by cards, pages and other open releases:");
+    println!();
+    println!("| cards | pages | other releases | proved | Rust, by value | ratio | Rust, by reference | ratio |");
+    println!("|---|---|---|---|---|---|---|---|");
     for (cards, pages) in [(3, 12), (8, 12), (3, 64), (8, 64)] {
         for others in [0, 1, 2, 7] {
             if others < cards {
@@ -33,129 +40,94 @@ fn main() {
     }
 }
 
-fn row(name: &str, (proved, second): (Time, Time)) {
-    println!(
-        "| {name} | {:.0} ns | {:.0} | {:.0} ns | {:.0} | {:.2} |",
-        proved.median,
-        proved.spread,
-        second.median,
-        second.spread,
-        proved.median / second.median
-    );
+/// A number with three digits or more.
+fn shown(nanoseconds: f64) -> String {
+    if nanoseconds < 100.0 {
+        format!("{nanoseconds:.1}")
+    } else {
+        format!("{nanoseconds:.0}")
+    }
 }
 
-fn accepted(number: u32) {
-    assert_eq!(number, 0, "a timed call was refused");
+fn row(name: &str, [proved, others @ ..]: &[Time; 3]) {
+    let mut line = format!("| {name} | {} | {} |", shown(proved.median), shown(proved.spread));
+    for other in others {
+        let ratio = proved.median / other.median;
+        line += &format!(" {} | {} | {ratio:.2} |", shown(other.median), shown(other.spread));
+    }
+    println!("{line}");
 }
 
 fn fetches() {
-    for (cards, pages) in [(3, 4), (8, 64)] {
-        let (mut one, other) = (Rack::new(cards, pages, 0), Rack::new(cards, pages, 0));
-        let (mut first, mut second) = ([0; 32], [0; 32]);
-        let times = in_turn(&mut || accepted(one.fetch_proved(1, black_box(&mut first))), &mut || {
-            black_box(second::fetch_page(&other.memory, other.directory, 1, black_box(&mut second)));
-        });
-        row(&format!("fetch, {cards} × {pages}"), times);
+    for (cards, pages) in SIZES {
+        let rack = Rack::new(cards, pages, 0);
+        row(&format!("fetch, {cards} × {pages}"), &compare(&rack, &Fetch { buffer: [0; 32] }));
+    }
+    for (cards, pages) in SIZES {
+        let rack = Rack::new(cards, pages, 0);
+        let times = compare(&rack, &FetchAll { buffer: vec![0; 32 * pages as usize] });
+        row(&format!("fetch of all pages, {cards} × {pages}"), &times);
+        row(&format!("fetch of all pages, {cards} × {pages}, for each page"), &times.map(|time| time.per(pages)));
     }
 }
 
 fn openings() {
-    for (cards, pages) in [(3, 4), (8, 64)] {
-        let list = list(0);
-        let (mut one, mut other) = (Rack::new(cards, pages, 0), Rack::new(cards, pages, 0));
-        let mut proved = || {
-            one.reset();
-            accepted(one.open_proved(&list));
-        };
-        let mut second = || {
-            other.reset();
-            black_box(second::open_release(&mut other.memory, other.directory, 0, 1, [0; 8], &list));
-        };
-        row(&format!("opening of {PRICES} prices, {cards} × {pages}"), in_turn(&mut proved, &mut second));
+    for (cards, pages) in SIZES {
+        let rack = Rack::new(cards, pages, 0);
+        row(&format!("opening of {PRICES} prices, {cards} × {pages}"), &compare(&rack, &Opening { list: list(0) }));
     }
-}
-
-/// A whole release: opened, and made step by step to its close.
-fn release_times(cards: u32, pages: u32, others: u32) -> (Time, Time) {
-    let list = list(0);
-    let (mut one, mut other) = (Rack::new(cards, pages, others), Rack::new(cards, pages, others));
-    let mut proved = || {
-        one.reset();
-        accepted(one.open_proved(&list));
-        for _ in 0..STEPS {
-            accepted(one.step_proved());
-        }
-    };
-    let mut second = || {
-        other.reset();
-        black_box(second::open_release(&mut other.memory, other.directory, 0, 1, [0; 8], &list));
-        for _ in 0..STEPS {
-            black_box(second::make_step(&mut other.memory, other.directory, 0));
-        }
-    };
-    in_turn(&mut proved, &mut second)
 }
 
 fn releases() {
-    for (cards, pages) in [(3, 4), (8, 64)] {
-        row(
-            &format!("release of {PRICES} prices in {STEPS} single steps, {cards} × {pages}"),
-            release_times(cards, pages, 0),
-        );
+    for (cards, pages) in SIZES {
+        let rack = Rack::new(cards, pages, 0);
+        let name = format!("release of {PRICES} prices on 2 pages, {cards} × {pages}");
+        row(&format!("{name}: opening and {STEPS} single steps"), &compare(&rack, &SingleSteps { list: list(0) }));
+        row(&format!("{name}: opening and {STEPS} steps in one call"), &compare(&rack, &OneCall { list: list(0) }));
     }
+    let rack = Rack::new(8, 64, 0);
+    let name = format!("release of {PRICES} prices on 40 pages, 8 × 64: opening and {STEPS} steps in one call");
+    row(&name, &compare(&rack, &OneCall { list: spread_list() }));
 }
 
 fn growth(cards: u32, pages: u32, others: u32) {
-    let steps = f64::from(STEPS);
-    let (proved, second) = release_times(cards, pages, others);
+    let rack = Rack::new(cards, pages, others);
+    let [proved, by_value, by_reference] =
+        compare(&rack, &SingleSteps { list: list(0) }).map(|time| time.per(STEPS).median);
     println!(
-        "| {cards} | {pages} | {others} | {:.0} | {:.0} | {:.2} |",
-        proved.median / steps,
-        second.median / steps,
-        proved.median / second.median
+        "| {cards} | {pages} | {others} | {} | {} | {:.2} | {} | {:.2} |",
+        shown(proved),
+        shown(by_value),
+        proved / by_value,
+        shown(by_reference),
+        proved / by_reference
     );
 }
 
 fn recoveries() {
-    let (mut one, mut other) = (Rack::new(8, 64, 0), Rack::new(8, 64, 0));
-    let mut proved = || accepted(one.fail_and_recover_proved(1));
-    let mut second = || {
-        let (failed, _) = second::fail_card(&other.memory, other.directory, 1);
-        black_box(second::recover(&mut other.memory, failed));
-    };
-    row("failure and recovery, 8 × 64", in_turn(&mut proved, &mut second));
+    row("failure and recovery, 8 × 64", &compare(&Rack::new(8, 64, 0), &Recovery));
 }
 
+/// The list maker has no directory: the second implementation's is timed once.
 fn lists() {
     let twins = vec![7u32; 32 * 64];
     let mut working = twins.clone();
     (0..PRICES as usize).for_each(|at| working[51 * at] = 8);
     let (mut first, mut other) = (vec![0u32; 512], vec![0u32; 512]);
     let mut proved = || {
+        let (list, room) = (black_box(&mut first).as_mut_ptr(), 512);
         // SAFETY: pointers and lengths of slices that live through the call and do not overlap.
-        accepted(unsafe {
-            rack_make_list(
-                working.as_ptr(),
-                working.len(),
-                twins.as_ptr(),
-                twins.len(),
-                black_box(&mut first).as_mut_ptr(),
-                512,
-            )
-            .number
-        });
+        let made = unsafe { rack_make_list(working.as_ptr(), working.len(), twins.as_ptr(), twins.len(), list, room) };
+        assert_eq!(made.number, 0, "a timed call was refused");
     };
     let mut second = || {
         black_box(second::make_list(&working, &twins, black_box(&mut other)));
     };
-    row(&format!("list maker, 64 pages, {PRICES} prices"), in_turn(&mut proved, &mut second));
+    let [proved, second] = in_turn([&mut proved, &mut second]);
+    row(&format!("list maker, 64 pages, {PRICES} prices"), &[proved, second, second]);
 }
 
 fn formattings() {
-    let (mut one, mut other) = (Rack::new(8, 64, 0), Rack::new(8, 64, 0));
-    let mut proved = || accepted(one.format_proved());
-    let mut second = || {
-        black_box(second::format_rack(&mut other.memory, 8, 64));
-    };
-    row("formatting, 8 × 64", in_turn(&mut proved, &mut second));
+    let (cards, pages) = (8, 64);
+    row("formatting, 8 × 64", &compare(&Rack::new(cards, pages, 0), &Formatting { cards, pages }));
 }

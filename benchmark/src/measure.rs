@@ -1,4 +1,4 @@
-//! Two functions timed in turn, so that what disturbs the machine disturbs both.
+//! Functions timed in turn, so that what disturbs the machine disturbs all of them.
 
 use std::time::Instant;
 
@@ -9,23 +9,32 @@ pub struct Time {
     pub spread: f64,
 }
 
-const ROUNDS: usize = 41;
-/// A round takes about so long.
-const ROUND_NS: f64 = 2_000_000.0;
-
-pub fn in_turn(first: &mut dyn FnMut(), second: &mut dyn FnMut()) -> (Time, Time) {
-    let runs = [runs_in_round(first), runs_in_round(second)];
-    let mut times = [Vec::new(), Vec::new()];
-    for _ in 0..ROUNDS {
-        times[0].push(nanoseconds(first, runs[0]));
-        times[1].push(nanoseconds(second, runs[1]));
+impl Time {
+    /// The time of one part of an operation that has so many.
+    pub fn per(self, parts: u32) -> Time {
+        let parts = f64::from(parts);
+        Time { median: self.median / parts, spread: self.spread / parts }
     }
-    let [one, other] = times.map(summed_up);
-    (one, other)
+}
+
+const ROUNDS: usize = 201;
+/// A round takes about so long: short, so that few of them are disturbed.
+const ROUND_NS: f64 = 250_000.0;
+
+pub fn in_turn<const N: usize>(mut runs: [&mut dyn FnMut(); N]) -> [Time; N] {
+    let counts = runs.each_mut().map(|run| runs_in_round(*run));
+    let mut times = [const { Vec::new() }; N];
+    for _ in 0..ROUNDS {
+        for at in 0..N {
+            times[at].push(nanoseconds(runs[at], counts[at]));
+        }
+    }
+    times.map(summed_up)
 }
 
 fn runs_in_round(run: &mut dyn FnMut()) -> u32 {
-    let once = nanoseconds(run, 3).max(1.0);
+    let tried = (0..5).map(|_| nanoseconds(run, 3));
+    let once = tried.fold(f64::INFINITY, f64::min).max(1.0);
     (ROUND_NS / once).clamp(1.0, 1_000_000.0) as u32
 }
 
