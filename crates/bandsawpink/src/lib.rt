@@ -19,7 +19,6 @@ ghost use Rattle.batch.specs.FetchAll.{fetchAll};
 ghost use Rattle.bandsawpink.specs.Words.{directoryIn, wordsOf};
 ghost use Rattle.bandsawpink.specs.Answers.{answered, answeredDesk, directoryAfter};
 ghost use Rattle.bandsawpink.specs.Answers.{answeredSteps, answeredPages};
-use directory::Directory;
 
 mod answers;
 mod words;
@@ -28,6 +27,7 @@ use answers::RackAnswer;
 use answers::RackDeskAnswer;
 use answers::RackFetchAllAnswer;
 use answers::RackStepsAnswer;
+use directory::Directory;
 
 // Writes the directory that a call left, unless it was refused.
 fn hand_back(words: &mut [u32], number: u32, directory: Directory)
