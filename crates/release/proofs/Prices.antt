@@ -125,7 +125,8 @@ from-label p label price in-page of-label of-price =
     rw (page, word, of-price)
 
 module _ (pages size : ℕ) (m : List ℕ) (card : ℕ) (sized : size ≡ areaSize pages) (out : List ℕ)
-    {labels prices : List ℕ} (long : length out ≡ 512) (long-labels : length labels ≡ 512) (long-prices : length prices ≡ 512)
+    (long : length out ≡ 512) {labels prices : List ℕ} (long-labels : length labels ≡ 512)
+    (long-prices : length prices ≡ 512)
     (of-labels : labels ≡ sets out 0 (map labelOf (pricesOf pages (loadRun size m card listStart listSize))))
     (of-prices : prices ≡ sets out 0 (map priceOf (pricesOf pages (loadRun size m card listStart listSize)))) where
   abbrev ps : List Price
@@ -138,7 +139,8 @@ module _ (pages size : ℕ) (m : List ℕ) (card : ℕ) (sized : size ≡ areaSi
       let within = ltb-true n (length ps) test in
       let q = listedPrice labels prices n in
       let run = length-load-run size m card listStart listSize area (omega arith) in
-      let few : length ps ≤ 512 = omega (arith, rw sized at run, few-prices pages (openList (areaSize pages) m card)) in
+      let most = few-prices pages (openList (areaSize pages) m card) in
+      let few : length ps ≤ 512 = omega (arith, rw sized at run, most) in
       let on = price-on-page pages ps n q (prices-on-pages pages (openList (areaSize pages) m card)) within in
       let label = ap (λ xs. getD xs n 0) (rw sized at of-labels) ∙ listed-at labelOf ps out n q (omega arith) within in
       let price = ap (λ xs. getD xs n 0) (rw sized at of-prices) ∙ listed-at priceOf ps out n q (omega arith) within in

@@ -18,15 +18,21 @@ returns c =
     (simp (opened .before .before .if1 .taken, lt-ltb _ _ (c .if2 .taken)))
 
 load-word-requires-2 : tie.Need-load-word-requires-2
-load-word-requires-2 c κs = rw (c .before .before .before .area-size .ensures) (omega arith)
+load-word-requires-2 c κs =
+    let sized = c .before .before .before in
+    rw (sized .area-size .ensures) (omega arith)
 
 read-stored-requires : tie.Need-read-stored-requires
-read-stored-requires c κs = rw (c .before .before .before .before .area-size .ensures) (omega arith)
+read-stored-requires c κs =
+    let sized = c .before .before .before .before in
+    rw (sized .area-size .ensures) (omega arith)
 
 returns-2 : tie.Need-returns-2
 unfolding badCard openList stepsOf
 returns-2 c =
-    let opened = c .before .before .before .before .before in
+    let test = c .before .before .before in
+    let test-2 = test .before in
+    let opened = test-2 .before in
     rw (
       ← opened .before .area-size .ensures,
       ← opened .load-word .ensures,
@@ -35,8 +41,8 @@ returns-2 c =
     )
     (simp (
       opened .before .before .if1 .taken,
-      le-ltb _ _ (c .before .before .before .before .if2 .left),
-      eq-eqb _ _ (c .before .before .before .if3 .taken),
+      le-ltb _ _ (test-2 .if2 .left),
+      eq-eqb _ _ (test .if3 .taken),
     )
     (c .bad-release .ensures))
 

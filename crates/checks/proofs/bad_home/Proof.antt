@@ -18,7 +18,8 @@ returns-2 c = simp (lt-leb _ _ (c .before .before .if1 .left), c .if2 .taken)
 returns-3 : tie.Need-returns-3
 unfolding badHome
 returns-3 c =
-    simp (lt-leb _ _ (c .before .before .before .if1 .left), c .before .if2 .left) (ap not (c .awaits .ensures))
+    let test = c .before .before .before in
+    simp (lt-leb _ _ (test .if1 .left), c .before .if2 .left) (ap not (c .awaits .ensures))
 
 pub bad-home-spec : {M : Type 1} → statement M
 bad-home-spec =

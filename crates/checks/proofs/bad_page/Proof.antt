@@ -19,7 +19,8 @@ returns-2 c =
 returns-3 : tie.Need-returns-3
 unfolding badPage
 returns-3 c =
-    let differ = c .before .before .before .if1 .left in
+    let test = c .before .before .before in
+    let differ = test .if1 .left in
     simp (ne-eqb _ _ differ, sym (c .before .before .bad-home .ensures) ∙ c .before .if2 .left) (c .bad-home2 .ensures)
 
 pub bad-page-spec : {M : Type 1} → statement M

@@ -18,13 +18,15 @@ abbrev μ-loop : tie.MeasureT-loop
 
 returns : tie.Need-returns Inv-loop μ-loop
 returns c =
+    let turn = c .before .before .before in
     let bad = sym (c .before .bad-page .ensures) ∙ c .if1 .taken in
-    some-found (c .before .before .before .loop .inv) (omega arith) bad
+    some-found (turn .loop .inv) (omega arith) bad
 
 loop-again : tie.Need-loop-again Inv-loop μ-loop
 loop-again c =
+    let turn = c .before .before .before in
     let fine = sym (c .before .bad-page .ensures) ∙ c .if1 .left in
-    passed-more (c .before .before .before .loop .inv) (omega arith) fine
+    passed-more (turn .loop .inv) (omega arith) fine
 
 returns-2 : tie.Need-returns-2 Inv-loop μ-loop
 returns-2 c = none-found (c .before .loop .inv) (c .loop-test .left)

@@ -15,7 +15,9 @@ returns-2 c = rw (c .enum-told .given .1)
 
 returns-3 : tie.Need-returns-3
 unfolding badStatus
-returns-3 c = rw (c .before .before .before .status .given .1) (simp (lt-leb _ _ (c .before .if1 .left)))
+returns-3 c =
+    let at-status = c .before .before .before in
+    rw (at-status .status .given .1) (simp (lt-leb _ _ (c .before .if1 .left)))
 
 pub bad-status-spec : {M : Type 1} → statement M
 bad-status-spec =

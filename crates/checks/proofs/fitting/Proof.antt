@@ -13,7 +13,8 @@ returns c = simp (sym (c .before .outside-limits .ensures) ∙ c .if1 .taken)
 
 unfit-rack-requires : tie.Need-unfit-rack-requires
 unfit-rack-requires c κs =
-    let arrays = c .before .before .before .before .before .before .pre in
+    let start = c .before .before .before .before .before .before in
+    let arrays = start .pre in
     let within = within-limits _ _ _ (sym (c .before .outside-limits .ensures) ∙ c .if1 .left) in
     ((within .pages-most, within .whole), (omega arith, (omega arith, omega arith)))
 

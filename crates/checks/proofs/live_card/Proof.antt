@@ -22,9 +22,9 @@ returns-2 c =
 
 mark-read : tie.Need-shared-slice-read-if3
 mark-read c =
+    let start = c .before .before .before .before .before .before .before .before in
     let test-2 = c .before in
     let test = test-2 .before in
-    let start = c .before .before .before .before .before .before .before .before in
     let a = start .args in
     let d = directoryOf (a .cards) (a .pages) (a .live .now) (a .primary .now) (a .secondary .now) (a .status) in
     let arrays = start .pre in
@@ -51,4 +51,5 @@ returns-4 c =
 
 pub live-card-spec : {M : Type 1} → statement M
 live-card-spec =
-    tie.close (tie.spec (λ c κs. search needs) returns returns-2 mark-read returns-3 returns-4)
+    tie.close
+    (tie.spec (λ c κs. search needs) returns returns-2 mark-read returns-3 returns-4)

@@ -24,8 +24,9 @@ returns-3 c =
 returns-4 : tie.Need-returns-4
 unfolding outsideLimits
 returns-4 c =
+    let test = c .before .before .before in
     simp (
-      le-ltb _ _ (c .before .before .before .if1 .left),
+      le-ltb _ _ (test .if1 .left),
       le-ltb _ _ (c .before .before .if2 .left),
       le-ltb _ _ (c .before .if3 .left),
       lt-ltb _ _ (c .if4 .taken),
@@ -33,17 +34,20 @@ returns-4 c =
 
 mul-stated : tie.Need-mul-stated
 mul-stated c =
-    let few : c .before .before .before .before .before .args .cards ≤ 8 = omega arith in
+    let start = c .before .before .before .before .before in
+    let few : start .args .cards ≤ 8 = omega arith in
     let small : c .area-size .result ≤ 4772 = omega arith in
     omega (arith, mul-le-mul few small)
 
 returns-5 : tie.Need-returns-5
 unfolding outsideLimits
 returns-5 c =
+    let test = c .before .before .before in
+    let test-2 = test .before in
     simp (
       c .area-size .ensures,
-      le-ltb _ _ (c .before .before .before .before .if1 .left),
-      le-ltb _ _ (c .before .before .before .if2 .left),
+      le-ltb _ _ (test-2 .if1 .left),
+      le-ltb _ _ (test .if2 .left),
       le-ltb _ _ (c .before .before .if3 .left),
       le-ltb _ _ (c .before .if4 .left),
     )

@@ -54,4 +54,5 @@ returns-2 c =
 pub ask-desk-spec : {M : Type 1} → statement M
 ask-desk-spec =
     tie.close
-    (tie.spec (λ c. search needs) (λ c. search needs) (λ c. search needs) (λ c κs. search needs) (λ c κs. search needs) (λ c. search needs) (λ c. search needs) load-desk-requires returns returns-2)
+    (tie.spec (λ c. search needs) (λ c. search needs) (λ c. search needs) (λ c κs. search needs)
+    (λ c κs. search needs) (λ c. search needs) (λ c. search needs) load-desk-requires returns returns-2)

@@ -89,4 +89,6 @@ returns-2 c =
 pub fetch-page-spec : {M : Type 1} → statement M
 fetch-page-spec =
     tie.close
-    (tie.spec (λ c. search needs) (λ c. search needs) (λ c. search needs) (λ c κs. search needs) (λ c κs. search needs) returns area-size-requires (λ c. search needs) array-read-home cast-home (λ c. search needs) (λ c. search needs) (λ c. search needs) load-run-requires (λ c. search needs) returns-2)
+    (tie.spec (λ c. search needs) (λ c. search needs) (λ c. search needs) (λ c κs. search needs)
+    (λ c κs. search needs) returns area-size-requires (λ c. search needs) array-read-home cast-home
+    (λ c. search needs) (λ c. search needs) (λ c. search needs) load-run-requires (λ c. search needs) returns-2)

@@ -22,9 +22,10 @@ formatted-requires c κs =
 returns-2 : tie.Need-returns-2
 unfolding formatting firstRefusal
 returns-2 c =
-    let test = c .before .before .before .before .before in
+    let at-zero-words = c .before .before .before in
+    let test = at-zero-words .before .before in
     let inside = sym (test .before .outside-limits .ensures) ∙ test .if1 .left in
-    rw inside (refl, (c .formatted .ensures, c .before .before .before .zero-words .ensures))
+    rw inside (refl, (c .formatted .ensures, at-zero-words .zero-words .ensures))
 
 pub format-rack-spec : {M : Type 1} → statement M
 format-rack-spec =

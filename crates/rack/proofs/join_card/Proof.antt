@@ -46,4 +46,6 @@ returns-2 c =
 pub join-card-spec : {M : Type 1} → statement M
 join-card-spec =
     tie.close
-    (tie.spec (λ c. search needs) (λ c. search needs) (λ c. search needs) (λ c κs. search needs) (λ c κs. search needs) (λ c. search needs) returns join-memory-requires (λ c κs. search needs) (λ c. search needs) returns-2)
+    (tie.spec (λ c. search needs) (λ c. search needs) (λ c. search needs) (λ c κs. search needs)
+    (λ c κs. search needs) (λ c. search needs) returns join-memory-requires (λ c κs. search needs)
+    (λ c. search needs) returns-2)

@@ -69,4 +69,6 @@ returns-2 c =
 pub recover-card-spec : {M : Type 1} → statement M
 recover-card-spec =
     tie.close
-    (tie.spec (λ c. search needs) (λ c. search needs) (λ c. search needs) (λ c κs. search needs) (λ c. search needs) returns (λ c κs. search needs) (λ c. search needs) recover-memory-requires recovered-directory-requires (λ c. search needs) (λ c. search needs) returns-2)
+    (tie.spec (λ c. search needs) (λ c. search needs) (λ c. search needs) (λ c κs. search needs) (λ c. search needs)
+    returns (λ c κs. search needs) (λ c. search needs) recover-memory-requires recovered-directory-requires
+    (λ c. search needs) (λ c. search needs) returns-2)

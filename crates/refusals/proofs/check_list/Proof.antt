@@ -8,7 +8,8 @@ use Rattle.refusals.proofs.check_list.Tie as tie
 
 returns : tie.Need-returns
 returns c =
-    let a = c .before .before .before .args in
+    let start = c .before .before .before in
+    let a = start .args in
     c .outcome-of .ensures ∙ told (checkDiff (a .pages) (a .list .now)) (c .before .check .ensures)
 
 pub check-list-spec : {M : Type 1} → statement M

@@ -26,8 +26,8 @@ returns-2 c =
 
 lowest-in-motion-requires : tie.Need-lowest-in-motion-requires
 lowest-in-motion-requires c κs =
-    let test = c .before in
     let start = c .before .before .before .before .before .before .before in
+    let test = c .before in
     let a = start .args in
     let d = directoryOf (a .cards) (a .pages) (a .live .now) (a .primary .now) (a .secondary .now) (a .status) in
     let arrays = start .pre in

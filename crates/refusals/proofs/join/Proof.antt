@@ -15,8 +15,8 @@ returns c =
 
 mark-read : tie.Need-shared-slice-read-if2
 mark-read c =
-    let test = c .before in
     let start = c .before .before .before .before .before .before .before in
+    let test = c .before in
     let a = start .args in
     let d = directoryOf (a .cards) (a .pages) (a .live .now) (a .primary .now) (a .secondary .now) (a .status) in
     let arrays = start .pre in
@@ -35,7 +35,7 @@ returns-2 c =
 any-open-requires : tie.Need-any-open-requires
 any-open-requires c κs =
     let test = c .before .before in
-    let start = c .before .before .before .before .before .before .before .before in
+    let start = test .before .before .before .before .before .before in
     let a = start .args in
     let d = directoryOf (a .cards) (a .pages) (a .live .now) (a .primary .now) (a .secondary .now) (a .status) in
     let arrays = start .pre in

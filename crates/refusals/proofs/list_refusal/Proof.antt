@@ -16,8 +16,9 @@ returns c =
 
 lowest-sharing-requires : tie.Need-lowest-sharing-requires
 lowest-sharing-requires c κs =
+    let start = c .before .before .before .before .before .before in
     let read = c .before .before .check-list .ensures in
-    let a = c .before .before .before .before .before .before .args in
+    let a = start .args in
     let few = allowed-few (a .pages) (a .list .now) (rw (← read) (omega arith)) in
     search needs
 

@@ -30,8 +30,8 @@ load-word-requires c κs =
 returns-2 : tie.Need-returns-2
 unfolding ownRelease
 returns-2 c =
-    let used = c .before in
     let busy = c .before .before .before in
+    let used = c .before in
     let size = busy .before .before .area-size .ensures in
     let opened = sym (rw size at (busy .before .is-open .ensures)) ∙ busy .if1 .left in
     let stamp = rw size at (used .before .load-word .ensures) in
@@ -43,7 +43,7 @@ returns-3 : tie.Need-returns-3
 unfolding ownRelease
 returns-3 c =
     let used = c .before .before in
-    let busy = c .before .before .before .before in
+    let busy = used .before .before in
     let size = busy .before .before .area-size .ensures in
     let opened = sym (rw size at (busy .before .is-open .ensures)) ∙ busy .if1 .left in
     let stamp = rw size at (used .before .load-word .ensures) in
@@ -56,7 +56,7 @@ returns-4 : tie.Need-returns-4
 unfolding ownRelease
 returns-4 c =
     let used = c .before .before in
-    let busy = c .before .before .before .before in
+    let busy = used .before .before in
     let size = busy .before .before .area-size .ensures in
     let opened = sym (rw size at (busy .before .is-open .ensures)) ∙ busy .if1 .left in
     let stamp = rw size at (used .before .load-word .ensures) in

@@ -17,15 +17,16 @@ returns c =
 
 area-size-requires : tie.Need-area-size-requires
 area-size-requires c κs =
-    let a = c .before .before .before .before .before .before .args in
+    let start = c .before .before .before .before .before .before in
+    let a = start .args in
     let d = directoryOf (a .cards) (a .pages) (a .live .now) (a .primary .now) (a .secondary .now) (a .status) in
     let card = live-card-within d (a .memory .now) (a .card) (c .before .live-card .ensures) (c .if1 .left) in
     omega (arith, card .0 .pages-most)
 
 is-open-requires : tie.Need-is-open-requires
 is-open-requires c κs =
-    let test = c .before in
     let start = c .before .before .before .before .before .before .before in
+    let test = c .before in
     let a = start .args in
     let d = directoryOf (a .cards) (a .pages) (a .live .now) (a .primary .now) (a .secondary .now) (a .status) in
     let arrays = start .pre in
@@ -35,9 +36,10 @@ is-open-requires c κs =
 
 returns-2 : tie.Need-returns-2
 returns-2 c =
+    let sized = c .before .before .before in
+    let test = sized .before in
     let test-2 = c .before in
-    let test = c .before .before .before .before in
-    let is = rw (c .before .before .before .area-size .ensures) at (test-2 .before .is-open .ensures) in
+    let is = rw (sized .area-size .ensures) at (test-2 .before .is-open .ensures) in
     rw (
       passed-before _ _ _ refl (test .before .live-card .ensures) (test .if1 .left),
       last-passes _ _ _ _ (ap not (sym is ∙ test-2 .if2 .taken)),
@@ -46,9 +48,10 @@ returns-2 c =
 
 returns-3 : tie.Need-returns-3
 returns-3 c =
+    let sized = c .before .before .before in
+    let test = sized .before in
     let test-2 = c .before in
-    let test = c .before .before .before .before in
-    let is = rw (c .before .before .before .area-size .ensures) at (test-2 .before .is-open .ensures) in
+    let is = rw (sized .area-size .ensures) at (test-2 .before .is-open .ensures) in
     rw (
       passed-before _ _ _ refl (test .before .live-card .ensures) (test .if1 .left),
       first-refuses _ _ _ _ _ (ap not (sym is ∙ test-2 .if2 .left)),

@@ -72,5 +72,6 @@ returns-2 c =
 pub make-step-spec : {M : Type 1} → statement M
 make-step-spec =
     tie.close
-    (tie.spec (λ c κs. search needs) load-word-requires (λ c. search needs) (λ c. search needs) close-release-requires
-    (λ c. search needs) returns step-store-requires add-store-word store-word-requires (λ c. search needs) returns-2)
+    (tie.spec (λ c κs. search needs) load-word-requires (λ c. search needs) (λ c. search needs)
+    close-release-requires (λ c. search needs) returns step-store-requires add-store-word store-word-requires
+    (λ c. search needs) returns-2)

@@ -7,21 +7,26 @@ use Rattle.release.proofs.step_price.Tie as tie
 
 home-at-requires : tie.Need-home-at-requires
 home-at-requires c κs =
-    let pre = c .before .before .before .before .before .before .pre in
+    let start = c .before .before .before .before .before .before in
+    let pre = start .pre in
     omega arith
 
 write-price-requires : tie.Need-write-price-requires
 write-price-requires c κs =
-    let start = c .before .before .before .before .before .before .before .before .before in
+    let sized = c .before .before .before .before in
+    let start = sized .before .before .before .before .before in
     let a = start .args in
     let pre = start .pre in
-    rw (c .before .before .before .before .area-size .ensures, c .before .before .home-at .ensures) (
+    rw (sized .area-size .ensures, c .before .before .home-at .ensures) (
       home-in (a .pages) (a .live .now) (a .primary .now) (a .secondary .now) (pre .0) (a .at) _ (pre .1 .0),
       (omega arith, omega arith),
     )
 
 returns : tie.Need-returns
-returns c = rw (c .before .before .before .before .before .before .before .area-size .ensures, c .before .before .before .before .before .home-at .ensures) at (c .before .before .write-price .ensures)
+returns c =
+    let homing = c .before .before .before .before .before in
+    let sized = homing .before .before in
+    rw (sized .area-size .ensures, homing .home-at .ensures) at (c .before .before .write-price .ensures)
 
 pub step-price-spec : {M : Type 1} → statement M
 step-price-spec =

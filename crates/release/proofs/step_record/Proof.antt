@@ -7,19 +7,25 @@ use Rattle.release.proofs.step_record.Tie as tie
 
 step-desk-requires : tie.Need-step-desk-requires
 step-desk-requires c κs =
-    let pre = c .before .before .before .before .pre in
+    let start = c .before .before .before .before in
+    let pre = start .pre in
     (pre .0, (pre .1 .0, (pre .1 .1 .0, c .before .if1 .taken)))
 
 returns : tie.Need-returns
-returns c = rw (lt-ltb _ _ (c .before .before .before .before .if1 .taken)) (c .before .before .step-desk .ensures)
+returns c =
+    let test = c .before .before .before .before in
+    rw (lt-ltb _ _ (test .if1 .taken)) (c .before .before .step-desk .ensures)
 
 step-mark-requires : tie.Need-step-mark-requires
 step-mark-requires c κs =
-    let pre = c .before .before .before .before .pre in
+    let start = c .before .before .before .before in
+    let pre = start .pre in
     (pre .0, (pre .1 .0, (pre .1 .1 .0, omega arith)))
 
 returns-2 : tie.Need-returns-2
-returns-2 c = rw (le-ltb _ _ (c .before .before .before .before .if1 .left)) (c .before .before .step-mark .ensures)
+returns-2 c =
+    let test = c .before .before .before .before in
+    rw (le-ltb _ _ (test .if1 .left)) (c .before .before .step-mark .ensures)
 
 pub step-record-spec : {M : Type 1} → statement M
 step-record-spec =

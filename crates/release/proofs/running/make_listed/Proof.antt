@@ -20,22 +20,32 @@ abbrev μ-loop : tie.MeasureT-loop
 μ-loop memory₀ pages live primary secondary backup card k steps labels prices size left₀ memory left = left
 
 loop-holds : tie.Need-loop-holds Inv-loop μ-loop
-loop-holds c = steps-none (c .before .before .before .before .before .before .before .pre .1 .1 .1 .0)
+loop-holds c =
+    let start = c .before .before .before .before .before .before .before in
+    steps-none (start .pre .1 .1 .1 .0)
 
 load-word-requires : tie.Need-load-word-requires Inv-loop μ-loop
 load-word-requires c κs =
-    let card = card-kept (c .before .before .before .before .before .before .before .before .before .before .pre .1 .0) (c .before .before .loop .inv .same) in
-    rw (c .before .before .before .area-size .ensures) (card .area, omega arith)
+    let sized = c .before .before .before in
+    let start = sized .before .before .before .before .before .before .before in
+    let card = card-kept (start .pre .1 .0) (c .before .before .loop .inv .same) in
+    rw (sized .area-size .ensures) (card .area, omega arith)
 
 price-number-requires : tie.Need-price-number-requires Inv-loop μ-loop
-price-number-requires c κs = c .before .before .before .loop .inv .some (c .before .before .loop-test .taken) .few
+price-number-requires c κs =
+    let turn = c .before .before .before in
+    turn .loop .inv .some (c .before .before .loop-test .taken) .few
 
 listed-price-requires : tie.Need-listed-price-requires Inv-loop μ-loop
 unfolding stepsOf
 listed-price-requires c κs =
-    let some = c .before .before .before .before .loop .inv .some (c .before .before .before .loop-test .taken) in
-    let made = rw (c .before .before .before .before .before .area-size .ensures) at (c .before .load-word .ensures) in
-    let listed = c .before .before .before .before .before .before .before .before .before .before .before .before .pre .1 .1 .1 .1 in
+    let tested = c .before .before .before in
+    let turn = tested .before in
+    let sized = turn .before in
+    let start = sized .before .before .before .before .before .before .before in
+    let some = turn .loop .inv .some (tested .loop-test .taken) in
+    let made = rw (sized .area-size .ensures) at (c .before .load-word .ensures) in
+    let listed = start .pre .1 .1 .1 .1 in
     rw (c .price-number .ensures) (
       number-listed _ _ (some .few) (omega arith) (listed .labels-long),
       number-listed _ _ (some .few) (omega arith) (listed .prices-long),
@@ -44,10 +54,16 @@ listed-price-requires c κs =
 make-step-requires : tie.Need-make-step-requires Inv-loop μ-loop
 unfolding stepsOf
 make-step-requires c κs =
-    let far = c .before .before .before .before .before .before .loop .inv in
-    let more = c .before .before .before .before .before .loop-test .taken in
-    let pre = c .before .before .before .before .before .before .before .before .before .before .before .before .before .before .pre in
-    let made = rw (c .before .before .before .before .before .before .before .area-size .ensures) at (c .before .before .before .load-word .ensures) in
+    let loaded = c .before .before .before in
+    let tested = loaded .before .before in
+    let turn = tested .before in
+    let sized = turn .before in
+    let start = sized .before .before .before .before .before .before .before in
+    let far = turn .loop .inv in
+    let more = tested .loop-test .taken in
+    let pre = start .pre in
+    let made = rw (sized .area-size .ensures) at (loaded .load-word .ensures) in
+    let number = c .before .before .price-number .ensures in
     let listed = pre .1 .1 .1 .1 in (
       homes-kept (pre .0) (far .same),
       (
@@ -56,7 +72,7 @@ make-step-requires c κs =
           card-kept (pre .1 .1 .0) (far .same),
           (
             counted-left (far .some more) more,
-            rw (c .before .listed-price .ensures, c .before .before .price-number .ensures, made, far .list more) (listed .is _),
+            rw (c .before .listed-price .ensures, number, made, far .list more) (listed .is _),
           ),
         ),
       ),
@@ -64,8 +80,11 @@ make-step-requires c κs =
 
 loop-again : tie.Need-loop-again Inv-loop μ-loop
 loop-again c =
-    let card = c .before .before .before .before .before .before .before .before .before .before .before .before .before .before .before .before .before .pre .1 .0 in
-    steps-one (card .eight) (card .area) (c .before .before .before .before .before .before .before .before .before .loop .inv) (c .before .before .before .before .before .before .before .before .loop-test .taken) (c .before .memory .given)
+    let tested = c .before .before .before .before .before .before .before .before in
+    let turn = tested .before in
+    let start = turn .before .before .before .before .before .before .before .before in
+    let card = start .pre .1 .0 in
+    steps-one (card .eight) (card .area) (turn .loop .inv) (tested .loop-test .taken) (c .before .memory .given)
     (c .before .before .make-step .ensures)
 
 returns : tie.Need-returns Inv-loop μ-loop

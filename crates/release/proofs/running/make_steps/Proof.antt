@@ -10,16 +10,20 @@ use Rattle.release.proofs.running.make_steps.Tie as tie
 
 list-stored-requires : tie.Need-list-stored-requires
 list-stored-requires c κs =
-    let pre = c .before .before .before .before .before .before .before .before .pre in
-    rw (c .before .before .before .area-size .ensures) ((omega arith, pre .1 .0 .area, pre .0 .few), (search needs, search needs))
+    let sized = c .before .before .before in
+    let start = sized .before .before .before .before .before in
+    let pre = start .pre in
+    rw (sized .area-size .ensures) ((omega arith, pre .1 .0 .area, pre .0 .few), (search needs, search needs))
 
 make-listed-requires : tie.Need-make-listed-requires
 make-listed-requires c κs =
-    let start = c .before .before .before .before .before .before .before .before .before .before .before .before .before .before in
+    let listed-at = c .before .before .before .before .before in
+    let sized = listed-at .before .before .before .before in
+    let start = sized .before .before .before .before .before in
     let a = start .args in
     let pre = start .pre in
-    let size = c .before .before .before .before .before .before .before .before .before .area-size .ensures in
-    let stored = c .before .before .before .before .before .list-stored .ensures in
+    let size = sized .area-size .ensures in
+    let stored = listed-at .list-stored .ensures in
     let table =
     listed (a .pages) _ (a .memory .now) (a .card) size (replicate 512 0) (search needs) (search needs) (search needs)
     (stored .0) (stored .1) (rw size (pre .1 .0 .area)) (omega arith)
@@ -29,5 +33,5 @@ make-listed-requires c κs =
 pub make-steps-spec : {M : Type 1} → statement M
 make-steps-spec =
     tie.close
-    (tie.spec (λ c κs. search needs) (λ c. search needs) (λ c. search needs) list-stored-requires (λ c. search needs)
-    (λ c. search needs) make-listed-requires (λ c. search needs) (λ c. search needs))
+    (tie.spec (λ c κs. search needs) (λ c. search needs) (λ c. search needs) list-stored-requires
+    (λ c. search needs) (λ c. search needs) make-listed-requires (λ c. search needs) (λ c. search needs))
