@@ -1,4 +1,4 @@
--- A word keeps the bounds of the reading.
+-- A word that is no price keeps the bounds of the reading.
 use Prim.Native.Nat.{ℕ, _+_, _*_, _≤_}
 use mathlib.Core.Path.{_≡_, sym, subst}
 use native.Mathlib.Omega.{arith}
@@ -6,39 +6,62 @@ use Rattle.diff.specs.declared.Cursor.{Cursor}
 use Rattle.diff.specs.declared.Step.{Step}
 use Rattle.diff.specs.declared.Step.the-variants.{Next, End, Fault}
 use Rattle.diff.specs.Reading.{wordStep}
-use Rattle.diff.proofs.Reading.{WordCase, a-price, a-page, a-run, an-end, a-fault, word-case}
 use Rattle.reader.specs.Steady.{Steady}
+use Rattle.reader.specs.Runs.{pastPrices}
+use Rattle.diff.proofs.Reading.{WordCase, a-price, a-page, a-run, an-end, a-fault, word-case}
 
--- what is left after a word: a state within bounds, of at most so many prices
-abbrev pub Kept : ℕ → Step → Type 0
-Kept prices (Next t) = (t .word + t .due ≤ 32) × (t .gap ≤ 1) × (t .prices ≤ prices) × (t .due ≤ 32 * t .next)
-Kept prices End = Unit {0}
-Kept prices Fault = Unit {0}
+-- where no price is due
+pub record Idle (s : Cursor) : Type 0 where
+  pub idle : s .due ≡ 0
+  pub inside : s .word ≤ 32
+  pub one : s .gap ≤ 1
 
-module _ (pages : ℕ) (s : Cursor) (index w : ℕ) (steady : Steady s) where
-  case-kept : {step : Step} → WordCase pages s index w step → Kept (s .prices + 1) step
-  case-kept (a-price due) = omega arith
-  case-kept (a-page idle one gap up fits) = omega arith
-  case-kept (a-run idle two named some fits past) = omega arith
-  case-kept (an-end idle fifteen gap own) = tt
-  case-kept (a-fault idle) = tt
+-- past a page word or a run word: no price is counted, those due fit on the page, and only a run has them
+pub record Passed (pages : ℕ) (s t : Cursor) : Type 0 where
+  pub inside : t .word + t .due ≤ 32
+  pub one : t .gap ≤ 1
+  pub ran : t .due ≤ 32 * t .gap
+  pub named : t .due ≤ 32 * t .next
+  pub counts : t .prices ≡ s .prices
+  pub on : s .next ≤ pages → t .next ≤ pages
 
-  pub word-kept : (step : Step) → step ≡ wordStep pages s index w → Kept (s .prices + 1) step
-  word-kept step e = subst (Kept (s .prices + 1)) (sym e) (case-kept (word-case pages s index w))
+abbrev After : ℕ → Cursor → Step → Type 0
+After pages s (Next t) = Passed pages s t
+After pages s End = Unit {0}
+After pages s Fault = Unit {0}
 
--- a word that is no price counts none, and names a page of the rack
-abbrev pub Passed : ℕ → ℕ → Step → Type 0
-Passed pages prices (Next t) = (t .prices ≡ prices) × (t .next ≤ pages)
-Passed pages prices End = Unit {0}
-Passed pages prices Fault = Unit {0}
-
-module _ (pages : ℕ) (s : Cursor) (index w : ℕ) (idle : s .due ≤ 0) (named : s .next ≤ pages) where
-  case-passed : {step : Step} → WordCase pages s index w step → Passed pages (s .prices) step
-  case-passed (a-price due) = omega arith
-  case-passed (a-page none one gap up fits) = omega arith
-  case-passed (a-run none two first some fits past) = omega arith
+module _ (pages : ℕ) (s : Cursor) (index w : ℕ) (free : Idle s) where
+  case-passed : {step : Step} → WordCase pages s index w step → After pages s step
+  case-passed (a-price due) = absurd (omega arith)
+  case-passed (a-page none one gap up fits) =
+      record {
+        inside = omega arith;
+        one = omega arith;
+        ran = omega arith;
+        named = omega arith;
+        counts = omega arith;
+        on = λ h. omega arith;
+      }
+  case-passed (a-run none two first some fits past) =
+      record {
+        inside = omega arith;
+        one = omega arith;
+        ran = omega arith;
+        named = omega arith;
+        counts = omega arith;
+        on = λ h. omega arith;
+      }
   case-passed (an-end none fifteen gap own) = tt
   case-passed (a-fault none) = tt
 
-  pub word-passed : (step : Step) → step ≡ wordStep pages s index w → Passed pages (s .prices) step
-  word-passed step e = subst (Passed pages (s .prices)) (sym e) (case-passed (word-case pages s index w))
+  pub word-passed : (t : Cursor) → Next t ≡ wordStep pages s index w → Passed pages s t
+  word-passed t e = subst (After pages s) (sym e) (case-passed (word-case pages s index w))
+
+-- the bounds that reading on from there asks for
+pub passed-steady : {pages : ℕ} (s t : Cursor) → Passed pages s t → s .prices ≤ 512 → Steady t
+passed-steady s t passed few =
+    record { within = passed .inside; one = passed .one; few = omega arith; named = passed .named }
+
+-- and past the prices that are due none is
+pub passed-idle : {pages : ℕ} (s t : Cursor) → Passed pages s t → Idle (pastPrices t (t .due))
+passed-idle s t passed = record { idle = omega arith; inside = passed .inside; one = passed .one }

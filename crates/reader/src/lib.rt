@@ -1,7 +1,7 @@
 // Reading a diff (document 01's list of changes): a list handed in, a list that stands in a card's
 // area, and one price.
 ghost use mathlib.Core.Path.{_≡_};
-ghost use Prim.Native.Nat.{_+_, _<_, _≤_};
+ghost use Prim.Native.Nat.{_+_, _<_, _≤_, min};
 ghost use mathlib.Core.List.{map};
 ghost use lib.ListN.{length};
 ghost use lib.Seq.{sets};
@@ -12,6 +12,7 @@ ghost use Rattle.diff.specs.Reading.{start, pastPrice, pageStep, runStep, endSt
 ghost use Rattle.diff.specs.Prices.{labelOf, pricesOf};
 ghost use Rattle.reader.specs.Steady.{Steady};
 ghost use Rattle.reader.specs.Found.{nthPrice};
+ghost use Rattle.reader.specs.Runs.{pastPrices, nthDue};
 ghost use Rattle.reader.specs.Listed.{priceOf};
 use answer::Answer;
 use diff::Cursor;
@@ -125,20 +126,43 @@ pub fn read_word(s: Cursor, w: u32, index: usize, pages: u32) -> Step
     }
 }
 
+// Past all prices of a run: they are not looked at.
+fn run_read(s: Cursor) -> Cursor
+    requires { ⌜ Steady s ⌝ }
+    ensures { λ r. ⌜ r ≡ pastPrices s (s .due) ⌝ }
+{
+    Cursor {
+        next: s.next,
+        word: s.word + s.due,
+        gap: s.gap,
+        due: 0,
+        prices: s.prices + s.due,
+    }
+}
+
+// How many words of a list are read: at most 512.
+fn words_read(list: &[u32]) -> usize
+    ensures { λ r. ⌜ r ≡ min (length (now (list .entry))) 512 ⌝ }
+{
+    if list.len() < 512 { list.len() } else { 512 }
+}
+
 // Reads a diff from its first word to its end word, as those in a card's area are read.
 pub fn read(list: &[u32], pages: u32) -> Verdict
     ensures { λ r. ⌜ r ≡ readDiff pages (now (list .entry)) ⌝ }
 {
+    let words = words_read(list);
     let mut s = cursor();
     let mut index: usize = 0;
-    while index < list.len() {
-        if index == 512 {
-            return Verdict::Faulty(512);
-        }
+    while index < words {
         match read_word(s, list[index], index, pages) {
             Step::Next(t) => {
-                s = t;
-                index += 1;
+                let due = t.due as usize;
+                if words <= index + due {
+                    return Verdict::Faulty(words as u32);
+                }
+                s = run_read(t);
+                index += 1 + due;
             }
             Step::End => {
                 return Verdict::Good(s.prices, (index + 1) as u32);
@@ -148,7 +172,7 @@ pub fn read(list: &[u32], pages: u32) -> Verdict
             }
         }
     }
-    Verdict::Faulty(index as u32)
+    Verdict::Faulty(words as u32)
 }
 
 // Reads the list of the open release in a card's area, to its end word.
@@ -183,6 +207,24 @@ pub enum Found {
     Nothing,
 }
 
+// The price numbered `n` of those that are due from an index on, unless the list stops before it.
+fn nth_due(list: &[u32], index: usize, s: Cursor, n: u32) -> Found
+    requires { ⌜ Steady s ⌝ }
+    requires { ⌜ (n < s .due) × (index ≤ length (now list)) ⌝ }
+    ensures { λ r. ⌜ r ≡ nthDue (now (list .entry)) index s n ⌝ }
+{
+    let at = index + n as usize;
+    if at < list.len() {
+        Found::Priced(Price {
+            page: s.next - 1,
+            word: s.word + n,
+            price: list[at],
+        })
+    } else {
+        Found::Nothing
+    }
+}
+
 // The price numbered `n` of a diff, from 0 on.
 pub fn nth_price(list: &[u32], pages: u32, n: u32) -> Found
     requires { ⌜ length (now list) ≤ 512 ⌝ }
@@ -192,30 +234,20 @@ pub fn nth_price(list: &[u32], pages: u32, n: u32) -> Found
     let mut left = n;
     let mut index: usize = 0;
     while index < list.len() {
-        let w = list[index];
-        if 0 < s.due {
-            if left == 0 {
-                return Found::Priced(Price {
-                    page: s.next - 1,
-                    word: s.word,
-                    price: w,
-                });
+        match read_word(s, list[index], index, pages) {
+            Step::Next(t) => {
+                if left < t.due {
+                    return nth_due(list, index + 1, t, left);
+                }
+                left -= t.due;
+                s = run_read(t);
+                index += 1 + t.due as usize;
             }
-            left -= 1;
-            s = price_read(s);
-            index += 1;
-        } else {
-            match read_word(s, w, index, pages) {
-                Step::Next(t) => {
-                    s = t;
-                    index += 1;
-                }
-                Step::End => {
-                    return Found::Nothing;
-                }
-                Step::Fault => {
-                    return Found::Nothing;
-                }
+            Step::End => {
+                return Found::Nothing;
+            }
+            Step::Fault => {
+                return Found::Nothing;
             }
         }
     }

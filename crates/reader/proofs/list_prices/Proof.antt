@@ -2,13 +2,14 @@
 use Prim.Native.Nat.{_≤_, _-_}
 use mathlib.Core.Path.{_≡_, refl, sym, _∙_}
 use mathlib.Core.List.{map}
+use native.Mathlib.Omega.{arith}
 use lib.ListN.{length}
 use lib.Seq.{sets}
 use borrow.Author.Needs.{needs}
 use Rattle.diff.specs.Prices.{labelOf, pricesOf}
 use Rattle.reader.specs.Steady.{Steady}
 use Rattle.reader.specs.Listed.{priceOf}
-use Rattle.reader.proofs.Keeping.{word-kept, word-passed}
+use Rattle.reader.proofs.Keeping.{Idle, word-passed, passed-steady}
 use Rattle.reader.proofs.Listing.{listLeft, list-first, list-end, list-due, list-next, list-over}
 use Rattle.reader.proofs.list_prices.Statement.{statement}
 use Rattle.reader.proofs.list_prices.Tie as tie
@@ -48,16 +49,16 @@ loop-again-2 c =
     let within = c .before .before .before .before .before .before .before .loop-test .taken in
     let idle = c .before .before .before .before .if1 .left in
     let does = sym (c .before .t .given .1) ∙ c .before .before .before .read-word .ensures in
-    let kept = word-kept _ _ _ _ (at .inv .1) _ does in
-    let passed = word-passed _ _ _ _ idle (at .inv .3) _ does in (
+    let free : Idle (at .s) = record { idle = omega arith; inside = omega arith; one = at .inv .1 .one } in
+    let passed = word-passed _ _ _ _ free _ does in (
       search needs,
-      record { within = kept .0; one = kept .1; few = search needs; named = kept .3 },
-      search needs,
-      passed .1,
+      passed-steady _ _ passed (omega arith),
+      omega arith,
+      passed .on (at .inv .3),
       at .inv .4,
       at .inv .5,
-      sym (list-next labelOf _ _ _ (at .s) (at .labels) _ does within idle _ refl (passed .0)) ∙ at .inv .6,
-      sym (list-next priceOf _ _ _ (at .s) (at .prices) _ does within idle _ refl (passed .0)) ∙ at .inv .7,
+      sym (list-next labelOf _ _ _ (at .s) (at .labels) _ does within idle _ refl (passed .counts)) ∙ at .inv .6,
+      sym (list-next priceOf _ _ _ (at .s) (at .prices) _ does within idle _ refl (passed .counts)) ∙ at .inv .7,
     )
 
 returns : tie.Need-returns Inv-loop μ-loop
