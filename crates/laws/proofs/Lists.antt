@@ -1,13 +1,13 @@
--- Runs of stores in a list, and parts of parts, beside those of `lib.Seq`.
-use mathlib.Core.Path.{_≡_, refl, sym, ap, _∙_}
+-- Runs of stores in a list, beside those of `lib.Seq`.
+use mathlib.Core.Path.{_≡_, refl, _∙_}
 use mathlib.Core.Logic.{_≢_}
 use mathlib.Core.List.{List, [], _∷_, _++_, append-nil}
-use Prim.Native.Nat.{ℕ, zero, suc, _+_, _-_, _≤_, _<_}
-use native.Mathlib.Nat.{add-zero, zero-add, suc-add}
+use Prim.Native.Nat.{ℕ, zero, suc, _+_, _≤_, _<_}
+use native.Mathlib.Nat.{add-zero, zero-add}
 use native.Mathlib.Numerals.{add-one}
 use native.Mathlib.Omega.{arith}
 use lib.ListN.{length, getD, set, take, drop, length-set, drop-of-length-le}
-use lib.Seq.{sets, sets-eq, getD-set-same, getD-set-other, take-suc, length-take-le, take-nil, take-take, drop-drop}
+use lib.Seq.{sets, sets-eq, getD-set-same, getD-set-other, take-suc, length-take-le}
 
 -- two runs of stores, one after the other
 pub sets-append : (us vs l : List ℕ) (i : ℕ) → sets l i (us ++ vs) ≡ sets (sets l i us) (i + length us) vs
@@ -50,19 +50,3 @@ getD-sets-inside (v ∷ vs) l i zero fits inside =
 getD-sets-inside (v ∷ vs) l i (suc j) fits inside =
     let e : i + suc j ≡ suc i + j = omega arith in
     rw e (getD-sets-inside vs (set l i v) (suc i) j (simp length-set (omega arith)) (omega arith))
-
--- a front without its first i elements
-pub drop-take : (i n : ℕ) (l : List ℕ) → drop i (take (i + n) l) ≡ take n (drop i l)
-drop-take zero n l = rw zero-add
-drop-take (suc i) n [] = rw suc-add (sym (take-nil n))
-drop-take (suc i) n (x ∷ l) = rw suc-add (drop-take i n l)
-
--- n elements from i on of the part of k elements from a on
-pub part-of-part : (l : List ℕ) (a k i n : ℕ) → i + n ≤ k
-    → take n (drop i (take k (drop a l))) ≡ take n (drop (a + i) l)
-part-of-part l a k i n fits =
-    let e : k ≡ i + (k - i) = omega arith in
-    ap (λ (j : ℕ). take n (drop i (take j (drop a l)))) e
-    ∙ ap (take n) (drop-take i (k - i) (drop a l))
-    ∙ take-take n (k - i) (drop i (drop a l)) (omega arith)
-    ∙ ap (take n) (drop-drop i a l)

@@ -1,28 +1,15 @@
 -- Where a word of a card's area stands in the memory: different cards and offsets have different indices.
 use Prim.Native.Nat.{ℕ, _+_, _*_, _/_, _%_, _<_, _≤_}
 use mathlib.Core.Path.{_≡_, sym, ap, _∙_}
-use mathlib.Core.Logic.{_≢_, _⊎_, inl, inr}
+use mathlib.Core.Logic.{_≢_}
 use native.Mathlib.Nat.{suc-mul, mul-le-mul-right}
 use native.Mathlib.Omega.{arith}
-use native.Mathlib.Decide.{decLt}
 use lib.Arith.{digits-div, digits-mod}
 use Rattle.memory.specs.Area.{indexOf, AreaIn}
 
 -- a memory of one area per card has the area of each card
 pub area-in : (size : ℕ) {words cards card : ℕ} → card < cards → words ≡ cards * size → AreaIn words size card
 area-in size below whole = omega (arith, rw suc-mul at (mul-le-mul-right size below))
-
--- the same runs of two cards do not overlap
-pub runs-apart : (size offset n : ℕ) {card card′ : ℕ} → card ≢ card′ → offset + n ≤ size
-    → (indexOf size card offset + n ≤ indexOf size card′ offset)
-    ⊎ (indexOf size card′ offset + n ≤ indexOf size card offset)
-runs-apart size offset n {card} {card′} other fits =
-    elim (decLt card card′) [
-      | yes less ↦ inl (omega (arith, rw suc-mul at (mul-le-mul-right size less)))
-      | no more ↦
-          let less : card′ < card = omega arith in
-          inr (omega (arith, rw suc-mul at (mul-le-mul-right size less)))
-    ]
 
 module _ (size card offset : ℕ) where
   pub index-in : {words : ℕ} → AreaIn words size card → offset < size → indexOf size card offset < words

@@ -1,14 +1,13 @@
--- A part of a slice that is lent on: what the stores made in it make of the whole. A turn of a copy within a slice.
+-- A part of a slice that is lent on: what the stores made in it make of the whole.
 use Prim.Native.Nat.{ℕ, suc, _+_, _-_, _<_, _≤_}
 use mathlib.Core.Path.{_≡_, sym, ap, _∙_}
-use mathlib.Core.Logic.{_≢_}
 use mathlib.Core.List.{List, [], _∷_}
 use native.Mathlib.Nat.{add-zero}
 use native.Mathlib.Omega.{arith}
-use lib.ListN.{length, getD, set, take, drop, length-take, length-drop}
-use lib.Seq.{sets, take-set-le, take-set-lt, drop-set-lt, drop-set-add, getD-drop}
+use lib.ListN.{length, set, drop}
+use lib.Seq.{sets, take-set-le, take-set-lt, drop-set-lt, drop-set-add}
 use borrow.Rule.Slice.PartMut.{putMid, midOf, put-same, mid-len}
-use Rattle.laws.proofs.Lists.{sets-whole, sets-take-more, getD-sets-outside, part-of-part}
+use Rattle.laws.proofs.Lists.{sets-whole}
 
 -- the words of `&mut m[a..a + k]`, and m with other words in their place
 abbrev pub part : List ℕ → ℕ → ℕ → List ℕ
@@ -45,22 +44,3 @@ module _ (m : List ℕ) (a k : ℕ) {words : List ℕ} where
   sets-all-part vs stored long fits =
       let all = sets-whole vs (part m a k) (omega (arith, length-part m a k fits)) in
       rw add-zero at (sets-part 0 vs (stored ∙ sym all) (omega arith))
-
-  -- a run copied within the part
-  pub copy-part : (from to n : ℕ) → words ≡ sets (part m a k) to (take n (drop from (part m a k)))
-      → from + n ≤ k → to + n ≤ k → putBack m a k words ≡ sets m (a + to) (take n (drop (a + from) m))
-  copy-part from to n copied fits fits′ =
-      sets-part to (take n (drop from (part m a k))) copied (simp length-take (omega arith))
-      ∙ ap (sets m (a + to)) (part-of-part m a (a + k - a) from n (omega arith))
-
--- a turn of a copy within one slice: the word read is the one that stood there at first
-pub copy-turn : (m : List ℕ) (from to i : ℕ) {words : List ℕ} → words ≡ sets m to (take i (drop from m))
-    → from + i < length m → ((j : ℕ) → j < i → from + i ≢ to + j)
-    → set words (to + i) (getD words (from + i) 0) ≡ sets m to (take (i + 1) (drop from m))
-copy-turn m from to i {words} copied inside apart =
-    let few : length (take i (drop from m)) ≤ i = simp length-take (omega arith) in
-    let word : getD words (from + i) 0 ≡ getD (drop from m) i 0 =
-    rw copied (getD-sets-outside (take i (drop from m)) m to (from + i) (λ j h. apart j (omega arith)))
-    ∙ sym (getD-drop from m i 0)
-    in
-    rw (word, copied) (sets-take-more (drop from m) m to i (simp length-drop (omega arith)))

@@ -2,9 +2,8 @@
 // runs of words are loaded, stored, copied and cleared here; a card's area, and a page in it, are
 // lent on as parts of the memory.
 ghost use mathlib.Core.Path.{_≡_};
-ghost use mathlib.Core.Logic.{_≢_, _⊎_};
 ghost use Prim.Native.Nat.{_+_, _*_, _<_, _≤_};
-ghost use lib.ListN.{length, set, take, drop};
+ghost use lib.ListN.{length, set};
 ghost use lib.Seq.{sets};
 ghost use Rattle.memory.specs.Layout.{areaSize};
 ghost use Rattle.memory.specs.Area.{AreaIn, load, store, loadRun, storeRun};
@@ -61,21 +60,6 @@ pub fn zero_words(words: &mut [u32])
     let mut i = 0;
     while i < words.len() {
         words[i] = 0;
-        i += 1;
-    }
-}
-
-// Copies the n words from `from` on to the n words from `to` on.
-fn copy_within(words: &mut [u32], from: usize, to: usize, n: usize)
-    requires { ⌜ (from + n ≤ length (now words)) × (to + n ≤ length (now words)) ⌝ }
-    requires { ⌜ ((from + n ≤ to) ⊎ (to + n ≤ from)) ⌝ }
-    ensures { λ _. ⌜ now (words .exit)
-        ≡ sets (now (words .entry)) to (take n (drop from (now (words .entry)))) ⌝ }
-{
-    let mut i = 0;
-    while i < n {
-        let v = words[from + i];
-        words[to + i] = v;
         i += 1;
     }
 }
@@ -149,15 +133,39 @@ pub fn clear_run(memory: &mut [u32], size: usize, card: usize, offset: usize, n:
     clear_run_in(&mut memory[area..end], offset, n);
 }
 
-// Copies a run from one card's area to another's.
-pub fn copy_run(memory: &mut [u32], size: usize, from: usize, to: usize, offset: usize, n: usize)
+// Copies a run to another card's area, or to another place of the same area, through a buffer of
+// its length: words of two slices are copied as a block.
+fn copy_run(
+    memory: &mut [u32],
+    size: usize,
+    from: usize,
+    offset: usize,
+    to: usize,
+    target: usize,
+    buffer: &mut [u32],
+)
     requires { ⌜ AreaIn (length (now memory)) size from ⌝ }
     requires { ⌜ AreaIn (length (now memory)) size to ⌝ }
-    requires { ⌜ (from ≢ to) × (offset + n ≤ size) ⌝ }
+    requires { ⌜ offset + length (now buffer) ≤ size ⌝ }
+    requires { ⌜ target + length (now buffer) ≤ size ⌝ }
     ensures { λ _. ⌜ now (memory .exit)
-        ≡ copyRun size (now (memory .entry)) from offset to offset n ⌝ }
+        ≡ copyRun size (now (memory .entry)) from offset to target
+        (length (now (buffer .entry))) ⌝ }
 {
-    copy_within(memory, from * size + offset, to * size + offset, n);
+    load_run(memory, size, from, offset, buffer);
+    store_run(memory, size, to, target, buffer);
+}
+
+// Copies the 18 words of a record from one card's area to another's.
+pub fn copy_record(memory: &mut [u32], size: usize, from: usize, to: usize, offset: usize)
+    requires { ⌜ AreaIn (length (now memory)) size from ⌝ }
+    requires { ⌜ AreaIn (length (now memory)) size to ⌝ }
+    requires { ⌜ offset + 18 ≤ size ⌝ }
+    ensures { λ _. ⌜ now (memory .exit)
+        ≡ copyRun size (now (memory .entry)) from offset to offset 18 ⌝ }
+{
+    let mut words = [0u32; 18];
+    copy_run(memory, size, from, offset, to, offset, &mut words);
 }
 
 // ---- a page's 64 words: the card's area is lent on as a part of the memory, and the page as a
@@ -189,17 +197,19 @@ pub fn store_price(memory: &mut [u32], size: usize, card: usize, page: usize, wo
     store_price_in(&mut memory[area..end], page, word, v);
 }
 
-fn copy_prices_in(area: &mut [u32], page: usize, from: usize, to: usize)
-    requires { ⌜ (page + 64 ≤ length (now area)) × (from + 32 ≤ 64) × (to + 32 ≤ 64) ⌝ }
-    requires { ⌜ ((from + 32 ≤ to) ⊎ (to + 32 ≤ from)) ⌝ }
-    ensures { λ _. ⌜ now (area .exit)
-        ≡ sets (now (area .entry)) (page + to)
-        (take 32 (drop (page + from) (now (area .entry)))) ⌝ }
+// Copies a page from one card's area to another's.
+pub fn copy_page(memory: &mut [u32], size: usize, from: usize, to: usize, page: usize)
+    requires { ⌜ AreaIn (length (now memory)) size from ⌝ }
+    requires { ⌜ AreaIn (length (now memory)) size to ⌝ }
+    requires { ⌜ page + 64 ≤ size ⌝ }
+    ensures { λ _. ⌜ now (memory .exit)
+        ≡ copyRun size (now (memory .entry)) from page to page 64 ⌝ }
 {
-    let end = page + 64;
-    copy_within(&mut area[page..end], from, to, 32);
+    let mut words = [0u32; 64];
+    copy_run(memory, size, from, page, to, page, &mut words);
 }
 
+// Copies 32 words of a page to another place in it.
 pub fn copy_prices(
     memory: &mut [u32],
     size: usize,
@@ -210,11 +220,9 @@ pub fn copy_prices(
 )
     requires { ⌜ AreaIn (length (now memory)) size card ⌝ }
     requires { ⌜ (page + 64 ≤ size) × (from + 32 ≤ 64) × (to + 32 ≤ 64) ⌝ }
-    requires { ⌜ ((from + 32 ≤ to) ⊎ (to + 32 ≤ from)) ⌝ }
     ensures { λ _. ⌜ now (memory .exit)
         ≡ copyRun size (now (memory .entry)) card (page + from) card (page + to) 32 ⌝ }
 {
-    let area = card * size;
-    let end = area + size;
-    copy_prices_in(&mut memory[area..end], page, from, to);
+    let mut words = [0u32; 32];
+    copy_run(memory, size, card, page + from, card, page + to, &mut words);
 }

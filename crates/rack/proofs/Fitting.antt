@@ -26,13 +26,13 @@ use Rattle.protocol.proofs.Counting.{highest}
 use Rattle.protocol.proofs.Limits.{Within, within-limits}
 use Rattle.release.specs.Stepping.{CardIn, HomesIn, GoodRelease}
 use Rattle.release.proofs.Callers.{card-in, good-release}
-use Rattle.recovery.specs.Rack.{RackIn, TwoLive}
+use Rattle.recovery.specs.Rack.{RackIn, SomeLive}
 
 pub record Fitting (d : Directory) (m : List ℕ) : Type 0 where
   pub within : Within (length m) (d .cards) (d .pages)
   pub primary-below : (p : ℕ) → p < d .pages → primaryOf d p < d .cards
   pub secondary-below : (p : ℕ) → p < d .pages → secondaryOf d p < d .cards
-  pub two : TwoLive (d .live) (d .cards)
+  pub some : SomeLive (d .live) (d .cards)
   pub next-below : (c : ℕ) → nextLiveOf d c < d .cards
   pub awaited : awaitsRecovery (d .status) ≡ true → awaitedCard (d .status) < d .cards
   pub good : (c : ℕ) → c < d .cards → isOpen (d .live) (sizeOf d) m c ≡ true → GoodRelease (d .pages) m c
@@ -60,20 +60,11 @@ open-good marks pages m c passed opened =
     let release = neither (ltb 1 (load (areaSize pages) m c releaseOpen)) _ (rw live at passed) in
     good-release pages m c (rw one at (release .1))
 
-two-live : (marks : List Bool) (cards : ℕ) → fewLive marks cards ≡ false → TwoLive marks cards
+some-live : (marks : List Bool) (cards : ℕ) → fewLive marks cards ≡ false → SomeLive marks cards
 unfolding fewLive
-two-live marks cards passed =
+some-live marks cards passed =
     let x = highest (liveAt marks) 1 cards (ltb-false (countBelow (liveAt marks) cards) 2 passed) in
-    let y = highest (liveAt marks) 0 (x .index) (x .others) in
-    record {
-      one = x .index;
-      two = y .index;
-      apart = omega (arith, y .below);
-      one-below = x .below;
-      two-below = omega (arith, x .below, y .below);
-      one-live = x .passes;
-      two-live = y .passes;
-    }
+    record { card = x .index; below = x .below; up = x .passes }
 
 awaited-below : (cards : ℕ) (marks : List Bool) (status : Status) → badStatus cards marks status ≡ false
     → awaitsRecovery status ≡ true → awaitedCard status < cards
@@ -92,13 +83,13 @@ fitting {d} {m} fits =
     let homes : (p : ℕ) → p < d .pages → (primaryOf d p < d .cards) × (secondaryOf d p < d .cards)
     = λ p below. homes-below d p (none-below (badPage d) _ (pages .0) p below)
     in
-    let two = two-live (d .live) (d .cards) (live .0) in
+    let some = some-live (d .live) (d .cards) (live .0) in
     record {
       within = within-limits _ _ _ (fits .limits);
       primary-below = λ p below. homes p below .0;
       secondary-below = λ p below. homes p below .1;
-      two = two;
-      next-below = λ c. next-live-below (d .live) (d .cards) c (two .one) (two .one-below) (two .one-live);
+      some = some;
+      next-below = λ c. next-live-below (d .live) (d .cards) c (some .card) (some .below) (some .up);
       awaited = awaited-below (d .cards) (d .live) (d .status) (cards .0);
       good = λ c below.
           open-good (d .live) (d .pages) m c (none-below (badCard (d .live) (d .pages) m) _ (cards .1) c below);

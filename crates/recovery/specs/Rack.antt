@@ -1,7 +1,6 @@
 -- What recovery and join rely on, as a rack that passed its checks has it; a directory as far as they look at it.
 use Prim.Native.Nat.{ℕ, _*_, _<_, _≤_}
 use mathlib.Core.Path.{_≡_}
-use mathlib.Core.Logic.{_≢_}
 use mathlib.Core.List.{List, []}
 use mathlib.Core.Bool.{Bool, true, _&&_}
 use lib.ListN.{length}
@@ -39,12 +38,8 @@ backedBy live marks cards backup c = liveAt live c && eqb (nextLive marks cards 
 pub record Covers (marks live : List Bool) : Type 0 where
   pub live-too : (c : ℕ) → liveAt live c ≡ true → liveAt marks c ≡ true
 
--- two live cards at least, as a rack always has
-pub record TwoLive (live : List Bool) (cards : ℕ) : Type 0 where
-  pub one : ℕ
-  pub two : ℕ
-  pub apart : one ≢ two
-  pub one-below : one < cards
-  pub two-below : two < cards
-  pub one-live : liveAt live one ≡ true
-  pub two-live : liveAt live two ≡ true
+-- a live card, as a rack always has
+pub record SomeLive (live : List Bool) (cards : ℕ) : Type 0 where
+  pub card : ℕ
+  pub below : card < cards
+  pub up : liveAt live card ≡ true

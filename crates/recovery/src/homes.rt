@@ -5,7 +5,7 @@ ghost use lib.ListN.{length};
 ghost use Rattle.protocol.specs.Recovery.{lostHome, keptHome, copyToNewHome, copyToNewHomes};
 ghost use Rattle.protocol.specs.Recovery.{moveHome};
 ghost use Rattle.release.specs.Stepping.{HomesIn};
-ghost use Rattle.recovery.specs.Rack.{RackIn, TwoLive, pagesOf, rackOf};
+ghost use Rattle.recovery.specs.Rack.{RackIn, SomeLive, pagesOf, rackOf};
 use directory::Directory;
 
 // Whether a home of the page failed.
@@ -45,7 +45,7 @@ fn copy_to_new_home(
 )
     requires { ⌜ RackIn (now live) cards pages (length (now memory)) ⌝ }
     requires { ⌜ HomesIn (now live) pages (now primary) (now secondary) (length (now memory)) ⌝ }
-    requires { ⌜ TwoLive (now live) cards ⌝ }
+    requires { ⌜ SomeLive (now live) cards ⌝ }
     requires { ⌜ page < pages ⌝ }
     ensures { λ _. ⌜ now (memory .exit)
         ≡ copyToNewHome
@@ -56,14 +56,8 @@ fn copy_to_new_home(
         let kept = kept_home(primary, secondary, failed, page);
         let next = directory::next_live_after(live, cards, kept);
         let start = memory::PAGES_START + 64 * page;
-        memory::copy_run(
-            memory,
-            memory::area_size(pages),
-            kept as usize,
-            next as usize,
-            start,
-            64,
-        );
+        let size = memory::area_size(pages);
+        memory::copy_page(memory, size, kept as usize, next as usize, start);
     }
 }
 
@@ -79,7 +73,7 @@ pub(crate) fn copy_to_new_homes(
 )
     requires { ⌜ RackIn (now live) cards pages (length (now memory)) ⌝ }
     requires { ⌜ HomesIn (now live) pages (now primary) (now secondary) (length (now memory)) ⌝ }
-    requires { ⌜ TwoLive (now live) cards ⌝ }
+    requires { ⌜ SomeLive (now live) cards ⌝ }
     ensures { λ _. ⌜ now (memory .exit)
         ≡ copyToNewHomes
         (rackOf cards pages (now (live .entry)) (now (primary .entry)) (now (secondary .entry)))

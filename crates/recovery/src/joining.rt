@@ -1,18 +1,16 @@
 // The area of a card that joins: its own stamp and desk, and the records of the other dead cards.
 ghost use mathlib.Core.Path.{_≡_};
-ghost use mathlib.Core.Bool.{false};
 ghost use Prim.Native.Nat.{_<_};
 ghost use lib.ListN.{length};
 ghost use Rattle.laws.specs.Search.{inTurn};
-ghost use Rattle.directory.specs.Live.{liveAt};
 ghost use Rattle.protocol.specs.Join.{resetArea, copyDeadRecord};
-ghost use Rattle.recovery.specs.Rack.{RackIn, TwoLive, marksOf};
+ghost use Rattle.recovery.specs.Rack.{RackIn, SomeLive, marksOf};
 use crate::records;
 
 // Zeroes a dead card's area and gives it stamp and desk from its record.
 pub(crate) fn reset_area(memory: &mut [u32], cards: u32, pages: u32, live: &[bool], card: u32)
     requires { ⌜ RackIn (now live) cards pages (length (now memory)) ⌝ }
-    requires { ⌜ TwoLive (now live) cards ⌝ }
+    requires { ⌜ SomeLive (now live) cards ⌝ }
     requires { ⌜ card < cards ⌝ }
     ensures { λ _. ⌜ now (memory .exit)
         ≡ resetArea (marksOf cards pages (now (live .entry))) card (now (memory .entry)) ⌝ }
@@ -37,8 +35,8 @@ fn copy_dead_record(
     card: u32,
 )
     requires { ⌜ RackIn (now live) cards pages (length (now memory)) ⌝ }
-    requires { ⌜ TwoLive (now live) cards ⌝ }
-    requires { ⌜ (joining < cards) × (liveAt (now live) joining ≡ false) × (card < cards) ⌝ }
+    requires { ⌜ SomeLive (now live) cards ⌝ }
+    requires { ⌜ (joining < cards) × (card < cards) ⌝ }
     ensures { λ _. ⌜ now (memory .exit)
         ≡ copyDeadRecord (marksOf cards pages (now (live .entry))) joining card
         (now (memory .entry)) ⌝ }
@@ -52,7 +50,7 @@ fn copy_dead_record(
     let holder = directory::next_live_after(live, cards, card) as usize;
     let record = memory::RECORDS_START + memory::RECORD_SIZE * card as usize;
     let size = memory::area_size(pages);
-    memory::copy_run(memory, size, holder, joining as usize, record, 18);
+    memory::copy_record(memory, size, holder, joining as usize, record);
 }
 
 // Copies the records of all other dead cards.
@@ -64,8 +62,8 @@ pub(crate) fn copy_dead_records(
     joining: u32,
 )
     requires { ⌜ RackIn (now live) cards pages (length (now memory)) ⌝ }
-    requires { ⌜ TwoLive (now live) cards ⌝ }
-    requires { ⌜ (joining < cards) × (liveAt (now live) joining ≡ false) ⌝ }
+    requires { ⌜ SomeLive (now live) cards ⌝ }
+    requires { ⌜ joining < cards ⌝ }
     ensures { λ _. ⌜ now (memory .exit)
         ≡ inTurn (copyDeadRecord (marksOf cards pages (now (live .entry))) joining) cards
         (now (memory .entry)) ⌝ }

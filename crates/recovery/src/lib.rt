@@ -1,16 +1,14 @@
 // Recovery of a failed card, and a dead card that joins again: what they write in the memory of a
 // rack that passed its checks; which calls are refused is decided above.
 ghost use mathlib.Core.Path.{_≡_};
-ghost use mathlib.Core.Bool.{false};
 ghost use Prim.Native.Nat.{_<_, _≤_};
 ghost use lib.ListN.{length};
-ghost use Rattle.directory.specs.Live.{liveAt};
 ghost use Rattle.protocol.specs.Recovery.{restorePages, copyToNewHomes, recoveredDirectory};
 ghost use Rattle.protocol.specs.Recovery.{failedRelease, recoveredMemory};
 ghost use Rattle.protocol.specs.Join.{joinedMemory};
 ghost use Rattle.release.specs.Stepping.{HomesIn};
 ghost use Rattle.recovery.specs.Closing.{ReleasesIn, recordOf, recoveredClosed};
-ghost use Rattle.recovery.specs.Rack.{RackIn, TwoLive};
+ghost use Rattle.recovery.specs.Rack.{RackIn, SomeLive};
 
 mod closing;
 mod homes;
@@ -29,7 +27,7 @@ fn restore_copies(memory: &mut [u32], directory: Directory, failed: u32, forward
         (length (now memory)) ⌝ }
     requires { ⌜ HomesIn (directory .live) (directory .pages) (directory .primary)
         (directory .secondary) (length (now memory)) ⌝ }
-    requires { ⌜ TwoLive (directory .live) (directory .cards) ⌝ }
+    requires { ⌜ SomeLive (directory .live) (directory .cards) ⌝ }
     ensures { λ _. ⌜ now (memory .exit)
         ≡ copyToNewHomes directory failed
         (restorePages directory forward (now (memory .entry))) ⌝ }
@@ -50,7 +48,7 @@ fn recover_closed(memory: &mut [u32], directory: Directory, failed: u32, desk: &
         (length (now memory)) ⌝ }
     requires { ⌜ HomesIn (directory .live) (directory .pages) (directory .primary)
         (directory .secondary) (length (now memory)) ⌝ }
-    requires { ⌜ TwoLive (directory .live) (directory .cards) ⌝ }
+    requires { ⌜ SomeLive (directory .live) (directory .cards) ⌝ }
     requires { ⌜ (failed < 8) × (length (now desk) ≡ 8) ⌝ }
     ensures number { λ r. ⌜ r ≡ recordOf directory failed (now (memory .entry)) .number ⌝ }
     ensures desk { λ _. ⌜ now (desk .exit)
@@ -80,7 +78,7 @@ pub fn recover_memory(
         (length (now memory)) ⌝ }
     requires { ⌜ HomesIn (directory .live) (directory .pages) (directory .primary)
         (directory .secondary) (length (now memory)) ⌝ }
-    requires { ⌜ TwoLive (directory .live) (directory .cards) ⌝ }
+    requires { ⌜ SomeLive (directory .live) (directory .cards) ⌝ }
     requires { ⌜ (failed < 8) × (length (now desk) ≡ 8) ⌝ }
     requires { ⌜ ReleasesIn directory (now memory) ⌝ }
     ensures number { λ r. ⌜ r ≡ failedRelease directory failed (now (memory .entry)) .number ⌝ }
@@ -110,8 +108,8 @@ pub fn recovered_directory(directory: Directory, failed: u32) -> Directory
 pub fn join_memory(memory: &mut [u32], directory: Directory, joining: u32)
     requires { ⌜ RackIn (directory .live) (directory .cards) (directory .pages)
         (length (now memory)) ⌝ }
-    requires { ⌜ TwoLive (directory .live) (directory .cards) ⌝ }
-    requires { ⌜ (joining < directory .cards) × (liveAt (directory .live) joining ≡ false) ⌝ }
+    requires { ⌜ SomeLive (directory .live) (directory .cards) ⌝ }
+    requires { ⌜ joining < directory .cards ⌝ }
     ensures { λ _. ⌜ now (memory .exit)
         ≡ joinedMemory directory joining (now (memory .entry)) ⌝ }
 {

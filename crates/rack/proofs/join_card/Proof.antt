@@ -28,7 +28,7 @@ join-memory-requires c κs =
     let marks : length (d .live) ≡ 8 = length-unmapped _ (d .live) 8 (arrays .0 .1 .0 .1) in
     let passed = join-facts d m (a .card) (first .join .ensures) (c .before .if1 .left) in
     let fit = fitting (passed .runs .fits) in
-    (rack-in d m fit marks, (fit .two, (passed .below, passed .dead)))
+    (rack-in d m fit marks, (fit .some, passed .below))
 
 returns-2 : tie.Need-returns-2
 returns-2 c =

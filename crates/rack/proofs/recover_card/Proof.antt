@@ -38,7 +38,7 @@ recover-memory-requires c κs =
     let below = rw (← awaiting .awaited-card .ensures) at (fit .awaited (passed .1)) in
     let eight = fit .within .cards-most in
     let homes = homes-in d m fit marks primaries secondaries in
-    (rack-in d m fit marks, (homes, (fit .two, ((omega arith, search needs), record { good = fit .good }))))
+    (rack-in d m fit marks, (homes, (fit .some, ((omega arith, search needs), record { good = fit .good }))))
 
 recovered-directory-requires : tie.Need-recovered-directory-requires
 recovered-directory-requires c κs =

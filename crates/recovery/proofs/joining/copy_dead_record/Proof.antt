@@ -1,10 +1,9 @@
--- Rests on the two tests, and on the holder's being live, which the card that joins is not.
+-- Rests on the two tests, and on `next-below`: the holder is a card.
 use native.Mathlib.Omega.{arith}
 use borrow.Author.Tests.{eq-eqb, ne-eqb}
 use Rattle.memory.proofs.Index.{area-in}
-use Rattle.directory.proofs.Live.{live-not-dead}
 use Rattle.protocol.specs.Join.{copyDeadRecord}
-use Rattle.recovery.proofs.homes.Cards.{next-below, next-up}
+use Rattle.recovery.proofs.homes.Cards.{next-below}
 use borrow.Author.Needs.{needs}
 use Rattle.recovery.proofs.joining.copy_dead_record.Statement.{statement}
 use Rattle.recovery.proofs.joining.copy_dead_record.Tie as tie
@@ -17,18 +16,14 @@ returns-2 : tie.Need-returns-2
 unfolding copyDeadRecord
 returns-2 c = rw (c .before .if1 .left, eq-eqb _ _ (c .if2 .taken))
 
-copy-run-requires : tie.Need-copy-run-requires
-copy-run-requires c κs =
+copy-record-requires : tie.Need-copy-record-requires
+copy-record-requires c κs =
     let start = c .before .before .before .before .before .before .before .before in
     let pre = start .pre in
     let below = next-below (pre .1 .0) (start .args .card) in
-    let up = next-up (pre .1 .0) (start .args .card) in
     rw (c .before .area-size .ensures, c .before .before .next-live-after .ensures) (
       area-in _ below (pre .0 .whole),
-      (
-        area-in _ (pre .1 .1 .0) (pre .0 .whole),
-        ((λ e. live-not-dead (rw e at up) (pre .1 .1 .1)), omega arith),
-      ),
+      (area-in _ (pre .1 .1 .0) (pre .0 .whole), omega arith),
     )
 
 returns-3 : tie.Need-returns-3
@@ -37,10 +32,10 @@ returns-3 c =
     let other = c .before .before .before .before .before .before in
     let size = c .before .before .before .before in
     rw (other .before .if1 .left, ne-eqb _ _ (other .if2 .left))
-    (rw (size .area-size .ensures, size .before .next-live-after .ensures) at (c .before .before .copy-run .ensures))
+    (rw (size .area-size .ensures, size .before .next-live-after .ensures) at (c .before .before .copy-record .ensures))
 
 pub copy-dead-record-spec : {M : Type 1} → statement M
 copy-dead-record-spec =
     tie.close
     (tie.spec (λ c. search needs) returns returns-2 (λ c κs. search needs) (λ c. search needs) (λ c. search needs)
-    (λ c. search needs) (λ c κs. search needs) copy-run-requires (λ c. search needs) returns-3)
+    (λ c. search needs) (λ c κs. search needs) copy-record-requires (λ c. search needs) returns-3)

@@ -19,7 +19,7 @@ copy-dead-record-requires : tie.Need-copy-dead-record-requires Inv-loop μ-loop
 copy-dead-record-requires c κs =
     let pre = c .before .before .before .before .before .pre in
     let same = c .before .before .loop .inv .same in
-    (rw same (pre .0), (pre .1 .0, (pre .1 .1 .0, pre .1 .1 .1, c .before .loop-test .taken)))
+    (rw same (pre .0), (pre .1 .0, (pre .1 .1, c .before .loop-test .taken)))
 
 loop-again : tie.Need-loop-again Inv-loop μ-loop
 loop-again c =

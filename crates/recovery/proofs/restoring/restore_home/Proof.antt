@@ -1,5 +1,4 @@
 -- Rests on the mark of the home and on the direction.
-use mathlib.Core.Logic.{inl, inr}
 use native.Mathlib.Nat.{add-zero}
 use native.Mathlib.Omega.{arith}
 use Rattle.protocol.specs.Recovery.{restoreHome}
@@ -11,7 +10,7 @@ copy-prices-requires : tie.Need-copy-prices-requires
 copy-prices-requires c κs =
     let start = c .before .before .before .before .before .before .before in
     rw (c .before .before .area-size .ensures)
-    (start .pre .0 .area, ((omega arith, omega arith, omega arith), inl (omega arith)))
+    (start .pre .0 .area, (omega arith, omega arith, omega arith))
 
 returns : tie.Need-returns
 unfolding restoreHome
@@ -24,7 +23,7 @@ copy-prices-requires-2 : tie.Need-copy-prices-requires-2
 copy-prices-requires-2 c κs =
     let start = c .before .before .before .before .before .before .before in
     rw (c .before .before .area-size .ensures)
-    (start .pre .0 .area, ((omega arith, omega arith, omega arith), inr (omega arith)))
+    (start .pre .0 .area, (omega arith, omega arith, omega arith))
 
 returns-2 : tie.Need-returns-2
 unfolding restoreHome
