@@ -94,16 +94,25 @@ pub(crate) fn copy_to_new_homes(
 }
 
 // A page that lost a home gets its new homes.
-pub(crate) fn move_home(moved: Directory, directory: Directory, failed: u32, page: u32) -> Directory
-    requires { ⌜ page < 64 ⌝ }
-    ensures { λ r. ⌜ r ≡ moveHome directory failed page moved ⌝ }
+pub(crate) fn move_home(
+    moved: Directory,
+    cards: u32,
+    live: &[bool],
+    primary: &[u32],
+    secondary: &[u32],
+    failed: u32,
+    page: u32,
+) -> Directory
+    requires { ⌜ (page < length (now primary)) × (page < length (now secondary)) ⌝ }
+    ensures { λ r. ⌜ r
+        ≡ moveHome
+        (rackOf cards 0 (now (live .entry)) (now (primary .entry)) (now (secondary .entry))) failed
+        page moved ⌝ }
 {
-    let primary = directory.primary;
-    let secondary = directory.secondary;
     let at = page as usize;
-    if lost_home(&primary, &secondary, failed, at) {
-        let kept = kept_home(&primary, &secondary, failed, at);
-        return moved.move_home(page, kept, directory.next_live(kept));
+    if lost_home(primary, secondary, failed, at) {
+        let kept = kept_home(primary, secondary, failed, at);
+        return moved.move_home(page, kept, directory::next_live_after(live, cards, kept));
     }
     moved
 }

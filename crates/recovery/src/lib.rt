@@ -96,9 +96,13 @@ pub fn recovered_directory(directory: Directory, failed: u32) -> Directory
     requires { ⌜ directory .pages ≤ 64 ⌝ }
     ensures { λ r. ⌜ r ≡ recoveredDirectory directory failed ⌝ }
 {
+    let cards = directory.cards;
+    let live = directory.live;
+    let primary = directory.primary;
+    let secondary = directory.secondary;
     let mut moved = directory;
     for page in 0..directory.pages {
-        moved = homes::move_home(moved, directory, failed, page);
+        moved = homes::move_home(moved, cards, &live, &primary, &secondary, failed, page);
     }
     moved.set_status(Status::Running)
 }

@@ -9,9 +9,9 @@ returns : tie.Need-returns
 unfolding moveHome lostHome keptHome newHome
 returns c =
     let kept = c .before .before in
-    let test = kept .before .before .before in
+    let test = kept .before in
     let lost = sym (test .before .lost-home .ensures) ∙ test .if1 .taken in
-    rw lost (rw (c .before .next-live .ensures, kept .kept-home .ensures) at (c .move-home .ensures))
+    rw lost (rw (c .before .next-live-after .ensures, kept .kept-home .ensures) at (c .move-home .ensures))
 
 returns-2 : tie.Need-returns-2
 unfolding moveHome lostHome
@@ -20,5 +20,5 @@ returns-2 c = rw (sym (c .before .lost-home .ensures) ∙ c .if1 .left)
 pub move-home-spec : {M : Type 1} → statement M
 move-home-spec =
     tie.close
-    (tie.spec (λ c. search needs) (λ c. search needs) (λ c κs. search needs) (λ c. search needs) (λ c. search needs)
-    (λ c κs. search needs) (λ c κs. search needs) (λ c κs. search needs) returns returns-2)
+    (tie.spec (λ c κs. search needs) (λ c κs. search needs) (λ c κs. search needs) (λ c κs. search needs) returns
+    returns-2)
