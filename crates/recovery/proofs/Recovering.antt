@@ -10,7 +10,7 @@ use Rattle.directory.specs.Directory.{backupOf}
 use Rattle.protocol.specs.Release.{Release, sizeOf}
 use Rattle.protocol.specs.Record.{writeOwnRecord}
 use Rattle.protocol.specs.Recovery.{restoreHome, restorePage, restorePages, lostHome, keptHome, newHome}
-use Rattle.protocol.specs.Recovery.{copyToNewHome, copyToNewHomes, moveHome, writeFailed, writeRecords}
+use Rattle.protocol.specs.Recovery.{copyToNewHome, copyToNewHomes, writeFailed, writeRecords}
 use Rattle.protocol.specs.Recovery.{closeReleases, failedRelease, restoredMemory, recoveredMemory}
 use Rattle.release.proofs.Callers.{homes}
 use Rattle.recovery.specs.Rack.{marksOf, rackOf, backedBy}
@@ -32,12 +32,6 @@ module _ (d : Directory) where
   rack = rackOf (d .cards) (d .pages) (d .live) (d .primary) (d .secondary)
 
   module _ (f : ℕ) where
-    -- a home is moved by cards, marks and homes alone
-    pub same-home : (page : ℕ) (moved : Directory)
-        → moveHome (rackOf (d .cards) 0 (d .live) (d .primary) (d .secondary)) f page moved ≡ moveHome d f page moved
-    unfolding moveHome lostHome keptHome newHome
-    same-home page moved = refl
-
     same-copy : (page : ℕ) (m : List ℕ) → copyToNewHome rack f page m ≡ copyToNewHome d f page m
     unfolding copyToNewHome lostHome keptHome newHome
     same-copy page m = refl

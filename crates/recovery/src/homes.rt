@@ -1,12 +1,12 @@
 // Pages that lost a home: the home that each keeps, and its copies and homes from then on.
 ghost use mathlib.Core.Path.{_≡_};
-ghost use Prim.Native.Nat.{_<_};
+ghost use Prim.Native.Nat.{_<_, _≤_};
 ghost use lib.ListN.{length};
+ghost use Rattle.laws.specs.Search.{inTurn};
 ghost use Rattle.protocol.specs.Recovery.{lostHome, keptHome, copyToNewHome, copyToNewHomes};
 ghost use Rattle.protocol.specs.Recovery.{moveHome};
 ghost use Rattle.release.specs.Stepping.{HomesIn};
 ghost use Rattle.recovery.specs.Rack.{RackIn, SomeLive, pagesOf, rackOf};
-use directory::Directory;
 
 // Whether a home of the page failed.
 fn lost_home(primary: &[u32], secondary: &[u32], failed: u32, page: usize) -> bool
@@ -93,26 +93,35 @@ pub(crate) fn copy_to_new_homes(
     }
 }
 
-// A page that lost a home gets its new homes.
-pub(crate) fn move_home(
-    moved: Directory,
+// Every page that lost a home gets its new homes, which are stored to `primaries` and `secondaries`.
+pub(crate) fn move_homes(
     cards: u32,
+    pages: u32,
     live: &[bool],
     primary: &[u32],
     secondary: &[u32],
     failed: u32,
-    page: u32,
-) -> Directory
-    requires { ⌜ (page < length (now primary)) × (page < length (now secondary)) ⌝ }
-    ensures { λ r. ⌜ r
-        ≡ moveHome
-        (rackOf cards 0 (now (live .entry)) (now (primary .entry)) (now (secondary .entry))) failed
-        page moved ⌝ }
+    primaries: &mut [u32],
+    secondaries: &mut [u32],
+)
+    requires { ⌜ (pages ≤ length (now primary)) × (pages ≤ length (now secondary)) ⌝ }
+    requires { ⌜ (pages ≤ length (now primaries)) × (pages ≤ length (now secondaries)) ⌝ }
+    ensures { λ _. ⌜ rackOf cards pages (now (live .entry)) (now (primaries .exit))
+        (now (secondaries .exit))
+        ≡ inTurn
+        (moveHome
+        (rackOf cards pages (now (live .entry)) (now (primary .entry)) (now (secondary .entry)))
+        failed)
+        pages
+        (rackOf cards pages (now (live .entry)) (now (primaries .entry))
+        (now (secondaries .entry))) ⌝ }
 {
-    let at = page as usize;
-    if lost_home(primary, secondary, failed, at) {
-        let kept = kept_home(primary, secondary, failed, at);
-        return moved.move_home(page, kept, directory::next_live_after(live, cards, kept));
+    for page in 0..pages {
+        let at = page as usize;
+        if lost_home(primary, secondary, failed, at) {
+            let kept = kept_home(primary, secondary, failed, at);
+            primaries[at] = kept;
+            secondaries[at] = directory::next_live_after(live, cards, kept);
+        }
     }
-    moved
 }

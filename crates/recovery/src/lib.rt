@@ -97,14 +97,30 @@ pub fn recovered_directory(directory: Directory, failed: u32) -> Directory
     ensures { λ r. ⌜ r ≡ recoveredDirectory directory failed ⌝ }
 {
     let cards = directory.cards;
+    let pages = directory.pages;
     let live = directory.live;
     let primary = directory.primary;
     let secondary = directory.secondary;
-    let mut moved = directory;
-    for page in 0..directory.pages {
-        moved = homes::move_home(moved, cards, &live, &primary, &secondary, failed, page);
+    let mut primaries = directory.primary;
+    let mut secondaries = directory.secondary;
+    homes::move_homes(
+        cards,
+        pages,
+        &live,
+        &primary,
+        &secondary,
+        failed,
+        &mut primaries,
+        &mut secondaries,
+    );
+    Directory {
+        cards,
+        pages,
+        live,
+        primary: primaries,
+        secondary: secondaries,
+        status: Status::Running,
     }
-    moved.set_status(Status::Running)
 }
 
 // Makes a dead card's area what it must be once the card is live: its own stamp and desk, and the
