@@ -1,4 +1,4 @@
--- One page's homes moved, as one of the pages that are taken in turn; and how far the moves look at a directory.
+-- The homes of one page moved, as of one of the pages that are taken in turn. The directory's status stays out of it.
 use Prim.Native.Nat.{ℕ, zero, suc, _+_}
 use mathlib.Core.Path.{_≡_, refl, ap, _∙_}
 use mathlib.Core.Bool.{Bool, true, false, cond}
@@ -21,7 +21,7 @@ module _ (d : Directory) (f : ℕ) (start : Directory) (i : ℕ) {moved : Direct
   unfolding moveHome
   move-none none = rw (in-turn-more, none, made)
 
--- ---- the status of the directory stays out of it
+-- ---- the status stays out of it
 
 choose : (lost : Bool) (x y : Directory) → cond lost (withStatus x Running) (withStatus y Running)
     ≡ withStatus (cond lost x y) Running

@@ -31,8 +31,9 @@ unfolding copyDeadRecord
 returns-3 c =
     let other = c .before .before .before .before .before .before in
     let size = c .before .before .before .before in
+    let copied = c .before .before .copy-record .ensures in
     rw (other .before .if1 .left, ne-eqb _ _ (other .if2 .left))
-    (rw (size .area-size .ensures, size .before .next-live-after .ensures) at (c .before .before .copy-record .ensures))
+    (rw (size .area-size .ensures, size .before .next-live-after .ensures) at copied)
 
 pub copy-dead-record-spec : {M : Type 1} → statement M
 copy-dead-record-spec =
