@@ -20,7 +20,7 @@ use Rattle.protocol.specs.Fetch.{inMotion, fetchChecks, committedPage}
 use Rattle.protocol.proofs.Accepting.{Runs, all-passed, desk-passed}
 use Rattle.protocol.proofs.Limits.{within-limits}
 use Rattle.checks.proofs.Order.{by-number}
-use Rattle.conflict.proofs.Motion.{motion-marked}
+use Rattle.conflict.proofs.InMotion.{motion-marked}
 use Rattle.rack.proofs.Results.{fetch-refused, fetch-accepted}
 use Rattle.batch.specs.FetchAll.{Pages, pagesOf, fetchNext, noneShown, fetchAllChecks, fetchedTo}
 use Rattle.batch.specs.FetchAll.{fetchAll, isMoving, movingOf, showNext}

@@ -16,7 +16,7 @@ use Rattle.directory.specs.Directory.{directoryOf}
 use Rattle.protocol.specs.Checks.{Check, check, firstRefusal, runningChecks}
 use Rattle.protocol.specs.Result.{Result, accepted}
 use Rattle.protocol.specs.Fetch.{inMotion, committedPage, fetch}
-use Rattle.conflict.specs.Named.{markMotion}
+use Rattle.conflict.specs.Motion.{markMotion}
 
 -- the buffer, 32 words for each page, and which pages were shown
 pub record Pages : Type 0 where

@@ -1,5 +1,4 @@
--- Laws that the searches cite.
+-- Laws that the proofs of several modules, or of the crates above, cite.
 pub mod Walking
-pub mod Turns
-pub mod Motion
-pub mod Sharing
+pub mod Marks
+pub mod InMotion

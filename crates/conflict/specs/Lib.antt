@@ -1,3 +1,5 @@
 -- What the contracts of the searches cite beside the definitions of `protocol`.
 pub mod Walking
-pub mod Named
+pub mod Marks
+pub mod Sharing
+pub mod Motion

@@ -6,7 +6,7 @@ use lib.ListN.{length, getD}
 use Rattle.diff.specs.declared.Step.{Step}
 use Rattle.diff.specs.declared.Step.the-variants.{Next, End, Fault}
 use Rattle.diff.specs.Reading.{start, wordStep}
-pub use Rattle.conflict.specs.declared.Walk.{Walk}
+pub use Rattle.conflict.specs.declared.walk.Walk.{Walk}
 
 abbrev pub atFirst : Walk
 atFirst = record { cursor = start; index = 0 }

@@ -1,0 +1,2 @@
+-- Laws on the pages in motion.
+pub mod Turns

@@ -1,0 +1,3 @@
+-- Laws on the words that two lists share.
+pub mod Turns
+pub mod Labels

@@ -1,0 +1,51 @@
+-- One turn of the walk over another card's list: what the price that is due finds, and what is left finds the rest.
+use Prim.Native.Nat.{ℕ, _<_, _≤_}
+use mathlib.Core.Path.{_≡_, refl, ap, _∙_}
+use mathlib.Core.List.{List, [], _∷_, _++_}
+use mathlib.Core.Bool.{Bool, true, false, cond, _||_}
+use lib.ListN.{length, getD}
+use lib.Dec.{ltb}
+use Rattle.memory.specs.Layout.{areaSize}
+use Rattle.diff.specs.declared.Cursor.{Cursor}
+use Rattle.diff.specs.declared.Price.{Price}
+use Rattle.diff.specs.Prices.{pricedWord, pricesOf}
+use Rattle.protocol.specs.Release.{openList}
+use Rattle.conflict.specs.Walking.{Walk, pastWord}
+use Rattle.conflict.specs.Marks.{labelDue}
+use Rattle.conflict.specs.Sharing.{anyMarked, hitsDue, isOther, marksWith}
+use Rattle.conflict.proofs.Walking.{priceDue, pricesLeft, left-turn, left-end}
+
+any-due : (s : Cursor) (w : ℕ) (ps : List Price) (marks : List Bool)
+    → anyMarked (priceDue s w ++ ps) marks ≡ (hitsDue s marks || anyMarked ps marks)
+unfolding anyMarked
+any-due s w ps marks = go (ltb 0 (s .due))
+  where
+    go : (due : Bool)
+        → anyMarked (cond due (pricedWord s w ∷ []) [] ++ ps) marks
+        ≡ (cond due (getD marks (labelDue s) false) false || anyMarked ps marks)
+    go true = refl
+    go false = refl
+
+module _ (pages : ℕ) (list : List ℕ) (at : Walk) where
+  pub any-turn : at .index < length list → (marks : List Bool) (hit : Bool) → hit ≡ hitsDue (at .cursor) marks
+      → anyMarked (pricesLeft pages list at) marks
+      ≡ (hit || anyMarked (pricesLeft pages list (pastWord pages list at)) marks)
+  any-turn inside marks hit is =
+      ap (λ ps. anyMarked ps marks) (left-turn pages list at inside) ∙ rw is (any-due (at .cursor) _ _ marks)
+
+  pub any-end : length list ≤ at .index → (marks : List Bool) → anyMarked (pricesLeft pages list at) marks ≡ false
+  unfolding anyMarked
+  any-end end marks = ap (λ ps. anyMarked ps marks) (left-end pages list at end)
+
+-- ---- a card that is not walked over, and one with a list
+
+module _ (live : List Bool) (pages : ℕ) (m : List ℕ) {size : ℕ} (whole : size ≡ areaSize pages)
+    (c : ℕ) (marks : List Bool) (other : ℕ) {is : Bool} (told : is ≡ isOther live size m c other) where
+  pub marks-not : is ≡ false → marksWith live pages m c marks other ≡ false
+  unfolding marksWith
+  marks-not fails = rw (← whole, ← told, fails)
+
+  pub marks-list : is ≡ true → {list : List ℕ} → list ≡ openList size m other
+      → marksWith live pages m c marks other ≡ anyMarked (pricesOf pages list) marks
+  unfolding marksWith
+  marks-list holds lent = rw (← whole, ← told, holds, lent)

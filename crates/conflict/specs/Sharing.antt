@@ -1,0 +1,31 @@
+-- Refusal 8 by marks: the labels that a list names are marked, and another card's open release prices a marked one.
+-- Assumes nothing: these are definitions.
+use Prim.Native.Nat.{ℕ}
+use mathlib.Core.List.{List, [], _∷_}
+use mathlib.Core.Bool.{Bool, false, cond, not, _&&_, _||_}
+use lib.ListN.{getD}
+use lib.Dec.{ltb, eqb}
+use Rattle.memory.specs.Layout.{areaSize}
+use Rattle.diff.specs.declared.Cursor.{Cursor}
+use Rattle.diff.specs.declared.Price.{Price}
+use Rattle.diff.specs.Prices.{labelOf}
+use Rattle.protocol.specs.Release.{openPrices, isOpen}
+use Rattle.conflict.specs.Marks.{labelDue}
+
+-- whether some price has a marked label
+unfoldable pub anyMarked : List Price → List Bool → Bool
+anyMarked [] marks = false
+anyMarked (p ∷ ps) marks = getD marks (labelOf p) false || anyMarked ps marks
+
+-- whether the price that is due has one
+abbrev pub hitsDue : Cursor → List Bool → Bool
+hitsDue s marks = cond (ltb 0 (s .due)) (getD marks (labelDue s) false) false
+
+-- another card than c, with a release open
+unfoldable pub isOther : List Bool → ℕ → List ℕ → ℕ → ℕ → Bool
+isOther live size m c other = not (eqb other c) && isOpen live size m other
+
+-- and one that prices a marked label
+unfoldable pub marksWith : List Bool → ℕ → List ℕ → ℕ → List Bool → ℕ → Bool
+marksWith live pages m c marks other =
+    isOther live (areaSize pages) m c other && anyMarked (openPrices pages m other) marks

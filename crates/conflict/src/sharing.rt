@@ -1,0 +1,145 @@
+// Refusal 8: a word of the list that another card's open release prices.
+ghost use mathlib.Core.Path.{_≡_};
+ghost use Prim.Native.Nat.{_*_, _<_, _≤_};
+ghost use lib.ListN.{length};
+ghost use Rattle.laws.specs.Search.{lowest};
+ghost use Rattle.memory.specs.Layout.{areaSize};
+ghost use Rattle.memory.specs.Area.{AreaIn};
+ghost use Rattle.diff.specs.Prices.{pricesOf};
+ghost use Rattle.protocol.specs.Opening.{sharesWith};
+ghost use Rattle.reader.specs.Steady.{Steady};
+ghost use Rattle.conflict.specs.Marks.{labelDue, placeOf, placeDue, marked, markedDue};
+ghost use Rattle.conflict.specs.Sharing.{hitsDue, isOther, marksWith};
+use crate::walk;
+use diff::Cursor;
+
+// The label of the price that is due.
+fn label_due(s: Cursor) -> usize
+    requires { ⌜ Steady s ⌝ }
+    requires { ⌜ (0 < s .due) × (s .next ≤ 64) ⌝ }
+    ensures { λ r. ⌜ r ≡ labelDue s ⌝ }
+{
+    ((s.next - 1) * 32 + s.word) as usize
+}
+
+// Where the price that is due is marked: at its page, or at its label.
+fn place_due(s: Cursor, pagewise: bool) -> usize
+    requires { ⌜ Steady s ⌝ }
+    requires { ⌜ (0 < s .due) × (s .next ≤ 64) ⌝ }
+    ensures place { λ r. ⌜ r ≡ placeDue pagewise s ⌝ }
+    ensures inside { λ r. ⌜ r < 2048 ⌝ }
+{
+    if pagewise {
+        return (s.next - 1) as usize;
+    }
+    label_due(s)
+}
+
+// Marks the price that is due, if one is.
+fn mark_due(s: Cursor, pagewise: bool, named: &mut [bool])
+    requires { ⌜ Steady s ⌝ }
+    requires { ⌜ (s .next ≤ 64) × (length (now named) ≡ 2048) ⌝ }
+    ensures { λ _. ⌜ now (named .exit) ≡ markedDue pagewise s (now (named .entry)) ⌝ }
+{
+    if 0 < s.due {
+        let place = place_due(s, pagewise);
+        named[place] = true;
+    }
+}
+
+// Marks each word that a list prices, at its page or at its label.
+pub(crate) fn mark_words(list: &[u32], pages: u32, pagewise: bool, named: &mut [bool])
+    requires { ⌜ (length (now list) ≤ 512) × (length (now named) ≡ 2048) × (pages ≤ 64) ⌝ }
+    ensures { λ _. ⌜ now (named .exit)
+        ≡ marked (placeOf pagewise) (pricesOf pages (now (list .entry))) (now (named .entry)) ⌝ }
+{
+    let mut at = walk::first_word();
+    while at.index < list.len() {
+        mark_due(at.cursor, pagewise, named);
+        at = walk::next_word(list, at, pages);
+    }
+}
+
+// Whether a price is due whose label is marked.
+fn hits(s: Cursor, named: &[bool]) -> bool
+    requires { ⌜ Steady s ⌝ }
+    requires { ⌜ (s .next ≤ 64) × (length (now named) ≡ 2048) ⌝ }
+    ensures { λ r. ⌜ r ≡ hitsDue s (now (named .entry)) ⌝ }
+{
+    if 0 < s.due {
+        let label = label_due(s);
+        return named[label];
+    }
+    false
+}
+
+// Whether it is another card, with a release open.
+fn is_other(memory: &[u32], size: usize, live: &[bool], card: u32, other: u32) -> bool
+    requires { ⌜ (676 ≤ size) × AreaIn (length (now memory)) size other ⌝ }
+    requires { ⌜ other < length (now live) ⌝ }
+    ensures { λ r. ⌜ r ≡ isOther (now (live .entry)) size (now (memory .entry)) card other ⌝ }
+{
+    if other == card {
+        return false;
+    }
+    crate::is_open(memory, size, live, other as usize)
+}
+
+// Walks over the other cards and their lists, up to the first word whose label is marked.
+fn walk_lists(
+    memory: &[u32],
+    cards: u32,
+    pages: u32,
+    live: &[bool],
+    card: u32,
+    named: &[bool],
+) -> u32
+    requires { ⌜ (pages ≤ 64) × (length (now memory) ≡ cards * areaSize pages) ⌝ }
+    requires { ⌜ (cards ≤ length (now live)) × (length (now named) ≡ 2048) ⌝ }
+    ensures { λ r. ⌜ r
+        ≡ lowest
+        (marksWith (now (live .entry)) pages (now (memory .entry)) card (now (named .entry)))
+        cards ⌝ }
+{
+    let size = memory::area_size(pages);
+    let mut found = cards;
+    let mut other: u32 = 0;
+    'cards: while other < cards {
+        if is_other(memory, size, live, card, other) {
+            let list = crate::open_list(memory, size, other as usize);
+            let mut at = walk::first_word();
+            while at.index < list.len() {
+                if hits(at.cursor, named) {
+                    found = other;
+                    break 'cards;
+                }
+                at = walk::next_word(list, at, pages);
+            }
+            other += 1;
+        } else {
+            other += 1;
+        }
+    }
+    found
+}
+
+// The lowest other card whose open release prices a word that the list prices too.
+pub fn lowest_sharing(
+    memory: &[u32],
+    cards: u32,
+    pages: u32,
+    live: &[bool],
+    card: u32,
+    list: &[u32],
+) -> u32
+    requires { ⌜ (pages ≤ 64) × (length (now memory) ≡ cards * areaSize pages) ⌝ }
+    requires { ⌜ (cards ≤ length (now live)) × (length (now list) ≤ 512) ⌝ }
+    ensures { λ r. ⌜ r
+        ≡ lowest
+        (sharesWith (now (live .entry)) pages (now (memory .entry)) card (now (list .entry)))
+        cards ⌝ }
+{
+    let mut named = [false; 2048];
+    mark_words(list, pages, false, &mut named);
+    walk_lists(memory, cards, pages, live, card, &named)
+}

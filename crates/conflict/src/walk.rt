@@ -1,0 +1,46 @@
+// A walk over the words of a list.
+ghost use mathlib.Core.Path.{_≡_};
+ghost use Prim.Native.Nat.{_<_};
+ghost use lib.ListN.{length};
+ghost use Rattle.reader.specs.Steady.{Steady};
+ghost use Rattle.conflict.specs.Walking.{atFirst, pastWord};
+use diff::Cursor;
+use diff::Step;
+
+// How far the walk is.
+pub(crate) struct Walk {
+    pub(crate) cursor: Cursor,
+    pub(crate) index: usize,
+}
+
+// Before the first word.
+pub(crate) fn first_word() -> Walk
+    ensures { λ r. ⌜ r ≡ atFirst ⌝ }
+{
+    let cursor = reader::cursor();
+    Walk { cursor, index: 0 }
+}
+
+// Past the next word of the list: at its end if the word ends the list or breaks a rule.
+pub(crate) fn next_word(list: &[u32], at: Walk, pages: u32) -> Walk
+    requires { ⌜ Steady (at .cursor) ⌝ }
+    requires { ⌜ at .index < length (now list) ⌝ }
+    ensures { λ r. ⌜ r ≡ pastWord pages (now (list .entry)) at ⌝ }
+{
+    let cursor = at.cursor;
+    let index = at.index;
+    match reader::read_word(cursor, list[index], index, pages) {
+        Step::Next(next) => Walk {
+            cursor: next,
+            index: index + 1,
+        },
+        Step::End => Walk {
+            cursor,
+            index: list.len(),
+        },
+        Step::Fault => Walk {
+            cursor,
+            index: list.len(),
+        },
+    }
+}
