@@ -1,4 +1,5 @@
 -- Laws that the proofs of several modules, or of the crates above, cite.
+pub mod Others
 pub mod Walking
 pub mod Marks
 pub mod InMotion

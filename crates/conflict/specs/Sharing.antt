@@ -2,14 +2,15 @@
 -- Assumes nothing: these are definitions.
 use Prim.Native.Nat.{ℕ}
 use mathlib.Core.List.{List, [], _∷_}
-use mathlib.Core.Bool.{Bool, false, cond, not, _&&_, _||_}
+use mathlib.Core.Bool.{Bool, false, cond, _&&_, _||_}
 use lib.ListN.{getD}
-use lib.Dec.{ltb, eqb}
+use lib.Dec.{ltb}
 use Rattle.memory.specs.Layout.{areaSize}
 use Rattle.diff.specs.declared.Cursor.{Cursor}
 use Rattle.diff.specs.declared.Price.{Price}
 use Rattle.diff.specs.Prices.{labelOf}
-use Rattle.protocol.specs.Release.{openPrices, isOpen}
+use Rattle.protocol.specs.Release.{openPrices}
+use Rattle.conflict.specs.Others.{isOther}
 use Rattle.conflict.specs.Marks.{labelDue}
 
 -- whether some price has a marked label
@@ -21,11 +22,7 @@ anyMarked (p ∷ ps) marks = getD marks (labelOf p) false || anyMarked ps marks
 abbrev pub hitsDue : Cursor → List Bool → Bool
 hitsDue s marks = cond (ltb 0 (s .due)) (getD marks (labelDue s) false) false
 
--- another card than c, with a release open
-unfoldable pub isOther : List Bool → ℕ → List ℕ → ℕ → ℕ → Bool
-isOther live size m c other = not (eqb other c) && isOpen live size m other
-
--- and one that prices a marked label
+-- another card with a release open that prices a marked label
 unfoldable pub marksWith : List Bool → ℕ → List ℕ → ℕ → List Bool → ℕ → Bool
 marksWith live pages m c marks other =
     isOther live (areaSize pages) m c other && anyMarked (openPrices pages m other) marks

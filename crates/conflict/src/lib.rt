@@ -8,6 +8,7 @@ ghost use Rattle.laws.specs.Search.{someBelow};
 ghost use Rattle.memory.specs.Layout.{areaSize};
 ghost use Rattle.memory.specs.Area.{AreaIn};
 ghost use Rattle.protocol.specs.Release.{isOpen, openList};
+ghost use Rattle.conflict.specs.Others.{isOther};
 
 mod motion;
 mod sharing;
@@ -29,22 +30,45 @@ pub fn is_open(memory: &[u32], size: usize, live: &[bool], card: usize) -> bool
     false
 }
 
-// Whether a release is open on any card.
+// Whether it is another card, with a release open.
+pub(crate) fn is_other(memory: &[u32], size: usize, live: &[bool], card: u32, other: u32) -> bool
+    requires { ⌜ (676 ≤ size) × AreaIn (length (now memory)) size other ⌝ }
+    requires { ⌜ other < length (now live) ⌝ }
+    ensures { λ r. ⌜ r ≡ isOther (now (live .entry)) size (now (memory .entry)) card other ⌝ }
+{
+    if other == card {
+        return false;
+    }
+    crate::is_open(memory, size, live, other as usize)
+}
+
+// Whether a release is open on any card but this one.
+pub(crate) fn any_other(memory: &[u32], cards: u32, pages: u32, live: &[bool], card: u32) -> bool
+    requires { ⌜ (pages ≤ 64) × (length (now memory) ≡ cards * areaSize pages) ⌝ }
+    requires { ⌜ cards ≤ length (now live) ⌝ }
+    ensures { λ r. ⌜ r
+        ≡ someBelow (isOther (now (live .entry)) (areaSize pages) (now (memory .entry)) card)
+        cards ⌝ }
+{
+    let size = memory::area_size(pages);
+    let mut other: u32 = 0;
+    while other < cards {
+        if is_other(memory, size, live, card, other) {
+            return true;
+        }
+        other += 1;
+    }
+    false
+}
+
+// Whether a release is open on any card. None is left out: no card has the number `cards`.
 pub fn any_open(memory: &[u32], cards: u32, pages: u32, live: &[bool]) -> bool
     requires { ⌜ (pages ≤ 64) × (length (now memory) ≡ cards * areaSize pages) ⌝ }
     requires { ⌜ cards ≤ length (now live) ⌝ }
     ensures { λ r. ⌜ r
         ≡ someBelow (isOpen (now (live .entry)) (areaSize pages) (now (memory .entry))) cards ⌝ }
 {
-    let size = memory::area_size(pages);
-    let mut card: u32 = 0;
-    while card < cards {
-        if is_open(memory, size, live, card as usize) {
-            return true;
-        }
-        card += 1;
-    }
-    false
+    any_other(memory, cards, pages, live, cards)
 }
 
 // The list of the release that is open on the card.

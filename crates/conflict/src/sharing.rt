@@ -9,7 +9,7 @@ ghost use Rattle.diff.specs.Prices.{pricesOf};
 ghost use Rattle.protocol.specs.Opening.{sharesWith};
 ghost use Rattle.reader.specs.Steady.{Steady};
 ghost use Rattle.conflict.specs.Marks.{labelDue, placeOf, placeDue, marked, markedDue};
-ghost use Rattle.conflict.specs.Sharing.{hitsDue, isOther, marksWith};
+ghost use Rattle.conflict.specs.Sharing.{hitsDue, marksWith};
 use crate::walk;
 use diff::Cursor;
 
@@ -73,18 +73,6 @@ fn hits(s: Cursor, named: &[bool]) -> bool
     false
 }
 
-// Whether it is another card, with a release open.
-fn is_other(memory: &[u32], size: usize, live: &[bool], card: u32, other: u32) -> bool
-    requires { ⌜ (676 ≤ size) × AreaIn (length (now memory)) size other ⌝ }
-    requires { ⌜ other < length (now live) ⌝ }
-    ensures { λ r. ⌜ r ≡ isOther (now (live .entry)) size (now (memory .entry)) card other ⌝ }
-{
-    if other == card {
-        return false;
-    }
-    crate::is_open(memory, size, live, other as usize)
-}
-
 // Walks over the other cards and their lists, up to the first word whose label is marked.
 fn walk_lists(
     memory: &[u32],
@@ -105,7 +93,7 @@ fn walk_lists(
     let mut found = cards;
     let mut other: u32 = 0;
     'cards: while other < cards {
-        if is_other(memory, size, live, card, other) {
+        if crate::is_other(memory, size, live, card, other) {
             let list = crate::open_list(memory, size, other as usize);
             let mut at = walk::first_word();
             while at.index < list.len() {
@@ -123,7 +111,8 @@ fn walk_lists(
     found
 }
 
-// The lowest other card whose open release prices a word that the list prices too.
+// The lowest other card whose open release prices a word that the list prices too. Mostly no other
+// release is open, and nothing is marked.
 pub fn lowest_sharing(
     memory: &[u32],
     cards: u32,
@@ -139,7 +128,10 @@ pub fn lowest_sharing(
         (sharesWith (now (live .entry)) pages (now (memory .entry)) card (now (list .entry)))
         cards ⌝ }
 {
-    let mut named = [false; 2048];
-    mark_words(list, pages, false, &mut named);
-    walk_lists(memory, cards, pages, live, card, &named)
+    if crate::any_other(memory, cards, pages, live, card) {
+        let mut named = [false; 2048];
+        mark_words(list, pages, false, &mut named);
+        return walk_lists(memory, cards, pages, live, card, &named);
+    }
+    cards
 }

@@ -1,49 +1,16 @@
--- Rests on `Passed`: the search from here on finds what the whole search finds.
-use Prim.Native.Nat.{_-_}
-use mathlib.Core.Path.{sym, _∙_}
-use native.Mathlib.Omega.{arith}
+-- Rests on `others-are-all`: every card is another than one that there is not.
+use mathlib.Core.Path.{_∙_}
 use borrow.Author.Needs.{needs}
-use Rattle.laws.proofs.Search.{Passed, passed-none, passed-more, some-found, none-found}
-use Rattle.memory.specs.Layout.{areaSize}
-use Rattle.memory.proofs.Index.{area-in}
-use Rattle.protocol.specs.Release.{isOpen}
+use Rattle.conflict.proofs.Others.{others-are-all}
 use Rattle.conflict.proofs.any_open.Statement.{statement}
 use Rattle.conflict.proofs.any_open.Tie as tie
 
-abbrev Inv-loop : tie.InvT-loop
-Inv-loop memory cards pages live size card₀ card = Passed (isOpen live (areaSize pages) memory) cards card
-
-abbrev μ-loop : tie.MeasureT-loop
-μ-loop memory cards pages live size card₀ card = cards - card
-
-is-open-requires : tie.Need-is-open-requires Inv-loop μ-loop
-is-open-requires c κs =
-    let sized = c .before .before in
-    let start = sized .before .before .before in
-    let area = area-in _ (c .loop-test .taken) (start .pre .0 .1) in
-    rw (sized .area-size .ensures) ((omega arith, area), omega arith)
-
-returns : tie.Need-returns Inv-loop μ-loop
+returns : tie.Need-returns
 returns c =
-    let turn = c .before .before in
-    let loop-at = turn .before in
-    let sized = loop-at .before in
-    let opened = sym (rw (sized .area-size .ensures) at (c .before .is-open .ensures)) ∙ c .if1 .taken in
-    some-found (loop-at .loop .inv) (turn .loop-test .taken) opened
-
-loop-again : tie.Need-loop-again Inv-loop μ-loop
-loop-again c =
-    let turn = c .before .before in
-    let loop-at = turn .before in
-    let sized = loop-at .before in
-    let closed = sym (rw (sized .area-size .ensures) at (c .before .is-open .ensures)) ∙ c .if1 .left in
-    passed-more (loop-at .loop .inv) (turn .loop-test .taken) closed
-
-returns-2 : tie.Need-returns-2 Inv-loop μ-loop
-returns-2 c = none-found (c .before .loop .inv) (c .loop-test .left)
+    let a = c .before .before .before .args in
+    c .any-other .ensures ∙ others-are-all (a .live .now) (a .memory .now) (a .cards) _
 
 pub any-open-spec : {M : Type 1} → statement M
 any-open-spec =
     tie.close
-    (tie.spec Inv-loop μ-loop (λ c κs. search needs) (λ c. passed-none) (λ c. search needs) is-open-requires
-    returns (λ c. search needs) (λ c. search needs) loop-again returns-2)
+    (tie.spec (λ c κs. search needs) returns)

@@ -9,7 +9,8 @@ use Rattle.diff.specs.Prices.{labelOf, pricesOf, names}
 use Rattle.diff.proofs.Stored.{prices-on-pages}
 use Rattle.protocol.specs.Opening.{shareWord, sharesWith}
 use Rattle.conflict.specs.Marks.{placeOf, marked}
-use Rattle.conflict.specs.Sharing.{anyMarked, isOther, marksWith}
+use Rattle.conflict.specs.Others.{isOther}
+use Rattle.conflict.specs.Sharing.{anyMarked, marksWith}
 use Rattle.conflict.proofs.Marks.{unmarked, getD-unmarked, anyAt, marks-more}
 
 names-labels : (ps : List Price) (label : ℕ) → anyAt (placeOf false) ps label ≡ names ps label

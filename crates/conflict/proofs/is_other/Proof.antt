@@ -1,9 +1,9 @@
 -- Rests on the comparison of the two cards and on `is_open`.
 use borrow.Author.Needs.{needs}
 use borrow.Author.Tests.{eq-eqb, ne-eqb}
-use Rattle.conflict.specs.Sharing.{isOther}
-use Rattle.conflict.proofs.sharing.is_other.Statement.{statement}
-use Rattle.conflict.proofs.sharing.is_other.Tie as tie
+use Rattle.conflict.specs.Others.{isOther}
+use Rattle.conflict.proofs.is_other.Statement.{statement}
+use Rattle.conflict.proofs.is_other.Tie as tie
 
 returns : tie.Need-returns
 unfolding isOther

@@ -1,0 +1,11 @@
+-- The other cards of a rack that have a release open.
+-- Assumes nothing: this is a definition.
+use Prim.Native.Nat.{ℕ}
+use mathlib.Core.List.{List}
+use mathlib.Core.Bool.{Bool, not, _&&_}
+use lib.Dec.{eqb}
+use Rattle.protocol.specs.Release.{isOpen}
+
+-- another card than c, with a release open
+unfoldable pub isOther : List Bool → ℕ → List ℕ → ℕ → ℕ → Bool
+isOther live size m c other = not (eqb other c) && isOpen live size m other
