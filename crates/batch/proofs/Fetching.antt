@@ -23,7 +23,8 @@ use Rattle.checks.proofs.Order.{by-number}
 use Rattle.conflict.proofs.InMotion.{motion-marked}
 use Rattle.rack.proofs.Results.{fetch-refused, fetch-accepted}
 use Rattle.batch.specs.FetchAll.{Pages, pagesOf, fetchNext, noneShown, fetchAllChecks, fetchedTo}
-use Rattle.batch.specs.FetchAll.{fetchAll, isMoving, movingOf, showNext}
+use Rattle.batch.specs.FetchAll.{fetchAll}
+use Rattle.batch.specs.Showing.{isMoving, movingOf, showNext}
 
 -- a part stored where it was read
 sets-self : (l : List ℕ) (i n : ℕ) → i + n ≤ length l → sets l i (take n (drop i l)) ≡ l

@@ -1,3 +1,4 @@
 -- What the contracts of the batched calls cite.
 pub mod Steps
 pub mod FetchAll
+pub mod Showing

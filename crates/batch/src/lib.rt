@@ -14,8 +14,8 @@ ghost use Rattle.protocol.specs.Step.{stepChecks};
 ghost use Rattle.protocol.specs.Recovery.{stepTimes};
 ghost use Rattle.release.specs.Stepping.{CardIn, HomesIn, GoodRelease, leftOf};
 ghost use Rattle.batch.specs.Steps.{steps, stoppedAt};
-ghost use Rattle.batch.specs.FetchAll.{fetchAllChecks, fetchAll, pagesOf, PrimariesIn};
-ghost use Rattle.batch.specs.FetchAll.{wordsAfter, showNext, primariesOf};
+ghost use Rattle.batch.specs.FetchAll.{fetchAllChecks, fetchAll, pagesOf};
+ghost use Rattle.batch.specs.Showing.{wordsAfter, showNext, primariesOf, PrimariesIn};
 use answer::Answer;
 use answer::Outcome;
 use directory::Directory;
@@ -178,7 +178,7 @@ fn fetch_next(
     buffer: &mut [u32],
 ) -> bool
     requires { ⌜ (pages ≤ 64) × (length (now memory) ≡ cards * areaSize pages) ⌝ }
-    requires { ⌜ (64 ≤ length (now moving)) × (page < pages) × (page < length (now primary)) ⌝ }
+    requires { ⌜ (length (now moving) ≡ 64) × (page < pages) × (page < length (now primary)) ⌝ }
     requires { ⌜ (getD (now primary) page 0 < cards) × (length (now buffer) ≡ 32 * pages) ⌝ }
     ensures shown { λ r. ⌜ r ≡ not (getD (now (moving .entry)) page false) ⌝ }
     ensures buffer { λ _. ⌜ now (buffer .exit)
@@ -209,7 +209,7 @@ fn fetch_pages(
     shown: &mut [bool],
 )
     requires { ⌜ (pages ≤ 64) × (length (now memory) ≡ cards * areaSize pages) ⌝ }
-    requires { ⌜ (64 ≤ length (now moving)) × PrimariesIn cards pages (now primary) ⌝ }
+    requires { ⌜ (length (now moving) ≡ 64) × PrimariesIn cards pages (now primary) ⌝ }
     requires { ⌜ (length (now buffer) ≡ 32 * pages) × (length (now shown) ≡ 64) ⌝ }
     ensures { λ _. ⌜ pagesOf (now (buffer .exit)) (now (shown .exit))
         ≡ inTurn
@@ -248,7 +248,7 @@ pub fn fetch_all(memory: &[u32], directory: Directory, buffer: &mut [u32]) -> Fe
     let pages = directory.pages;
     let live = directory.live;
     let primary = directory.primary;
-    let mut moving = [false; 2048];
+    let mut moving = [false; 64];
     conflict::mark_in_motion(memory, cards, pages, &live, &mut moving);
     fetch_pages(memory, cards, pages, &primary, &moving, buffer, &mut shown);
     let answer = Answer::Given(0);

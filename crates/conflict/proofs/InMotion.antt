@@ -15,8 +15,8 @@ use Rattle.diff.specs.declared.Price.{Price}
 use Rattle.diff.proofs.Stored.{prices-on-pages}
 use Rattle.protocol.specs.Release.{openList, openPrices, stepsOf, isOpen, countsAt}
 use Rattle.protocol.specs.Fetch.{namesPage, inMotion}
-use Rattle.conflict.specs.Marks.{placeOf, marked}
-use Rattle.conflict.specs.Motion.{markMotion}
+use Rattle.conflict.specs.Marks.{marked}
+use Rattle.conflict.specs.Motion.{pageOf, markMotion}
 use Rattle.conflict.proofs.Marks.{unmarked, getD-unmarked, anyAt, marks-more, length-marked}
 
 -- one number more
@@ -52,8 +52,8 @@ module _ (live : List Bool) (pages : ℕ) (m : List ℕ) where
       && leb (countsAt (length (openPrices pages m c))) (stepsOf (areaSize pages) m c))
     where
       go : (due : Bool)
-          → length (cond due (marked (placeOf true) (openPrices pages m c) marks) marks) ≡ length marks
-      go true = length-marked (placeOf true) (openPrices pages m c) marks
+          → length (cond due (marked pageOf (openPrices pages m c) marks) marks) ≡ length marks
+      go true = length-marked pageOf (openPrices pages m c) marks
       go false = refl
 
   length-all : (n : ℕ) (marks : List Bool) → length (inTurn (markMotion live pages m) n marks) ≡ length marks
@@ -62,12 +62,12 @@ module _ (live : List Bool) (pages : ℕ) (m : List ℕ) where
   length-all (suc n) marks = length-motion n (inTurn (markMotion live pages m) n marks) ∙ length-all n marks
 
   module _ (few : pages ≤ 64) (page : ℕ) where
-    names-pages : (ps : List Price) → anyAt (placeOf true) ps page ≡ namesPage ps page
+    names-pages : (ps : List Price) → anyAt pageOf ps page ≡ namesPage ps page
     unfolding anyAt namesPage
     names-pages [] = refl
     names-pages (p ∷ ps) = rw (names-pages ps)
 
-    one-card : (c : ℕ) (marks : List Bool) → length marks ≡ 2048
+    one-card : (c : ℕ) (marks : List Bool) → length marks ≡ 64
         → getD (markMotion live pages m c marks) page false
         ≡ (inMotion live pages m page c || getD marks page false)
     unfolding markMotion inMotion
@@ -76,16 +76,16 @@ module _ (live : List Bool) (pages : ℕ) (m : List ℕ) where
         (leb (countsAt (length (openPrices pages m c))) (stepsOf (areaSize pages) m c))
       where
         go : (opened counts : Bool)
-            → getD (cond (opened && counts) (marked (placeOf true) (openPrices pages m c) marks) marks) page false
+            → getD (cond (opened && counts) (marked pageOf (openPrices pages m c) marks) marks) page false
             ≡ ((opened && (counts && namesPage (openPrices pages m c) page)) || getD marks page false)
         go true true =
-            marks-more pages true few page (openPrices pages m c) marks long
+            marks-more pageOf 64 pages (λ p below _. omega arith) page (openPrices pages m c) marks long
             (prices-on-pages pages (openList (areaSize pages) m c))
             ∙ rw (names-pages (openPrices pages m c))
         go true false = refl
         go false counts = refl
 
-    motion-more : (n : ℕ) (marks : List Bool) → length marks ≡ 2048
+    motion-more : (n : ℕ) (marks : List Bool) → length marks ≡ 64
         → getD (inTurn (markMotion live pages m) n marks) page false
         ≡ (someBelow (inMotion live pages m page) n || getD marks page false)
     unfolding inTurn lowestFrom
@@ -97,6 +97,6 @@ module _ (live : List Bool) (pages : ℕ) (m : List ℕ) where
         (or-assoc (inMotion live pages m page n) (someBelow (inMotion live pages m page) n) (getD marks page false)))
 
     pub motion-marked : (n : ℕ)
-        → getD (inTurn (markMotion live pages m) n unmarked) page false ≡ someBelow (inMotion live pages m page) n
+        → getD (inTurn (markMotion live pages m) n (unmarked 64)) page false ≡ someBelow (inMotion live pages m page) n
     motion-marked n =
-        motion-more n unmarked (length-replicate 2048 false) ∙ rw (getD-unmarked 2048 page) (or-false _)
+        motion-more n (unmarked 64) (length-replicate 64 false) ∙ rw (getD-unmarked 64 page) (or-false _)

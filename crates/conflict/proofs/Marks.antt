@@ -1,27 +1,28 @@
--- Marks stand for prices: a place is marked if a price has it. One turn of the walk that marks.
+-- Marks stand for prices: a place is marked if a price has it. And the walk that marks the prices of a list.
 use Prim.Native.Nat.{ℕ, zero, suc, _≤_, _<_}
 use mathlib.Core.Path.{_≡_, refl, sym, ap, _∙_}
 use mathlib.Core.List.{List, [], _∷_, _++_}
-use mathlib.Core.Bool.{Bool, true, false, cond, _||_, or-true}
+use mathlib.Core.Bool.{Bool, true, false, cond, _||_, or-true, or-false}
 use native.Mathlib.Decide.{ℕ-discrete}
 use native.Mathlib.Omega.{arith}
 use lib.Dec.{ltb, eqb}
 use borrow.Author.Tests.{eq-eqb, ne-eqb}
-use lib.ListN.{length, getD, set, replicate, length-set}
+use lib.ListN.{length, getD, set, replicate, length-set, length-replicate}
 use lib.Seq.{getD-set-same, getD-set-other}
 use Rattle.diff.specs.declared.Cursor.{Cursor}
 use Rattle.diff.specs.declared.Price.{Price}
-use Rattle.diff.specs.Prices.{pricedWord}
+use Rattle.diff.specs.Prices.{pricedWord, pricesOf}
 use Rattle.diff.proofs.Stored.{OnPages}
-use Rattle.conflict.specs.Walking.{Walk, pastWord}
-use Rattle.conflict.specs.Marks.{placeOf, marked, placeDue, markedDue}
-use Rattle.conflict.proofs.Walking.{priceDue, pricesLeft, left-turn, left-end}
+use Rattle.conflict.specs.Walking.{Walk, atFirst, pastWord}
+use Rattle.conflict.specs.Marks.{marked, markedDue}
+use Rattle.conflict.proofs.Walking.{Reached, reached-next, priceDue, pricesLeft}
+use Rattle.conflict.proofs.Walking.{left-first, left-turn, left-end}
 
--- no place marked
-abbrev pub unmarked : List Bool
-unmarked = replicate 2048 false
+-- none of so many places marked
+abbrev pub unmarked : ℕ → List Bool
+unmarked places = replicate places false
 
-pub getD-unmarked : (n at : ℕ) → getD (replicate n false) at false ≡ false
+pub getD-unmarked : (places at : ℕ) → getD (unmarked places) at false ≡ false
 getD-unmarked zero at = refl
 getD-unmarked (suc n) zero = refl
 getD-unmarked (suc n) (suc at) = getD-unmarked n at
@@ -31,15 +32,16 @@ unfoldable pub anyAt : (Price → ℕ) → List Price → ℕ → Bool
 anyAt place [] at = false
 anyAt place (p ∷ ps) at = cond (eqb (place p) at) true (anyAt place ps at)
 
-module _ (pages : ℕ) (byPage : Bool) (few : pages ≤ 64) (at : ℕ) where
-  abbrev place : Price → ℕ
-  place = placeOf byPage
+pub length-marked : (place : Price → ℕ) (ps : List Price) (marks : List Bool)
+    → length (marked place ps marks) ≡ length marks
+unfolding marked
+length-marked place [] marks = refl
+length-marked place (p ∷ ps) marks =
+    length-marked place ps (set marks (place p) true) ∙ length-set marks (place p) true
 
-  place-in : (b : Bool) (p : Price) → p .page < pages → p .word < 32 → placeOf b p < 2048
-  place-in true p page word = omega arith
-  place-in false p page word = omega arith
-
-  pub marks-more : (ps : List Price) (marks : List Bool) → length marks ≡ 2048 → OnPages pages ps
+module _ (place : Price → ℕ) (places pages : ℕ)
+    (inside : (p : Price) → p .page < pages → p .word < 32 → place p < places) (at : ℕ) where
+  pub marks-more : (ps : List Price) (marks : List Bool) → length marks ≡ places → OnPages pages ps
       → getD (marked place ps marks) at false ≡ (anyAt place ps at || getD marks at false)
   unfolding marked anyAt
   marks-more [] marks long on = refl
@@ -50,41 +52,62 @@ module _ (pages : ℕ) (byPage : Bool) (few : pages ≤ 64) (at : ℕ) where
           → (anyAt place ps at || getD (set marks (place p) true) at false)
           ≡ (anyAt place (p ∷ ps) at || getD marks at false)
       go (yes same) =
-          let inside : place p < length marks = rw long (place-in byPage p (on .0) (on .1)) in
-          rw (eq-eqb (place p) at same, ← same, getD-set-same marks (place p) true false inside)
+          let within : place p < length marks = rw long (inside p (on .0) (on .1)) in
+          rw (eq-eqb (place p) at same, ← same, getD-set-same marks (place p) true false within)
           (or-true (anyAt place ps (place p)))
       go (no other) =
           rw (ne-eqb (place p) at other, getD-set-other marks (place p) at true false (λ e. other (sym e)))
 
-pub length-marked : (place : Price → ℕ) (ps : List Price) (marks : List Bool)
-    → length (marked place ps marks) ≡ length marks
-unfolding marked
-length-marked place [] marks = refl
-length-marked place (p ∷ ps) marks =
-    length-marked place ps (set marks (place p) true) ∙ length-set marks (place p) true
+  pub marks-all : (ps : List Price) → OnPages pages ps
+      → getD (marked place ps (unmarked places)) at false ≡ anyAt place ps at
+  marks-all ps on =
+      marks-more ps (unmarked places) (length-replicate places false) on
+      ∙ rw (getD-unmarked places at) (or-false (anyAt place ps at))
 
--- ---- the walk
+-- ---- the walk: to mark what is left of the prices marks what all of them mark
 
-marked-due : (s : Cursor) (w : ℕ) (ps : List Price) (byPage : Bool) (marks : List Bool)
-    → marked (placeOf byPage) (priceDue s w ++ ps) marks ≡ marked (placeOf byPage) ps (markedDue byPage s marks)
+pub record Marking (place : Price → ℕ) (pages : ℕ) (list : List ℕ) (marks₀ marks : List Bool) (at : Walk) : Type 0
+  where
+    pub reached : Reached pages (length list) at
+    pub long : length marks ≡ length marks₀
+    pub rest : marked place (pricesLeft pages list at) marks ≡ marked place (pricesOf pages list) marks₀
+
+pub marking-first : (place : Price → ℕ) (pages : ℕ) (list : List ℕ) (marks : List Bool)
+    → Marking place pages list marks marks atFirst
+marking-first place pages list marks =
+    record { reached = omega arith; long = refl; rest = rw (left-first pages list) }
+
+marked-due : (place : Price → ℕ) (s : Cursor) (w : ℕ) (ps : List Price) (marks : List Bool)
+    → marked place (priceDue s w ++ ps) marks ≡ marked place ps (markedDue s (place (pricedWord s w)) marks)
 unfolding marked
-marked-due s w ps byPage marks = go (ltb 0 (s .due))
+marked-due place s w ps marks = go (ltb 0 (s .due))
   where
     go : (due : Bool)
-        → marked (placeOf byPage) (cond due (pricedWord s w ∷ []) [] ++ ps) marks
-        ≡ marked (placeOf byPage) ps (cond due (set marks (placeDue byPage s) true) marks)
+        → marked place (cond due (pricedWord s w ∷ []) [] ++ ps) marks
+        ≡ marked place ps (cond due (set marks (place (pricedWord s w)) true) marks)
     go true = refl
     go false = refl
 
-module _ (pages : ℕ) (list : List ℕ) (at : Walk) where
-  pub marked-turn : at .index < length list → (byPage : Bool) (marks : List Bool)
-      → marked (placeOf byPage) (pricesLeft pages list at) marks
-      ≡ marked (placeOf byPage) (pricesLeft pages list (pastWord pages list at)) (markedDue byPage (at .cursor) marks)
-  marked-turn inside byPage marks =
-      ap (λ ps. marked (placeOf byPage) ps marks) (left-turn pages list at inside)
-      ∙ marked-due (at .cursor) _ _ byPage marks
+module _ {place : Price → ℕ} {pages : ℕ} {list : List ℕ} {marks₀ marks : List Bool} {at : Walk}
+    (far : Marking place pages list marks₀ marks at) where
+  -- the place does not depend on the price that the word is
+  pub marking-next : at .index < length list → {due : ℕ} → ((w : ℕ) → place (pricedWord (at .cursor) w) ≡ due)
+      → {marks′ : List Bool} → marks′ ≡ markedDue (at .cursor) due marks → length marks′ ≡ length marks
+      → Marking place pages list marks₀ marks′ (pastWord pages list at)
+  marking-next inside here made same =
+      let w = getD list (at .index) 0 in
+      let next = pricesLeft pages list (pastWord pages list at) in
+      record {
+        reached = reached-next pages list at inside (far .reached);
+        long = same ∙ far .long;
+        rest =
+            rw (made, ← here w)
+            (sym
+            (ap (λ ps. marked place ps marks) (left-turn pages list at inside)
+            ∙ marked-due place (at .cursor) w next marks)
+            ∙ far .rest);
+      }
 
-  pub marked-end : length list ≤ at .index → (place : Price → ℕ) (marks : List Bool)
-      → marked place (pricesLeft pages list at) marks ≡ marks
+  pub marking-end : length list ≤ at .index → marks ≡ marked place (pricesOf pages list) marks₀
   unfolding marked
-  marked-end end place marks = ap (λ ps. marked place ps marks) (left-end pages list at end)
+  marking-end end = sym (ap (λ ps. marked place ps marks) (left-end pages list at end)) ∙ far .rest

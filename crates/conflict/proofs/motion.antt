@@ -1,2 +1,3 @@
 -- Laws on the pages in motion.
 pub mod Turns
+pub mod Joined

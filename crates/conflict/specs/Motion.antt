@@ -2,24 +2,35 @@
 -- Assumes nothing: these are definitions.
 use Prim.Native.Nat.{ℕ, _-_}
 use mathlib.Core.List.{List}
-use mathlib.Core.Bool.{Bool, true, false, cond, _&&_}
-use lib.ListN.{length}
+use mathlib.Core.Bool.{Bool, false, cond, _&&_, _||_}
+use lib.ListN.{length, getD, set}
 use lib.Dec.{ltb, leb, eqb}
 use Rattle.memory.specs.Layout.{areaSize}
 use Rattle.diff.specs.declared.Cursor.{Cursor}
 use Rattle.diff.specs.declared.Price.{Price}
 use Rattle.protocol.specs.Release.{openPrices, stepsOf, isOpen, countsAt}
 use Rattle.protocol.specs.Fetch.{namesPage}
-use Rattle.conflict.specs.Marks.{placeOf, marked}
+use Rattle.conflict.specs.Marks.{marked}
 pub use Rattle.conflict.specs.declared.motion.Tally.{Tally}
 
--- whether the price that is due is on the page
-abbrev pub pageDue : Cursor → ℕ → Bool
-pageDue s page = cond (ltb 0 (s .due)) (eqb (s .next - 1) page) false
+-- the page of a price, and of the price that is due
+abbrev pub pageOf : Price → ℕ
+pageOf p = p .page
+
+abbrev pub pageDue : Cursor → ℕ
+pageDue s = s .next - 1
+
+-- whether a price is due that is on the page
+abbrev pub onPage : Cursor → ℕ → Bool
+onPage s page = cond (ltb 0 (s .due)) (eqb (pageDue s) page) false
 
 -- how many prices there are, and whether one is on the page
 abbrev pub tallyOf : List Price → ℕ → Tally
 tallyOf ps page = record { prices = length ps; named = namesPage ps page }
+
+-- a page marked if it has a mark among others
+abbrev pub joinMark : List Bool → ℕ → List Bool → List Bool
+joinMark more page marks = set marks page (getD more page false || getD marks page false)
 
 -- the pages that the release open on a card names, if it counts already, marked
 unfoldable pub markMotion : List Bool → ℕ → List ℕ → ℕ → List Bool → List Bool
@@ -27,4 +38,4 @@ markMotion live pages m c marks =
     cond
     (isOpen live (areaSize pages) m c
     && leb (countsAt (length (openPrices pages m c))) (stepsOf (areaSize pages) m c))
-    (marked (placeOf true) (openPrices pages m c) marks) marks
+    (marked pageOf (openPrices pages m c) marks) marks

@@ -1,6 +1,6 @@
 -- Refusal 8 by marks: the labels that a list names are marked, and another card's open release prices a marked one.
 -- Assumes nothing: these are definitions.
-use Prim.Native.Nat.{ℕ}
+use Prim.Native.Nat.{ℕ, _+_, _-_, _*_}
 use mathlib.Core.List.{List, [], _∷_}
 use mathlib.Core.Bool.{Bool, false, cond, _&&_, _||_}
 use lib.ListN.{getD}
@@ -11,14 +11,17 @@ use Rattle.diff.specs.declared.Price.{Price}
 use Rattle.diff.specs.Prices.{labelOf}
 use Rattle.protocol.specs.Release.{openPrices}
 use Rattle.conflict.specs.Others.{isOther}
-use Rattle.conflict.specs.Marks.{labelDue}
+
+-- the label of the price that is due
+abbrev pub labelDue : Cursor → ℕ
+labelDue s = 32 * (s .next - 1) + s .word
 
 -- whether some price has a marked label
 unfoldable pub anyMarked : List Price → List Bool → Bool
 anyMarked [] marks = false
 anyMarked (p ∷ ps) marks = getD marks (labelOf p) false || anyMarked ps marks
 
--- whether the price that is due has one
+-- whether the price that is due has a marked label
 abbrev pub hitsDue : Cursor → List Bool → Bool
 hitsDue s marks = cond (ltb 0 (s .due)) (getD marks (labelDue s) false) false
 

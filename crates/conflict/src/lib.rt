@@ -39,7 +39,7 @@ pub(crate) fn is_other(memory: &[u32], size: usize, live: &[bool], card: u32, ot
     if other == card {
         return false;
     }
-    crate::is_open(memory, size, live, other as usize)
+    is_open(memory, size, live, other as usize)
 }
 
 // Whether a release is open on any card but this one.

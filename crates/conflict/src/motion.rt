@@ -3,14 +3,17 @@ ghost use mathlib.Core.Path.{_≡_};
 ghost use Prim.Native.Nat.{_*_, _<_, _≤_};
 ghost use mathlib.Core.Bool.{_||_};
 ghost use lib.ListN.{length};
+ghost use lib.Dec.{leb};
 ghost use Rattle.laws.specs.Search.{lowest, inTurn};
 ghost use Rattle.memory.specs.Layout.{areaSize};
 ghost use Rattle.memory.specs.Area.{AreaIn};
 ghost use Rattle.diff.specs.Prices.{pricesOf};
+ghost use Rattle.protocol.specs.Release.{stepsOf, countsAt};
 ghost use Rattle.protocol.specs.Fetch.{inMotion};
 ghost use Rattle.reader.specs.Steady.{Steady};
-ghost use Rattle.conflict.specs.Motion.{pageDue, tallyOf, markMotion};
-use crate::sharing;
+ghost use Rattle.conflict.specs.Marks.{marked, markedDue};
+ghost use Rattle.conflict.specs.Motion.{pageOf, pageDue, onPage, tallyOf, joinMark};
+ghost use Rattle.conflict.specs.Motion.{markMotion};
 use crate::walk;
 use diff::Cursor;
 
@@ -23,7 +26,7 @@ struct Tally {
 // Whether the page was named already, or the price that is due names it.
 fn on_page(s: Cursor, page: u32, named: bool) -> bool
     requires { ⌜ Steady s ⌝ }
-    ensures { λ r. ⌜ r ≡ (named || pageDue s page) ⌝ }
+    ensures { λ r. ⌜ r ≡ (named || onPage s page) ⌝ }
 {
     if named {
         return true;
@@ -49,6 +52,15 @@ fn tally_prices(list: &[u32], pages: u32, page: u32) -> Tally
     Tally { prices, named }
 }
 
+// Whether the release open on the card, which has so many prices, counts already.
+fn counts(memory: &[u32], size: usize, card: usize, prices: u32) -> bool
+    requires { ⌜ (676 ≤ size) × AreaIn (length (now memory)) size card ⌝ }
+    ensures { λ r. ⌜ r ≡ leb (countsAt prices) (stepsOf size (now (memory .entry)) card) ⌝ }
+{
+    let steps = memory::load_word(memory, size, card, memory::STEPS_MADE);
+    2 * (prices as u64) + 9 <= steps as u64
+}
+
 // Whether the release open on the card counts already and prices a word of the page.
 fn in_motion(memory: &[u32], size: usize, pages: u32, live: &[bool], page: u32, card: usize) -> bool
     requires { ⌜ (size ≡ areaSize pages) × AreaIn (length (now memory)) size card ⌝ }
@@ -58,8 +70,7 @@ fn in_motion(memory: &[u32], size: usize, pages: u32, live: &[bool], page: u32, 
     if crate::is_open(memory, size, live, card) {
         let list = crate::open_list(memory, size, card);
         let tally = tally_prices(list, pages, page);
-        let steps = memory::load_word(memory, size, card, memory::STEPS_MADE);
-        if 2 * (tally.prices as u64) + 9 <= steps as u64 {
+        if counts(memory, size, card, tally.prices) {
             return tally.named;
         }
         return false;
@@ -85,7 +96,46 @@ pub fn lowest_in_motion(memory: &[u32], cards: u32, pages: u32, live: &[bool], p
     cards
 }
 
-// Marks the pages that the release open on the card names, if it counts already.
+// Marks the page of the price that is due, if one is.
+fn mark_page(s: Cursor, marks: &mut [bool])
+    requires { ⌜ Steady s ⌝ }
+    requires { ⌜ (s .next ≤ 64) × (length (now marks) ≡ 64) ⌝ }
+    ensures { λ _. ⌜ now (marks .exit) ≡ markedDue s (pageDue s) (now (marks .entry)) ⌝ }
+{
+    if 0 < s.due {
+        let page = (s.next - 1) as usize;
+        marks[page] = true;
+    }
+}
+
+// Marks the pages that a list names, and counts its prices.
+fn mark_pages(list: &[u32], pages: u32, marks: &mut [bool]) -> u32
+    requires { ⌜ (length (now list) ≤ 512) × (length (now marks) ≡ 64) × (pages ≤ 64) ⌝ }
+    ensures prices { λ r. ⌜ r ≡ length (pricesOf pages (now (list .entry))) ⌝ }
+    ensures marks { λ _. ⌜ now (marks .exit)
+        ≡ marked pageOf (pricesOf pages (now (list .entry))) (now (marks .entry)) ⌝ }
+{
+    let mut at = walk::first_word();
+    while at.index < list.len() {
+        mark_page(at.cursor, marks);
+        at = walk::next_word(list, at, pages);
+    }
+    at.cursor.prices
+}
+
+// Adds the marks of pages to others.
+fn join_marks(marks: &mut [bool], more: &[bool])
+    requires { ⌜ (length (now marks) ≡ 64) × (length (now more) ≡ 64) ⌝ }
+    ensures { λ _. ⌜ now (marks .exit)
+        ≡ inTurn (joinMark (now (more .entry))) 64 (now (marks .entry)) ⌝ }
+{
+    for page in 0..64 {
+        marks[page] = more[page] | marks[page];
+    }
+}
+
+// Marks the pages that the release open on the card names, if it counts already. That is known once
+// the list is read, so they are marked aside first.
 fn mark_motion(
     memory: &[u32],
     size: usize,
@@ -95,17 +145,16 @@ fn mark_motion(
     marks: &mut [bool],
 )
     requires { ⌜ (size ≡ areaSize pages) × AreaIn (length (now memory)) size card ⌝ }
-    requires { ⌜ (card < length (now live)) × (length (now marks) ≡ 2048) × (pages ≤ 64) ⌝ }
+    requires { ⌜ (card < length (now live)) × (length (now marks) ≡ 64) × (pages ≤ 64) ⌝ }
     ensures { λ _. ⌜ now (marks .exit)
         ≡ markMotion (now (live .entry)) pages (now (memory .entry)) card (now (marks .entry)) ⌝ }
 {
     if crate::is_open(memory, size, live, card) {
         let list = crate::open_list(memory, size, card);
-        let tally = tally_prices(list, pages, 0);
-        let steps = memory::load_word(memory, size, card, memory::STEPS_MADE);
-        let counts_from = 2 * (tally.prices as u64) + 9;
-        if counts_from <= steps as u64 {
-            sharing::mark_words(list, pages, true, marks);
+        let mut named = [false; 64];
+        let prices = mark_pages(list, pages, &mut named);
+        if counts(memory, size, card, prices) {
+            join_marks(marks, &named);
         }
     }
 }
@@ -113,7 +162,7 @@ fn mark_motion(
 // Marks each page that an open release which already counts names.
 pub fn mark_in_motion(memory: &[u32], cards: u32, pages: u32, live: &[bool], marks: &mut [bool])
     requires { ⌜ (pages ≤ 64) × (length (now memory) ≡ cards * areaSize pages) ⌝ }
-    requires { ⌜ (cards ≤ length (now live)) × (length (now marks) ≡ 2048) ⌝ }
+    requires { ⌜ (cards ≤ length (now live)) × (length (now marks) ≡ 64) ⌝ }
     ensures { λ _. ⌜ now (marks .exit)
         ≡ inTurn (markMotion (now (live .entry)) pages (now (memory .entry))) cards
         (now (marks .entry)) ⌝ }

@@ -4,12 +4,11 @@ ghost use Prim.Native.Nat.{_*_, _<_, _≤_};
 ghost use lib.ListN.{length};
 ghost use Rattle.laws.specs.Search.{lowest};
 ghost use Rattle.memory.specs.Layout.{areaSize};
-ghost use Rattle.memory.specs.Area.{AreaIn};
-ghost use Rattle.diff.specs.Prices.{pricesOf};
+ghost use Rattle.diff.specs.Prices.{labelOf, pricesOf};
 ghost use Rattle.protocol.specs.Opening.{sharesWith};
 ghost use Rattle.reader.specs.Steady.{Steady};
-ghost use Rattle.conflict.specs.Marks.{labelDue, placeOf, placeDue, marked, markedDue};
-ghost use Rattle.conflict.specs.Sharing.{hitsDue, marksWith};
+ghost use Rattle.conflict.specs.Marks.{marked, markedDue};
+ghost use Rattle.conflict.specs.Sharing.{labelDue, hitsDue, marksWith};
 use crate::walk;
 use diff::Cursor;
 
@@ -22,40 +21,27 @@ fn label_due(s: Cursor) -> usize
     ((s.next - 1) * 32 + s.word) as usize
 }
 
-// Where the price that is due is marked: at its page, or at its label.
-fn place_due(s: Cursor, pagewise: bool) -> usize
+// Marks the label of the price that is due, if one is.
+fn mark_label(s: Cursor, marks: &mut [bool])
     requires { ⌜ Steady s ⌝ }
-    requires { ⌜ (0 < s .due) × (s .next ≤ 64) ⌝ }
-    ensures place { λ r. ⌜ r ≡ placeDue pagewise s ⌝ }
-    ensures inside { λ r. ⌜ r < 2048 ⌝ }
-{
-    if pagewise {
-        return (s.next - 1) as usize;
-    }
-    label_due(s)
-}
-
-// Marks the price that is due, if one is.
-fn mark_due(s: Cursor, pagewise: bool, named: &mut [bool])
-    requires { ⌜ Steady s ⌝ }
-    requires { ⌜ (s .next ≤ 64) × (length (now named) ≡ 2048) ⌝ }
-    ensures { λ _. ⌜ now (named .exit) ≡ markedDue pagewise s (now (named .entry)) ⌝ }
+    requires { ⌜ (s .next ≤ 64) × (length (now marks) ≡ 2048) ⌝ }
+    ensures { λ _. ⌜ now (marks .exit) ≡ markedDue s (labelDue s) (now (marks .entry)) ⌝ }
 {
     if 0 < s.due {
-        let place = place_due(s, pagewise);
-        named[place] = true;
+        let label = label_due(s);
+        marks[label] = true;
     }
 }
 
-// Marks each word that a list prices, at its page or at its label.
-pub(crate) fn mark_words(list: &[u32], pages: u32, pagewise: bool, named: &mut [bool])
-    requires { ⌜ (length (now list) ≤ 512) × (length (now named) ≡ 2048) × (pages ≤ 64) ⌝ }
-    ensures { λ _. ⌜ now (named .exit)
-        ≡ marked (placeOf pagewise) (pricesOf pages (now (list .entry))) (now (named .entry)) ⌝ }
+// Marks the label of each word that a list prices.
+fn mark_labels(list: &[u32], pages: u32, marks: &mut [bool])
+    requires { ⌜ (length (now list) ≤ 512) × (length (now marks) ≡ 2048) × (pages ≤ 64) ⌝ }
+    ensures { λ _. ⌜ now (marks .exit)
+        ≡ marked labelOf (pricesOf pages (now (list .entry))) (now (marks .entry)) ⌝ }
 {
     let mut at = walk::first_word();
     while at.index < list.len() {
-        mark_due(at.cursor, pagewise, named);
+        mark_label(at.cursor, marks);
         at = walk::next_word(list, at, pages);
     }
 }
@@ -130,7 +116,7 @@ pub fn lowest_sharing(
 {
     if crate::any_other(memory, cards, pages, live, card) {
         let mut named = [false; 2048];
-        mark_words(list, pages, false, &mut named);
+        mark_labels(list, pages, &mut named);
         return walk_lists(memory, cards, pages, live, card, &named);
     }
     cards

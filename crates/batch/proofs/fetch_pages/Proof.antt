@@ -6,7 +6,8 @@ use borrow.Author.Needs.{needs}
 use lib.ListN.{length, length-set}
 use Rattle.laws.specs.Search.{inTurn}
 use Rattle.laws.proofs.Search.{in-turn-none, in-turn-more}
-use Rattle.batch.specs.FetchAll.{pagesOf, showNext, primariesOf}
+use Rattle.batch.specs.FetchAll.{pagesOf}
+use Rattle.batch.specs.Showing.{showNext, primariesOf}
 use Rattle.batch.proofs.fetch_pages.Statement.{statement}
 use Rattle.batch.proofs.fetch_pages.Tie as tie
 

@@ -11,7 +11,8 @@ use Rattle.conflict.proofs.any_other.Statement.{statement}
 use Rattle.conflict.proofs.any_other.Tie as tie
 
 abbrev Inv-loop : tie.InvT-loop
-Inv-loop memory cards pages live card size other₀ other = Passed (isOther live (areaSize pages) memory card) cards other
+Inv-loop memory cards pages live card size other₀ other =
+    Passed (isOther live (areaSize pages) memory card) cards other
 
 abbrev μ-loop : tie.MeasureT-loop
 μ-loop memory cards pages live card size other₀ other = cards - other

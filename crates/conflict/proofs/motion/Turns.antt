@@ -1,5 +1,5 @@
 -- One turn of the walk over an open list: what the price that is due adds, and what is left gives the whole.
-use Prim.Native.Nat.{ℕ, _+_, _-_, _<_, _≤_}
+use Prim.Native.Nat.{ℕ, _+_, _<_, _≤_}
 use mathlib.Core.Path.{_≡_, refl, ap, _∙_}
 use mathlib.Core.List.{List, [], _∷_, _++_}
 use mathlib.Core.Bool.{Bool, true, false, cond, _||_, _&&_}
@@ -13,16 +13,16 @@ use Rattle.diff.specs.Prices.{pricedWord, pricesOf}
 use Rattle.protocol.specs.Release.{openList, stepsOf, isOpen, countsAt}
 use Rattle.protocol.specs.Fetch.{namesPage, inMotion}
 use Rattle.conflict.specs.Walking.{Walk, pastWord}
-use Rattle.conflict.specs.Marks.{placeOf, marked}
-use Rattle.conflict.specs.Motion.{pageDue, Tally, tallyOf, markMotion}
+use Rattle.conflict.specs.Marks.{marked}
+use Rattle.conflict.specs.Motion.{pageOf, pageDue, onPage, Tally, tallyOf, markMotion}
 use Rattle.conflict.proofs.Walking.{priceDue, pricesLeft, counts-word, left-turn, left-end}
 
 page-due : (s : Cursor) (w : ℕ) (ps : List Price) (page : ℕ)
-    → namesPage (priceDue s w ++ ps) page ≡ (pageDue s page || namesPage ps page)
+    → namesPage (priceDue s w ++ ps) page ≡ (onPage s page || namesPage ps page)
 unfolding namesPage
-page-due s w ps page = go (ltb 0 (s .due)) (eqb (s .next - 1) page) refl
+page-due s w ps page = go (ltb 0 (s .due)) (eqb (pageDue s) page) refl
   where
-    go : (due here : Bool) → eqb (s .next - 1) page ≡ here
+    go : (due here : Bool) → eqb (pageDue s) page ≡ here
         → namesPage (cond due (pricedWord s w ∷ []) [] ++ ps) page ≡ (cond due here false || namesPage ps page)
     go true true e = rw e
     go true false e = rw e
@@ -31,7 +31,7 @@ page-due s w ps page = go (ltb 0 (s .due)) (eqb (s .next - 1) page) refl
 module _ (pages : ℕ) (list : List ℕ) (at : Walk) where
   pub page-turn : at .index < length list → (page : ℕ)
       → namesPage (pricesLeft pages list at) page
-      ≡ (pageDue (at .cursor) page || namesPage (pricesLeft pages list (pastWord pages list at)) page)
+      ≡ (onPage (at .cursor) page || namesPage (pricesLeft pages list (pastWord pages list at)) page)
   page-turn inside page =
       ap (λ ps. namesPage ps page) (left-turn pages list at inside) ∙ page-due (at .cursor) _ _ page
 
@@ -49,25 +49,24 @@ module _ (pages : ℕ) (list : List ℕ) (at : Walk) where
 -- ---- a card with no release open, and one with a list
 
 module _ (live : List Bool) (pages : ℕ) (m : List ℕ) {size : ℕ} (whole : size ≡ areaSize pages)
-    (page c : ℕ) {is : Bool} (told : is ≡ isOpen live size m c) where
-  pub motion-not : is ≡ false → inMotion live pages m page c ≡ false
+    (c : ℕ) {is : Bool} (told : is ≡ isOpen live size m c) where
+  pub motion-not : is ≡ false → (page : ℕ) → inMotion live pages m page c ≡ false
   unfolding inMotion
-  motion-not fails = rw (← whole, ← told, fails)
+  motion-not fails page = rw (← whole, ← told, fails)
 
-  pub motion-list : is ≡ true → {list : List ℕ} → list ≡ openList size m c → {tally : Tally}
-      → tally ≡ tallyOf (pricesOf pages list) page
-      → inMotion live pages m page c ≡ (leb (countsAt (tally .prices)) (stepsOf size m c) && tally .named)
+  pub motion-list : is ≡ true → {list : List ℕ} → list ≡ openList size m c → (page : ℕ) {tally : Tally}
+      → tally ≡ tallyOf (pricesOf pages list) page → {due : Bool}
+      → due ≡ leb (countsAt (tally .prices)) (stepsOf size m c) → inMotion live pages m page c ≡ (due && tally .named)
   unfolding inMotion
-  motion-list holds lent counted = rw (← whole, ← told, holds, counted, lent)
+  motion-list holds lent page counted due = rw (due, ← whole, ← told, holds, counted, lent)
 
   pub mark-not : is ≡ false → (marks : List Bool) → markMotion live pages m c marks ≡ marks
   unfolding markMotion
   mark-not fails marks = rw (← whole, ← told, fails)
 
-  pub mark-list : is ≡ true → {list : List ℕ} → list ≡ openList size m c → {tally : Tally}
-      → tally ≡ tallyOf (pricesOf pages list) page → (marks : List Bool)
-      → markMotion live pages m c marks
-      ≡ cond (leb (countsAt (tally .prices)) (stepsOf size m c)) (marked (placeOf true) (pricesOf pages list) marks)
-      marks
+  pub mark-list : is ≡ true → {list : List ℕ} → list ≡ openList size m c → {prices : ℕ}
+      → prices ≡ length (pricesOf pages list) → {due : Bool} → due ≡ leb (countsAt prices) (stepsOf size m c)
+      → (marks : List Bool)
+      → markMotion live pages m c marks ≡ cond due (marked pageOf (pricesOf pages list) marks) marks
   unfolding markMotion
-  mark-list holds lent counted marks = rw (← whole, ← told, holds, counted, lent)
+  mark-list holds lent counted due marks = rw (due, ← whole, ← told, holds, counted, lent)

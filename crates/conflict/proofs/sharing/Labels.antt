@@ -2,30 +2,29 @@
 use Prim.Native.Nat.{ℕ, _≤_}
 use mathlib.Core.Path.{_≡_, refl, _∙_}
 use mathlib.Core.List.{List, [], _∷_}
-use mathlib.Core.Bool.{Bool, true, false, cond, _||_, and-assoc, or-false}
-use lib.ListN.{getD, length-replicate}
+use mathlib.Core.Bool.{Bool, true, false, cond, _||_, and-assoc}
+use lib.ListN.{getD}
+use native.Mathlib.Omega.{arith}
 use Rattle.diff.specs.declared.Price.{Price}
 use Rattle.diff.specs.Prices.{labelOf, pricesOf, names}
 use Rattle.diff.proofs.Stored.{prices-on-pages}
 use Rattle.protocol.specs.Opening.{shareWord, sharesWith}
-use Rattle.conflict.specs.Marks.{placeOf, marked}
+use Rattle.conflict.specs.Marks.{marked}
 use Rattle.conflict.specs.Others.{isOther}
 use Rattle.conflict.specs.Sharing.{anyMarked, marksWith}
-use Rattle.conflict.proofs.Marks.{unmarked, getD-unmarked, anyAt, marks-more}
+use Rattle.conflict.proofs.Marks.{unmarked, anyAt, marks-all}
 
-names-labels : (ps : List Price) (label : ℕ) → anyAt (placeOf false) ps label ≡ names ps label
+names-labels : (ps : List Price) (label : ℕ) → anyAt labelOf ps label ≡ names ps label
 unfolding anyAt names
 names-labels [] label = refl
 names-labels (p ∷ ps) label = rw (names-labels ps label)
 
 -- the marks of a list
 marks-names : (pages : ℕ) → pages ≤ 64 → (label : ℕ) (list : List ℕ)
-    → getD (marked (placeOf false) (pricesOf pages list) unmarked) label false ≡ names (pricesOf pages list) label
+    → getD (marked labelOf (pricesOf pages list) (unmarked 2048)) label false ≡ names (pricesOf pages list) label
 marks-names pages few label list =
-    marks-more pages false few label (pricesOf pages list) unmarked (length-replicate 2048 false)
-    (prices-on-pages pages list)
-    ∙ rw (names-labels (pricesOf pages list) label, getD-unmarked 2048 label)
-    (or-false (names (pricesOf pages list) label))
+    marks-all labelOf 2048 pages (λ p page word. omega arith) label (pricesOf pages list) (prices-on-pages pages list)
+    ∙ names-labels (pricesOf pages list) label
 
 any-shares : (ps others : List Price) (marks : List Bool) → ((label : ℕ) → getD marks label false ≡ names others label)
     → anyMarked ps marks ≡ shareWord ps others
@@ -40,7 +39,7 @@ any-shares (p ∷ ps) others marks same =
 
 -- so the marks find the cards that the list shares a word with
 pub marks-share : (live : List Bool) (pages : ℕ) (m : List ℕ) (c : ℕ) (list : List ℕ) → pages ≤ 64 → (other : ℕ)
-    → marksWith live pages m c (marked (placeOf false) (pricesOf pages list) unmarked) other
+    → marksWith live pages m c (marked labelOf (pricesOf pages list) (unmarked 2048)) other
     ≡ sharesWith live pages m c list other
 unfolding marksWith isOther sharesWith
 marks-share live pages m c list few other =

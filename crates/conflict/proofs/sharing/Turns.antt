@@ -11,9 +11,8 @@ use Rattle.diff.specs.declared.Price.{Price}
 use Rattle.diff.specs.Prices.{pricedWord, pricesOf}
 use Rattle.protocol.specs.Release.{openList}
 use Rattle.conflict.specs.Walking.{Walk, pastWord}
-use Rattle.conflict.specs.Marks.{labelDue}
 use Rattle.conflict.specs.Others.{isOther}
-use Rattle.conflict.specs.Sharing.{anyMarked, hitsDue, marksWith}
+use Rattle.conflict.specs.Sharing.{labelDue, anyMarked, hitsDue, marksWith}
 use Rattle.conflict.proofs.Walking.{priceDue, pricesLeft, left-turn, left-end}
 
 any-due : (s : Cursor) (w : ℕ) (ps : List Price) (marks : List Bool)

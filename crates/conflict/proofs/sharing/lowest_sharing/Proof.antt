@@ -14,7 +14,7 @@ returns c =
     let entry = marks .before .before .before .before .before .before .before in
     let a = entry .args in
     let same = marks-share (a .live .now) _ (a .memory .now) (a .card) (a .list .now) (entry .pre .0 .0) in
-    rw (marks .mark-words .ensures) at (c .walk-lists .ensures) ∙ lowest-same _ _ same 0 (a .cards)
+    rw (marks .mark-labels .ensures) at (c .walk-lists .ensures) ∙ lowest-same _ _ same 0 (a .cards)
 
 returns-2 : tie.Need-returns-2
 returns-2 c =

@@ -1,0 +1,42 @@
+-- The pages of a rack that passed its checks, fetched in one call: which are in motion is known before the first is
+-- copied, and each other page's words are its committed ones. `FetchAll` says what the call is to come to.
+-- Assumes nothing: these are definitions.
+use Prim.Native.Nat.{ℕ, _*_, _<_, _≤_}
+use mathlib.Core.List.{List, []}
+use mathlib.Core.Bool.{Bool, false, cond, not}
+use lib.ListN.{length, getD, set, replicate}
+use lib.Seq.{sets}
+use Rattle.laws.specs.Search.{someBelow, inTurn}
+use Rattle.memory.specs.Layout.{pageSize}
+use Rattle.directory.specs.declared.Directory.{Directory}
+use Rattle.directory.specs.declared.Status.the-variants.{Running}
+use Rattle.directory.specs.Directory.{directoryOf}
+use Rattle.protocol.specs.Fetch.{inMotion, committedPage}
+use Rattle.conflict.specs.Motion.{markMotion}
+use Rattle.batch.specs.FetchAll.{Pages, pagesOf}
+
+-- whether a page is in motion
+abbrev pub isMoving : Directory → List ℕ → ℕ → Bool
+isMoving d m page = someBelow (inMotion (d .live) (d .pages) m page) (d .cards)
+
+-- the pages in motion, as marks
+abbrev pub movingOf : Directory → List ℕ → List Bool
+movingOf d m = inTurn (markMotion (d .live) (d .pages) m) (d .cards) (replicate 64 false)
+
+-- the buffer after a page: its words are kept if it is marked
+abbrev pub wordsAfter : List Bool → Directory → List ℕ → ℕ → List ℕ → List ℕ
+wordsAfter moving d m page words =
+    cond (getD moving page false) words (sets words (pageSize * page) (committedPage d m page))
+
+abbrev pub showNext : List Bool → Directory → List ℕ → ℕ → Pages → Pages
+showNext moving d m page s =
+    pagesOf (wordsAfter moving d m page (s .words)) (set (s .shown) page (not (getD moving page false)))
+
+-- a directory as far as that looks at it: pages and primary homes
+abbrev pub primariesOf : ℕ → List ℕ → Directory
+primariesOf pages primary = directoryOf 0 pages [] primary [] Running
+
+-- each page has a primary home that is a card
+pub record PrimariesIn (cards pages : ℕ) (primary : List ℕ) : Type 0 where
+  pub long : pages ≤ length primary
+  pub below : (page : ℕ) → page < pages → getD primary page 0 < cards
