@@ -1,8 +1,8 @@
 -- Several prices of a run read at once: the cursor moved past them. A run that is cut short ends the reading.
 use Prim.Native.Nat.{ℕ, zero, suc, _+_, _-_, _*_, _≤_, _<_, min}
 use mathlib.Core.Path.{_≡_, refl, sym, ap, _∙_}
-use mathlib.Core.List.{List, [], _∷_}
-use native.Mathlib.Nat.{add-zero, sub-zero, sub-self}
+use mathlib.Core.List.{List, []}
+use native.Mathlib.Nat.{add-zero, sub-zero}
 use native.Mathlib.Decide.{decLt}
 use native.Mathlib.Omega.{arith}
 use borrow.Author.Tests.{lt-ltb, le-ltb}
@@ -14,7 +14,7 @@ use Rattle.diff.specs.declared.Verdict.the-variants.{Faulty}
 use Rattle.diff.specs.Reading.{pastPrice, wordStep, readFrom}
 use Rattle.diff.specs.Prices.{pricesAfter, pricesFrom}
 use Rattle.diff.proofs.Derivation.{step-price}
-use Rattle.reader.specs.declared.Found.the-variants.{Priced, Nothing}
+use Rattle.reader.specs.declared.Found.the-variants.{Nothing}
 use Rattle.reader.specs.Found.{nthPrice}
 use Rattle.reader.specs.Runs.{pastPrices, nthDue}
 use Rattle.reader.proofs.Keeping.{Idle, Passed, word-passed}
@@ -23,13 +23,13 @@ use Rattle.reader.proofs.Turns.{nth-first, nth-later, nth-none}
 
 -- ---- the cursor
 
--- n prices are due on a page with a run
+-- n prices are due, and only a run has prices
 pub record Due (s : Cursor) (n : ℕ) : Type 0 where
   pub many : n ≤ s .due
   pub one : s .gap ≤ 1
   pub ran : s .due ≤ 32 * s .gap
 
-pub past-none : (s : Cursor) → pastPrices s 0 ≡ s
+past-none : (s : Cursor) → pastPrices s 0 ≡ s
 past-none s = rw (add-zero (s .word), add-zero (s .prices), sub-zero (s .due))
 
 same-cursor : {next next′ word word′ gap gap′ due due′ prices prices′ : ℕ} → next ≡ next′ → word ≡ word′
@@ -47,6 +47,7 @@ due-later s n due = record { many = omega arith; one = omega arith; ran = omega 
 module _ (pages : ℕ) (list : List ℕ) where
   -- ---- the verdict
 
+  -- n prices read are the cursor moved by n
   pub read-prices : (n index : ℕ) (s : Cursor) → Due s n → index + n ≤ min (length list) 512
       → readFrom pages (drop index list) index s
       ≡ readFrom pages (drop (index + n) list) (index + n) (pastPrices s n)
@@ -58,7 +59,7 @@ module _ (pages : ℕ) (list : List ℕ) where
       ∙ read-prices n (index + 1) (pastPrice s) (due-later s n due) (omega arith)
       ∙ rw (next, past-more s n due)
 
-  -- all words that are read are read, and no end word was among them
+  -- past the last word that is read, where no end word was
   pub read-over : (index : ℕ) (s : Cursor) → index ≡ min (length list) 512
       → readFrom pages (drop index list) index s ≡ Faulty index
   read-over index s all = go (decLt index (length list))
@@ -69,7 +70,7 @@ module _ (pages : ℕ) (list : List ℕ) where
           read-long pages list index s more full ∙ ap Faulty (sym full)
       go (no end) = read-end pages list index s (omega arith)
 
-  -- the words end in a run, or with it
+  -- a run that is cut short, or ends with the last word that is read
   pub read-cut : (words index : ℕ) (s : Cursor) → Due s (words - index) → index ≤ words
       → words ≡ min (length list) 512 → readFrom pages (drop index list) index s ≡ Faulty words
   read-cut words index s due within all =
@@ -79,6 +80,7 @@ module _ (pages : ℕ) (list : List ℕ) where
 
   -- ---- the price numbered n
 
+  -- n prices skipped, also where the list stops among them
   pub nth-skip : (n index : ℕ) (s : Cursor) (left : ℕ) → Due s n → n ≤ left
       → nthPrice (pricesFrom pages (drop index list) index s) left
       ≡ nthPrice (pricesFrom pages (drop (index + n) list) (index + n) (pastPrices s n)) (left - n)
@@ -108,6 +110,7 @@ module _ (pages : ℕ) (list : List ℕ) where
           )
           (nth-none left ∙ sym (nth-none (left - suc n)))
 
+  -- one of the prices that are due
   pub nth-found : (n index : ℕ) (s : Cursor) → Due s (n + 1)
       → nthPrice (pricesFrom pages (drop index list) index s) n ≡ nthDue list index s n
   nth-found n index s due =

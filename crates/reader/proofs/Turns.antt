@@ -1,4 +1,4 @@
--- One turn of a loop that reads a list word by word: what is left to read, read from here, gives the whole.
+-- One word of a list that is read: what is left to read, read from here, gives the whole.
 use Prim.Native.Nat.{ℕ, zero, suc, _+_, _-_, _≤_, _<_}
 use mathlib.Core.Path.{_≡_, refl}
 use mathlib.Core.List.{List, [], _∷_}
