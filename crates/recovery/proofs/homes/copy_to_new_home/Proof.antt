@@ -15,10 +15,10 @@ copy-page-requires c κs =
     let start = kept .before .before .before .before .before .before .before in
     let pre = start .pre in
     let home = kept-in (start .args .failed) (pre .1 .0) (pre .1 .1 .1) in
-    let below = next-below (pre .1 .1 .0) (kept .kept-home .result) in
-    let area = area-in _ below (pre .0 .whole) in
-    rw (c .before .area-size .ensures, next .next-live-after .ensures)
-    (rw (kept .kept-home .ensures) (home .area), (area, omega arith))
+    rw (c .before .area-size .ensures, next .next-live-after .ensures) (
+      rw (kept .kept-home .ensures) (home .area),
+      (area-in _ (next-below (pre .1 .1 .0) _) (pre .0 .whole), omega arith),
+    )
 
 returns : tie.Need-returns
 unfolding copyToNewHome lostHome keptHome newHome
