@@ -5,6 +5,7 @@ use borrow.Author.Needs.{needs}
 use Rattle.protocol.specs.Release.{releaseOf}
 use Rattle.protocol.specs.Recovery.{writeFailed}
 use Rattle.recovery.specs.Rack.{marksOf}
+use Rattle.recovery.proofs.Kept.{rack-kept}
 use Rattle.recovery.proofs.Turns.{Turned, turn-none, turn-more, turn-all}
 use Rattle.recovery.proofs.records.write_failed_records.Statement.{statement}
 use Rattle.recovery.proofs.records.write_failed_records.Tie as tie
@@ -16,23 +17,8 @@ Inv-loop memory₀ cards pages live failed number desk holder₀ memory holder =
 abbrev μ-loop : tie.MeasureT-loop
 μ-loop memory₀ cards pages live failed number desk holder₀ memory holder = cards - holder
 
-write-failed-requires : tie.Need-write-failed-requires Inv-loop μ-loop
-write-failed-requires c κs =
-    let start = c .before .before .before .before .before .before in
-    let same = c .before .before .loop .inv .same in
-    (rw same (start .pre .0), (start .pre .1 .0, c .before .loop-test .taken, start .pre .1 .1))
-
-loop-again : tie.Need-loop-again Inv-loop μ-loop
-loop-again c =
-    let made = c .before .before in
-    let turn = made .before .before in
-    turn-more (turn .before .loop .inv) (turn .loop-test .taken) (search needs) (made .write-failed .ensures)
-
-returns : tie.Need-returns Inv-loop μ-loop
-returns c = turn-all (c .before .loop .inv) (c .loop-test .left)
-
 pub write-failed-records-spec : {M : Type 1} → statement M
 write-failed-records-spec =
     tie.close
-    (tie.spec Inv-loop μ-loop (λ c. turn-none) (λ c. omega arith) write-failed-requires (λ c. omega arith)
-    (λ c. omega arith) loop-again (λ c. search needs) returns)
+    (tie.spec Inv-loop μ-loop (λ c. turn-none) (λ c. omega arith) (λ c κs. search (needs, rack-kept)) (λ c. omega arith)
+    (λ c. omega arith) (λ c. search (needs, turn-more)) (λ c. search needs) (λ c. search turn-all))
