@@ -19,5 +19,5 @@ abbrev μ-loop : tie.MeasureT-loop
 pub copy-dead-records-spec : {M : Type 1} → statement M
 copy-dead-records-spec =
     tie.close
-    (tie.spec Inv-loop μ-loop (λ c. turn-none) (λ c κs. search (needs, rack-kept)) (λ c. omega arith) (λ c. omega arith)
-    (λ c. search (needs, turn-more)) (λ c. search needs) (λ c. search turn-all))
+    (tie.spec Inv-loop μ-loop (λ c. turn-none) (λ c κs. search (needs, rack-kept)) (λ c. omega arith)
+    (λ c. omega arith) (λ c. search (needs, turn-more)) (λ c. search needs) (λ c. search turn-all))

@@ -20,5 +20,6 @@ abbrev μ-loop : tie.MeasureT-loop
 pub write-failed-records-spec : {M : Type 1} → statement M
 write-failed-records-spec =
     tie.close
-    (tie.spec Inv-loop μ-loop (λ c. turn-none) (λ c. omega arith) (λ c κs. search (needs, rack-kept)) (λ c. omega arith)
-    (λ c. omega arith) (λ c. search (needs, turn-more)) (λ c. search needs) (λ c. search turn-all))
+    (tie.spec Inv-loop μ-loop (λ c. turn-none) (λ c. omega arith) (λ c κs. search (needs, rack-kept))
+    (λ c. omega arith) (λ c. omega arith) (λ c. search (needs, turn-more)) (λ c. search needs)
+    (λ c. search turn-all))

@@ -22,5 +22,5 @@ abbrev μ-loop : tie.MeasureT-loop
 pub write-own-records-spec : {M : Type 1} → statement M
 write-own-records-spec =
     tie.close
-    (tie.spec Inv-loop μ-loop (λ c. turn-none) (λ c κs. search (needs, rack-kept)) (λ c. omega arith) (λ c. omega arith)
-    (λ c. search (needs, turn-more)) (λ c. search needs) (λ c. search turn-all))
+    (tie.spec Inv-loop μ-loop (λ c. turn-none) (λ c κs. search (needs, rack-kept)) (λ c. omega arith)
+    (λ c. omega arith) (λ c. search (needs, turn-more)) (λ c. search needs) (λ c. search turn-all))
