@@ -2,13 +2,13 @@
 use Prim.Native.Nat.{ℕ, zero, suc, _+_, _-_, _*_, _/_, _%_, _<_, _≤_}
 use mathlib.Core.Path.{_≡_, refl, sym, ap, _∙_}
 use mathlib.Core.List.{List, [], _∷_, map}
-use mathlib.Core.Bool.{Bool, true, false}
+use mathlib.Core.Bool.{Bool, true, false, _&&_}
 use native.Mathlib.Omega.{arith}
-use borrow.Author.Tests.{lt-ltb, le-ltb, ltb-true, ltb-false}
+use borrow.Author.Tests.{lt-ltb, le-ltb, ltb-true, ltb-false, lt-leb, le-leb, leb-true}
 use lib.ListN.{length, getD, List·getD-eq-default}
 use lib.Seq.{sets}
-use lib.Dec.{ltb}
-use Rattle.laws.proofs.Bools.{by-cond}
+use lib.Dec.{ltb, leb}
+use Rattle.laws.proofs.Bools.{by-cond, neither, and-first, and-second}
 use Rattle.memory.specs.Layout.{areaSize, listStart, listSize}
 use Rattle.memory.specs.Area.{AreaIn, loadRun}
 use Rattle.memory.proofs.Runs.{length-load-run}
@@ -27,7 +27,7 @@ use Rattle.reader.proofs.Listing.{listed-at, few-prices}
 use Rattle.protocol.specs.Release.{openList, openPrices}
 use Rattle.protocol.proofs.Writes.{noPrice}
 use Rattle.release.specs.Stepping.{GoodRelease, Counted, Listed}
-use Rattle.release.specs.Stepping.{priceNumber, NumberedPrice, listedPrice}
+use Rattle.release.specs.Stepping.{storesPrice, priceNumber, NumberedPrice, listedPrice}
 
 -- what reading the list of a good release finds: as many prices as it says, and they are few
 module _ (pages size : ℕ) (m : List ℕ) (card : ℕ) (sized : size ≡ areaSize pages) (good : GoodRelease pages m card)
@@ -78,6 +78,34 @@ module _ (pages size : ℕ) (m : List ℕ) (card n : ℕ) (sized : size ≡ area
   pub found-nothing : found ≡ Nothing → NumberedPrice pages m card n p
   unfolding openList
   found-nothing is = past-last p (openPrices pages m card) n (sym (rw sized at finds) ∙ is)
+
+-- ---- which steps store a price
+
+module _ (k steps : ℕ) where
+  pub stores-before : steps < 2 * k → true ≡ storesPrice k steps
+  unfolding storesPrice
+  stores-before below = rw (lt-ltb _ _ below)
+
+  pub stores-between : 2 * k ≤ steps → steps < 2 * k + 9 → false ≡ storesPrice k steps
+  unfolding storesPrice
+  stores-between past below = rw (le-ltb _ _ past, lt-leb _ _ below)
+
+  pub stores-after : 2 * k + 9 ≤ steps → ltb steps (4 * k + 9) ≡ storesPrice k steps
+  unfolding storesPrice
+  stores-after past = rw (le-ltb steps (2 * k) (omega arith), le-leb _ _ past)
+
+  -- one past the tentative prices stores a committed one
+  pub in-committed : storesPrice k steps ≡ true → 2 * k ≤ steps → (2 * k + 9 ≤ steps) × (steps < 4 * k + 9)
+  unfolding storesPrice
+  in-committed stores below =
+      let both : leb (2 * k + 9) steps && ltb steps (4 * k + 9) ≡ true = rw (le-ltb _ _ below) at stores in
+      let past = leb (2 * k + 9) steps in
+      (leb-true _ _ (and-first past _ both), ltb-true _ _ (and-second past _ both))
+
+  -- one that stores no price comes after the tentative prices
+  pub past-tentative : storesPrice k steps ≡ false → 2 * k ≤ steps
+  unfolding storesPrice
+  past-tentative none = ltb-false _ _ (neither (ltb steps (2 * k)) _ none .0)
 
 -- ---- the price that a step stores
 

@@ -95,6 +95,12 @@ module _ (d : Directory) (backup : ℕ) (m : List ℕ) (card steps : ℕ) (area 
         let long = length-writes d backup card release prices eight in
         rw (← made, long, lt-ltb steps (4 * length prices + 10) below)
 
+    -- the store that is due, counted
+    pub step-counted : {w : Write} {next : List ℕ} → steps < 4 * length prices + 10 → w ≡ stored
+        → next ≡ store (sizeOf d) (makeWrite (d .live) (sizeOf d) m w) card stepsMade (steps + 1)
+        → next ≡ stepMemory d backup m card
+    step-counted below is e = (rw is at e) ∙ sym (step-stores below)
+
     pub step-closes : steps ≡ 4 * length prices + 10 → stepMemory d backup m card ≡ close (sizeOf d) m card
     unfolding stepMemory
     step-closes last =

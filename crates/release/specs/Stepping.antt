@@ -3,9 +3,9 @@
 use Prim.Native.Nat.{ℕ, _*_, _+_, _-_, _/_, _%_, _<_, _≤_}
 use mathlib.Core.Path.{_≡_}
 use mathlib.Core.List.{List}
-use mathlib.Core.Bool.{Bool, cond}
+use mathlib.Core.Bool.{Bool, cond, _||_, _&&_}
 use lib.ListN.{length, getD}
-use lib.Dec.{ltb, eqb}
+use lib.Dec.{ltb, leb, eqb}
 use Rattle.memory.specs.Layout.{areaSize, recordStamp, recordDesk}
 use Rattle.memory.specs.Area.{AreaIn}
 use Rattle.directory.specs.declared.Directory.{Directory}
@@ -78,6 +78,10 @@ abbrev pub recordWrite : ℕ → ℕ → Release → ℕ → Write
 recordWrite backup card r at =
     cond (ltb at 8) (writeOf backup (recordDesk card (r .number) + at) (getD (r .desk) at 0))
     (writeOf backup (recordStamp card + 0) (r .number))
+
+-- whether the step after so many stores a price, of a release of k prices
+unfoldable pub storesPrice : ℕ → ℕ → Bool
+storesPrice k steps = ltb steps (2 * k) || (leb (2 * k + 9) steps && ltb steps (4 * k + 9))
 
 -- the number of the price that this step stores, of a release of k prices; 0 where it stores another word
 abbrev pub priceNumber : ℕ → ℕ → ℕ

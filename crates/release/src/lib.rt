@@ -1,15 +1,19 @@
 // A release on its card: opening it, one step of it, its close. These write the memory of a rack
 // that passed its checks; which calls are refused is decided above.
 ghost use mathlib.Core.Path.{_≡_};
-ghost use Prim.Native.Nat.{_+_, _*_, _<_, _≤_};
+ghost use mathlib.Core.List.{List};
+ghost use mathlib.Core.Bool.{true, false};
+ghost use Prim.Native.Nat.{ℕ, _+_, _*_, _<_, _≤_};
 ghost use lib.ListN.{length, getD};
-ghost use Rattle.memory.specs.Layout.{areaSize, pageStart, recordStamp, recordDesk};
-ghost use Rattle.memory.specs.Area.{AreaIn};
-ghost use Rattle.protocol.specs.Release.{releaseOf, openRelease, writeOf, makeWrite, close};
+ghost use Rattle.memory.specs.Layout.{areaSize, stepsMade, pageStart, recordStamp};
+ghost use Rattle.memory.specs.Layout.{recordDesk};
+ghost use Rattle.memory.specs.Area.{AreaIn, store};
+ghost use Rattle.protocol.specs.Release.{releaseOf, openRelease, openPrices, stepsOf, writeOf};
+ghost use Rattle.protocol.specs.Release.{makeWrite, close};
 ghost use Rattle.protocol.specs.Opening.{openMemory};
 ghost use Rattle.release.specs.Stepping.{CardIn, HomesIn, GoodRelease, Counted};
 ghost use Rattle.release.specs.Stepping.{homeAt, afterStore, afterStep, recordWrite};
-ghost use Rattle.release.specs.Stepping.{priceNumber, NumberedPrice, PriceDue};
+ghost use Rattle.release.specs.Stepping.{storesPrice, priceNumber, NumberedPrice, PriceDue};
 
 mod running;
 
@@ -192,43 +196,87 @@ fn step_record(
     step_mark(memory, size, live, backup, card, 0);
 }
 
-// The store of a step before the close: `steps` are made, of a release of k prices; `p` is due.
-fn step_store(
+// ---- one step
+
+// One more in word 10.
+fn count_step(memory: &mut [u32], size: usize, card: usize, steps: u32)
+    requires { ⌜ (676 ≤ size) × AreaIn (length (now memory)) size card × (steps < 4294967295) ⌝ }
+    ensures { λ _. ⌜ now (memory .exit)
+        ≡ store size (now (memory .entry)) card stepsMade (steps + 1) ⌝ }
+{
+    memory::store_word(memory, size, card, memory::STEPS_MADE, steps + 1);
+}
+
+// Whether a step stores a price: `steps` are made, of a release of k prices.
+fn stores_price(k: u32, steps: u32) -> bool
+    requires { ⌜ k < 512 ⌝ }
+    ensures { λ r. ⌜ r ≡ storesPrice k steps ⌝ }
+{
+    if steps < 2 * k {
+        return true;
+    }
+    if steps < 2 * k + 9 {
+        return false;
+    }
+    steps < 4 * k + 9
+}
+
+// One step that stores the price that is due: the store, and one more in word 10.
+fn store_price(
     memory: &mut [u32],
     pages: u32,
     live: &[bool],
     primary: &[u32],
     secondary: &[u32],
-    backup: usize,
     card: usize,
-    steps: u32,
     k: u32,
     p: Price,
 )
     requires { ⌜ HomesIn (now live) pages (now primary) (now secondary) (length (now memory)) ⌝ }
     requires { ⌜ CardIn (now live) (length (now memory)) (areaSize pages) card ⌝ }
-    requires { ⌜ CardIn (now live) (length (now memory)) (areaSize pages) backup ⌝ }
-    requires { ⌜ (steps < 4 * k + 10) × Counted pages (now memory) card k ⌝ }
-    requires { ⌜ NumberedPrice pages (now memory) card (priceNumber k steps) p ⌝ }
-    ensures { λ _. ⌜ now (memory .exit)
-        ≡ afterStore pages (now (live .entry)) (now (primary .entry)) (now (secondary .entry))
-        backup (now (memory .entry)) card steps ⌝ }
+    requires { ⌜ Counted pages (now memory) card k × PriceDue pages (now memory) card k p ⌝ }
+    requires { ⌜ storesPrice k (stepsOf (areaSize pages) (now memory) card) ≡ true ⌝ }
+    ensures { λ _. ⌜ ((backup : ℕ) → now (memory .exit)
+        ≡ afterStep pages (now (live .entry)) (now (primary .entry)) (now (secondary .entry)) backup
+        (now (memory .entry)) card) ⌝ }
 {
+    let size = memory::area_size(pages);
+    let steps = memory::load_word(memory, size, card, memory::STEPS_MADE);
     if steps < 2 * k {
         step_price(memory, pages, live, primary, secondary, p, steps, 0);
+        count_step(memory, size, card, steps);
         return;
     }
+    let at = steps - (2 * k + 9);
+    step_price(memory, pages, live, primary, secondary, p, at, 32);
+    count_step(memory, size, card, steps);
+}
+
+// The store of a step in the record at the backup: the nine between the prices, or the done mark.
+fn step_word(
+    memory: &mut [u32],
+    pages: u32,
+    live: &[bool],
+    backup: usize,
+    card: usize,
+    k: u32,
+    steps: u32,
+)
+    requires { ⌜ CardIn (now live) (length (now memory)) (areaSize pages) card ⌝ }
+    requires { ⌜ CardIn (now live) (length (now memory)) (areaSize pages) backup ⌝ }
+    requires { ⌜ (pages ≤ 64) × (k ≡ length (openPrices pages (now memory) card)) × (k < 512) ⌝ }
+    requires { ⌜ (steps < 4 * k + 10) × (storesPrice k steps ≡ false) ⌝ }
+    ensures { λ _. ⌜ ((primary : List ℕ) (secondary : List ℕ) → now (memory .exit)
+        ≡ afterStore pages (now (live .entry)) primary secondary backup (now (memory .entry)) card
+        steps) ⌝ }
+{
+    let size = memory::area_size(pages);
     if steps < 2 * k + 9 {
         let at = (steps - 2 * k) as usize;
-        step_record(memory, memory::area_size(pages), live, backup, card, at);
+        step_record(memory, size, live, backup, card, at);
         return;
     }
-    if steps < 4 * k + 9 {
-        let at = steps - (2 * k + 9);
-        step_price(memory, pages, live, primary, secondary, p, at, 32);
-        return;
-    }
-    step_mark(memory, memory::area_size(pages), live, backup, card, 1);
+    step_mark(memory, size, live, backup, card, 1);
 }
 
 // One step of a release of k prices: one store, and one more in word 10; or the close.
@@ -253,23 +301,16 @@ fn make_step(
 {
     let size = memory::area_size(pages);
     let steps = memory::load_word(memory, size, card, memory::STEPS_MADE);
+    if stores_price(k, steps) {
+        store_price(memory, pages, live, primary, secondary, card, k, p);
+        return;
+    }
     if steps == 4 * k + 10 {
         close_release(memory, size, card);
         return;
     }
-    step_store(
-        memory,
-        pages,
-        live,
-        primary,
-        secondary,
-        backup,
-        card,
-        steps,
-        k,
-        p,
-    );
-    memory::store_word(memory, size, card, memory::STEPS_MADE, steps + 1);
+    step_word(memory, pages, live, backup, card, k, steps);
+    count_step(memory, size, card, steps);
 }
 
 // ---- the price that is due

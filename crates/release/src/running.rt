@@ -85,8 +85,13 @@ fn make_listed(
         let made = memory::load_word(memory, size, card, memory::STEPS_MADE);
         let n = crate::price_number(k, made) as usize;
         let p = listed_price(labels, prices, n);
-        crate::make_step(memory, pages, live, primary, secondary, backup, card, k, p);
-        left -= 1;
+        if crate::stores_price(k, made) {
+            crate::store_price(memory, pages, live, primary, secondary, card, k, p);
+            left -= 1;
+        } else {
+            crate::make_step(memory, pages, live, primary, secondary, backup, card, k, p);
+            left -= 1;
+        }
     }
 }
 

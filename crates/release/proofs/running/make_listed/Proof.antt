@@ -1,6 +1,6 @@
 -- Rests on `StepsMade`: what is left of the steps gives what all of them give; the list stays, and so does its table.
 use Prim.Native.Nat.{_<_}
-use mathlib.Core.Path.{_≡_}
+use mathlib.Core.Path.{_≡_, sym, _∙_}
 use native.Mathlib.Omega.{arith}
 use borrow.Author.Needs.{needs}
 use Rattle.memory.specs.Layout.{areaSize}
@@ -51,10 +51,18 @@ listed-price-requires c κs =
       number-listed _ _ (some .few) (omega arith) (listed .prices-long),
     )
 
-make-step-requires : tie.Need-make-step-requires Inv-loop μ-loop
+stores-price-requires : tie.Need-stores-price-requires Inv-loop μ-loop
+stores-price-requires c κs =
+    let tested = c .before .before .before .before in
+    let turn = tested .before in
+    turn .loop .inv .some (tested .loop-test .taken) .few
+
+store-price-requires : tie.Need-store-price-requires Inv-loop μ-loop
 unfolding stepsOf
-make-step-requires c κs =
-    let loaded = c .before .before .before in
+store-price-requires c κs =
+    let listing = c .before .before .before in
+    let numbering = listing .before in
+    let loaded = numbering .before in
     let tested = loaded .before .before in
     let turn = tested .before in
     let sized = turn .before in
@@ -63,7 +71,45 @@ make-step-requires c κs =
     let more = tested .loop-test .taken in
     let pre = start .pre in
     let made = rw (sized .area-size .ensures) at (loaded .load-word .ensures) in
-    let number = c .before .before .price-number .ensures in
+    let number = numbering .price-number .ensures in
+    let listed = pre .1 .1 .1 .1 in (
+      homes-kept (pre .0) (far .same),
+      (
+        card-kept (pre .1 .0) (far .same),
+        (
+          (
+            counted-left (far .some more) more,
+            rw (listing .listed-price .ensures, number, made, far .list more) (listed .is _),
+          ),
+          rw (← made) (sym (c .before .before .stores-price .ensures) ∙ c .before .if1 .taken),
+        ),
+      ),
+    )
+
+loop-again : tie.Need-loop-again Inv-loop μ-loop
+loop-again c =
+    let tested = c .before .before .before .before .before .before .before .before .before .before in
+    let turn = tested .before in
+    let start = turn .before .before .before .before .before .before .before .before in
+    let card = start .pre .1 .0 in
+    steps-one (card .eight) (card .area) (turn .loop .inv) (tested .loop-test .taken) (c .before .memory .given)
+    (c .before .before .store-price .ensures _)
+
+make-step-requires : tie.Need-make-step-requires Inv-loop μ-loop
+unfolding stepsOf
+make-step-requires c κs =
+    let listing = c .before .before .before in
+    let numbering = listing .before in
+    let loaded = numbering .before in
+    let tested = loaded .before .before in
+    let turn = tested .before in
+    let sized = turn .before in
+    let start = sized .before .before .before .before .before .before .before in
+    let far = turn .loop .inv in
+    let more = tested .loop-test .taken in
+    let pre = start .pre in
+    let made = rw (sized .area-size .ensures) at (loaded .load-word .ensures) in
+    let number = numbering .price-number .ensures in
     let listed = pre .1 .1 .1 .1 in (
       homes-kept (pre .0) (far .same),
       (
@@ -72,19 +118,19 @@ make-step-requires c κs =
           card-kept (pre .1 .1 .0) (far .same),
           (
             counted-left (far .some more) more,
-            rw (c .before .listed-price .ensures, number, made, far .list more) (listed .is _),
+            rw (listing .listed-price .ensures, number, made, far .list more) (listed .is _),
           ),
         ),
       ),
     )
 
-loop-again : tie.Need-loop-again Inv-loop μ-loop
-loop-again c =
-    let tested = c .before .before .before .before .before .before .before .before in
+loop-again-2 : tie.Need-loop-again-2 Inv-loop μ-loop
+loop-again-2 c =
+    let tested = c .before .before .before .before .before .before .before .before .before .before in
     let turn = tested .before in
     let start = turn .before .before .before .before .before .before .before .before in
     let card = start .pre .1 .0 in
-    steps-one (card .eight) (card .area) (turn .loop .inv) (tested .loop-test .taken) (c .before .memory .given)
+    steps-one (card .eight) (card .area) (turn .loop .inv) (tested .loop-test .taken) (c .before .memory2 .given)
     (c .before .before .make-step .ensures)
 
 returns : tie.Need-returns Inv-loop μ-loop
@@ -94,5 +140,6 @@ pub make-listed-spec : {M : Type 1} → statement M
 make-listed-spec =
     tie.close
     (tie.spec Inv-loop μ-loop (λ c κs. search needs) loop-holds load-word-requires price-number-requires
-    (λ c. search needs) listed-price-requires make-step-requires (λ c. omega arith) (λ c. omega arith) loop-again
+    (λ c. search needs) listed-price-requires stores-price-requires store-price-requires (λ c. omega arith)
+    (λ c. omega arith) loop-again make-step-requires (λ c. omega arith) (λ c. omega arith) loop-again-2
     (λ c. search needs) returns)

@@ -1,0 +1,62 @@
+-- Rests on the stores in the record: `record-store` and `done-store`.
+use Prim.Native.Nat.{_+_, _-_, _*_}
+use mathlib.Core.Path.{sym, _∙_}
+use native.Mathlib.Omega.{arith}
+use borrow.Author.Needs.{needs}
+use borrow.Author.Tests.{ltb-false}
+use Rattle.release.specs.Stepping.{homesOf}
+use Rattle.release.proofs.Prices.{past-tentative, stores-after}
+use Rattle.release.proofs.Stores.{record-store, done-store}
+use Rattle.release.proofs.step_word.Statement.{statement}
+use Rattle.release.proofs.step_word.Tie as tie
+
+sub-at : tie.Need-sub-at
+sub-at c =
+    let start = c .before .before .before .before in
+    let past = past-tentative _ _ (start .pre .1 .1 .1 .1) in
+    omega arith
+
+step-record-requires : tie.Need-step-record-requires
+step-record-requires c κs =
+    let start = c .before .before .before .before .before in
+    let pre = start .pre in
+    let past = past-tentative _ _ (pre .1 .1 .1 .1) in
+    rw (c .before .before .area-size .ensures) (pre .0, (pre .1 .0, (omega arith, omega arith)))
+
+returns : tie.Need-returns
+returns c primary secondary =
+    let sized = c .before .before .before .before .before in
+    let start = sized .before .before .before in
+    let a = start .args in
+    let pre = start .pre in
+    let past = past-tentative _ _ (pre .1 .1 .1 .1) in
+    let d = homesOf (a .pages) (a .live .now) primary secondary in
+    let place = record-store d (a .backup) (a .memory .now) (a .card) (a .steps) (pre .0 .area) in
+    rw (← place (a .steps - 2 * a .k) (omega arith) (omega arith))
+    (rw (sized .area-size .ensures) at (c .before .before .step-record .ensures))
+
+step-mark-requires : tie.Need-step-mark-requires
+step-mark-requires c κs =
+    let start = c .before .before .before .before .before in
+    let pre = start .pre in
+    rw (c .before .before .area-size .ensures) (pre .0, (pre .1 .0, (omega arith, omega arith)))
+
+returns-2 : tie.Need-returns-2
+returns-2 c primary secondary =
+    let test = c .before .before .before .before in
+    let sized = test .before in
+    let start = sized .before .before .before in
+    let a = start .args in
+    let pre = start .pre in
+    let after = stores-after (a .k) (a .steps) (test .if1 .left) in
+    let past = ltb-false (a .steps) (4 * a .k + 9) (after ∙ pre .1 .1 .1 .1) in
+    let d = homesOf (a .pages) (a .live .now) primary secondary in
+    rw (← done-store d (a .backup) (a .memory .now) (a .card) (a .steps) (pre .0 .area) (omega arith))
+    (rw (sized .area-size .ensures) at (c .before .before .step-mark .ensures))
+
+pub step-word-spec : {M : Type 1} → statement M
+step-word-spec =
+    tie.close
+    (tie.spec (λ c κs. search needs) (λ c. search needs) (λ c. search needs) (λ c. search needs) sub-at
+    (λ c. search needs) step-record-requires (λ c. search needs) returns step-mark-requires (λ c. search needs)
+    returns-2)
