@@ -1,10 +1,13 @@
 //! The calls that are timed, of the proved library and of the second implementation. Releases are number 1 of card 0; a
-//! call that is refused ends the program.
+//! call that is refused, but for `check`, ends the program.
 
 use crate::racks::Rack;
 use compare_calls::raw::*;
 use second::{by_reference, Answer, Directory};
 use std::hint::black_box;
+
+/// Refusal 9: no such page.
+const NO_PAGE: u32 = 9;
 
 pub trait Calls {
     fn rack(&mut self) -> &mut Rack;
@@ -13,6 +16,8 @@ pub trait Calls {
     fn steps(&mut self, count: u32);
     fn fetch(&mut self, page: u32, buffer: &mut [u32]);
     fn fetch_all(&mut self, buffer: &mut [u32]);
+    /// A fetch of a page that the rack does not have: refused with 9, after checks 1, 2 and 11.
+    fn check(&mut self, buffer: &mut [u32]);
     /// A card fails and is recovered; the directory is kept as it was.
     fn fail_and_recover(&mut self, card: u32);
     fn format(&mut self, cards: u32, pages: u32);
@@ -24,6 +29,10 @@ fn accepted(number: u32) {
 
 fn given(answer: Answer) {
     assert!(matches!(answer, Answer::Given(_)), "a timed call was refused");
+}
+
+fn refused(answer: Answer) {
+    assert_eq!(answer, Answer::Refused(NO_PAGE, 0), "a page that is not there was fetched");
 }
 
 /// The proved library, through its C interface.
@@ -61,6 +70,13 @@ impl Calls for Proved {
         let Rack { memory, words, .. } = &self.0;
         let (at, len) = (memory.as_ptr(), memory.len());
         accepted(unsafe { rack_fetch_all(at, len, words.as_ptr(), buffer.as_mut_ptr(), buffer.len()).number });
+    }
+
+    fn check(&mut self, buffer: &mut [u32]) {
+        let Rack { memory, words, directory } = &self.0;
+        let (at, len, page) = (memory.as_ptr(), memory.len(), directory.pages);
+        let answer = unsafe { rack_fetch(at, len, words.as_ptr(), page, buffer.as_mut_ptr(), buffer.len()) };
+        refused(Answer::Refused(answer.number, answer.value));
     }
 
     fn fail_and_recover(&mut self, card: u32) {
@@ -114,6 +130,13 @@ impl Calls for ByValue {
         handed_back(&after, answer);
     }
 
+    fn check(&mut self, buffer: &mut [u32]) {
+        let page = self.0.directory.pages;
+        let (after, answer) = second::fetch_page(&self.0.memory, self.0.directory, page, buffer);
+        black_box(&after);
+        refused(answer);
+    }
+
     fn fail_and_recover(&mut self, card: u32) {
         let (failed, answer) = second::fail_card(&self.0.memory, self.0.directory, card);
         given(answer);
@@ -153,6 +176,11 @@ impl Calls for ByReference {
 
     fn fetch_all(&mut self, buffer: &mut [u32]) {
         given(by_reference::fetch_all(&self.0.memory, &self.0.directory, buffer).0);
+    }
+
+    fn check(&mut self, buffer: &mut [u32]) {
+        let Rack { memory, directory, .. } = &self.0;
+        refused(by_reference::fetch_page(memory, directory, directory.pages, buffer));
     }
 
     fn fail_and_recover(&mut self, card: u32) {

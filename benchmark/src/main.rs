@@ -62,6 +62,7 @@ fn fetches() {
     for (cards, pages) in SIZES {
         let rack = Rack::new(cards, pages, 0);
         row(&format!("fetch, {cards} × {pages}"), &compare(&rack, &Fetch { buffer: [0; 32] }));
+        row(&format!("checks 1, 2 and 11 of it alone, {cards} × {pages}"), &compare(&rack, &Check { buffer: [0; 32] }));
     }
     for (cards, pages) in SIZES {
         let rack = Rack::new(cards, pages, 0);

@@ -31,6 +31,18 @@ impl Work for Fetch {
     }
 }
 
+/// The checks of a fetch, and no page copied.
+#[derive(Clone)]
+pub struct Check {
+    pub buffer: [u32; 32],
+}
+
+impl Work for Check {
+    fn run(&mut self, rack: &mut impl Calls) {
+        rack.check(black_box(&mut self.buffer));
+    }
+}
+
 #[derive(Clone)]
 pub struct FetchAll {
     pub buffer: Vec<u32>,
