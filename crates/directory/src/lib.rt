@@ -4,7 +4,7 @@ ghost use mathlib.Core.Path.{_≡_};
 ghost use Prim.Native.Nat.{_+_, _<_, _≤_};
 ghost use lib.ListN.{length};
 ghost use Rattle.directory.specs.Live.{firstLive, nextLive};
-ghost use Rattle.directory.specs.Directory.{isLive, primaryOf, secondaryOf, awaitsCard};
+ghost use Rattle.directory.specs.Directory.{isLive, primaryOf, secondaryOf};
 ghost use Rattle.directory.specs.Directory.{nextLiveOf, backupOf};
 ghost use Rattle.directory.specs.Directory.{markedDead, markedLive, withHomes, withStatus};
 ghost use Rattle.directory.specs.Directory.{formattedMarks, formattedPrimary};
@@ -81,17 +81,6 @@ impl Directory {
     {
         let at = page as usize;
         if at < 64 { self.secondary[at] } else { 0 }
-    }
-
-    // Whether recovery of `card` is awaited.
-    pub fn awaits(self, card: u32) -> bool
-        ensures { λ r. ⌜ r ≡ awaitsCard (self .status) card ⌝ }
-    {
-        let status = self.status;
-        match status {
-            Status::Running => false,
-            Status::Awaiting(awaited) => awaited == card,
-        }
     }
 
     pub fn next_live(self, card: u32) -> u32
