@@ -7,9 +7,6 @@ use Rattle.maker.proofs.Turns.{header-at-page, header-at-run, header-at
 use Rattle.maker.proofs.header_length.Statement.{statement}
 use Rattle.maker.proofs.header_length.Tie as tie
 
-mul-if1 : tie.Need-mul-if1
-mul-if1 c = search needs
-
 returns : tie.Need-returns
 returns c = (omega arith, λ working twins. sym (ap length (header-at-page working twins _ _ (c .if1 .taken))))
 
@@ -30,4 +27,5 @@ returns-3 c =
     )
 
 pub header-length-spec : {M : Type 1} → statement M
-header-length-spec = tie.close (tie.spec mul-if1 returns returns-2 returns-3)
+header-length-spec = tie.close
+    (tie.spec (λ c. search needs) returns returns-2 returns-3)

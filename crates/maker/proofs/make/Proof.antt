@@ -10,9 +10,6 @@ use Rattle.diff.proofs.OnlyDiff.{lent-pages}
 use Rattle.maker.proofs.make.Statement.{statement}
 use Rattle.maker.proofs.make.Tie as tie
 
-lent-pages-requires : tie.Need-lent-pages-requires
-lent-pages-requires c κs = search needs
-
 count-words-requires : tie.Need-count-words-requires
 count-words-requires c κs =
     let lent = lent-pages _ _ (sym (c .before .lent-pages .ensures) ∙ c .if1 .taken) in
@@ -43,9 +40,6 @@ write-diff-requires c κs =
     let lent = lent-pages _ _ (sym (counted .before .before .lent-pages .ensures) ∙ counted .before .if1 .taken) in
     search needs
 
-same-length : tie.Need-same-length
-same-length c = search needs
-
 returns-3 : tie.Need-returns-3
 unfolding makeDiff
 returns-3 c =
@@ -68,12 +62,5 @@ returns-4 c =
 pub make-spec : {M : Type 1} → statement M
 make-spec =
     tie.close
-    (tie.spec
-    lent-pages-requires
-    count-words-requires
-    returns
-    returns-2
-    write-diff-requires
-    same-length
-    returns-3
-    returns-4)
+    (tie.spec (λ c κs. search needs) count-words-requires returns returns-2 write-diff-requires (λ c. search needs)
+    returns-3 returns-4)

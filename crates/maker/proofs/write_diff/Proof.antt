@@ -25,24 +25,6 @@ abbrev μ-loop : tie.MeasureT-loop
 loop-holds : tie.Need-loop-holds Inv-loop μ-loop
 loop-holds c = (omega arith, refl, omega (arith, length-made (c .before .before .before .pre .0)), refl)
 
-mul-if1 : tie.Need-mul-if1 Inv-loop μ-loop
-mul-if1 c = search needs
-
-shared-slice-read-if1 : tie.Need-shared-slice-read-if1 Inv-loop μ-loop
-shared-slice-read-if1 c = search needs
-
-mul-if1-2 : tie.Need-mul-if1-2 Inv-loop μ-loop
-mul-if1-2 c = search needs
-
-shared-slice-read-if1-2 : tie.Need-shared-slice-read-if1-2 Inv-loop μ-loop
-shared-slice-read-if1-2 c = search needs
-
-add-label : tie.Need-add-label Inv-loop μ-loop
-add-label c = search needs
-
-loop-less : tie.Need-loop-less Inv-loop μ-loop
-loop-less c = search needs
-
 loop-again : tie.Need-loop-again Inv-loop μ-loop
 loop-again c =
     let turn = c .before .before .before in
@@ -59,27 +41,6 @@ write-header-requires c κs =
     let more = length-body-on lent (at .next) _ (turn .loop-test .taken) refl (c .before .if1 .left) in
     (lent, (search needs, omega arith))
 
-mul-buffer : tie.Need-mul-buffer Inv-loop μ-loop
-mul-buffer c = search needs
-
-shared-slice-read-buffer : tie.Need-shared-slice-read-buffer Inv-loop μ-loop
-shared-slice-read-buffer c = search needs
-
-mul-buffer-2 : tie.Need-mul-buffer-2 Inv-loop μ-loop
-mul-buffer-2 c = search needs
-
-slice-write-buffer : tie.Need-slice-write-buffer Inv-loop μ-loop
-slice-write-buffer c = search needs
-
-add-at : tie.Need-add-at Inv-loop μ-loop
-add-at c = search needs
-
-add-label-2 : tie.Need-add-label-2 Inv-loop μ-loop
-add-label-2 c = search needs
-
-loop-less-2 : tie.Need-loop-less-2 Inv-loop μ-loop
-loop-less-2 c = search needs
-
 loop-again-2 : tie.Need-loop-again-2 Inv-loop μ-loop
 loop-again-2 c =
     let turn = c .before .before .before .before .before .before .before .before in
@@ -90,18 +51,6 @@ loop-again-2 c =
     let more = length-body-on lent (at .next) _ (turn .loop-test .taken) refl differ in
     let stored = body-on-stored lent (at .next) _ (turn .loop-test .taken) (at .buffer) (at .at) differ in
     (omega arith, simp length-set (search needs), omega arith, rw (wrote .0, wrote .1) (stored ∙ at .inv .3))
-
-cast-buffer : tie.Need-cast-buffer Inv-loop μ-loop
-cast-buffer c = search needs
-
-add-buffer : tie.Need-add-buffer Inv-loop μ-loop
-add-buffer c = search needs
-
-mul-buffer-3 : tie.Need-mul-buffer-3 Inv-loop μ-loop
-mul-buffer-3 c = search needs
-
-slice-write-buffer-2 : tie.Need-slice-write-buffer-2 Inv-loop μ-loop
-slice-write-buffer-2 c = search needs
 
 same-length : tie.Need-same-length Inv-loop μ-loop
 same-length c = simp length-set (search needs)
@@ -116,29 +65,8 @@ returns c =
 pub write-diff-spec : {M : Type 1} → statement M
 write-diff-spec =
     tie.close
-    (tie.spec
-    Inv-loop
-    μ-loop
-    loop-holds
-    mul-if1
-    shared-slice-read-if1
-    mul-if1-2
-    shared-slice-read-if1-2
-    add-label
-    loop-less
-    loop-again
-    write-header-requires
-    mul-buffer
-    shared-slice-read-buffer
-    mul-buffer-2
-    slice-write-buffer
-    add-at
-    add-label-2
-    loop-less-2
-    loop-again-2
-    cast-buffer
-    add-buffer
-    mul-buffer-3
-    slice-write-buffer-2
-    same-length
-    returns)
+    (tie.spec Inv-loop μ-loop loop-holds (λ c. search needs) (λ c. search needs) (λ c. search needs)
+    (λ c. search needs) (λ c. search needs) (λ c. search needs) loop-again write-header-requires (λ c. search needs)
+    (λ c. search needs) (λ c. search needs) (λ c. search needs) (λ c. search needs) (λ c. search needs)
+    (λ c. search needs) loop-again-2 (λ c. search needs) (λ c. search needs) (λ c. search needs) (λ c. search needs)
+    same-length returns)

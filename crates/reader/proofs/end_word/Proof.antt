@@ -4,9 +4,6 @@ use borrow.Author.Needs.{needs}
 use Rattle.reader.proofs.end_word.Statement.{statement}
 use Rattle.reader.proofs.end_word.Tie as tie
 
-cast-own : tie.Need-cast-own
-cast-own c = search needs
-
 returns : tie.Need-returns
 returns c = simp (eq-eqb _ _ (c .if1 .taken))
 
@@ -17,4 +14,5 @@ returns-3 : tie.Need-returns-3
 returns-3 c = simp (ne-eqb _ _ (c .before .if1 .left), ne-eqb _ _ (c .if2 .left))
 
 pub end-word-spec : {M : Type 1} → statement M
-end-word-spec = tie.close (tie.spec cast-own returns returns-2 returns-3)
+end-word-spec = tie.close
+    (tie.spec (λ c. search needs) returns returns-2 returns-3)

@@ -10,9 +10,6 @@ returns c = simp (eq-eqb _ _ (c .if1 .taken))
 returns-2 : tie.Need-returns-2
 returns-2 c = simp (ne-eqb _ _ (c .before .before .if1 .left), lt-ltb _ _ (c .if2 .taken))
 
-add-t7 : tie.Need-add-t7
-add-t7 c = search needs
-
 returns-3 : tie.Need-returns-3
 returns-3 c = simp (
   ne-eqb _ _ (c .before .before .before .if1 .left),
@@ -30,4 +27,5 @@ returns-4 c = simp (
 )
 
 pub page-word-spec : {M : Type 1} → statement M
-page-word-spec = tie.close (tie.spec returns returns-2 add-t7 returns-3 returns-4)
+page-word-spec = tie.close
+    (tie.spec returns returns-2 (λ c. search needs) returns-3 returns-4)

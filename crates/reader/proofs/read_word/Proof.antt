@@ -5,21 +5,9 @@ use Rattle.diff.specs.Reading.{wordStep}
 use Rattle.reader.proofs.read_word.Statement.{statement}
 use Rattle.reader.proofs.read_word.Tie as tie
 
-price-read-requires : tie.Need-price-read-requires
-price-read-requires c κs = search needs
-
 returns : tie.Need-returns
 unfolding wordStep
 returns c = simp (c .price-read .ensures, lt-ltb _ _ (c .before .if1 .taken))
-
-page-word-requires : tie.Need-page-word-requires
-page-word-requires c κs = search needs
-
-run-word-requires : tie.Need-run-word-requires
-run-word-requires c κs = search needs
-
-end-word-requires : tie.Need-end-word-requires
-end-word-requires c κs = search needs
 
 returns-2 : tie.Need-returns-2
 unfolding wordStep
@@ -51,14 +39,5 @@ returns-6 c =
 pub read-word-spec : {M : Type 1} → statement M
 read-word-spec =
     tie.close
-    (tie.spec
-    price-read-requires
-    returns
-    page-word-requires
-    run-word-requires
-    end-word-requires
-    returns-2
-    returns-3
-    returns-4
-    returns-5
-    returns-6)
+    (tie.spec (λ c κs. search needs) returns (λ c κs. search needs) (λ c κs. search needs) (λ c κs. search needs)
+    returns-2 returns-3 returns-4 returns-5 returns-6)

@@ -10,9 +10,6 @@ returns c = simp (eq-eqb _ _ (c .if1 .taken))
 returns-2 : tie.Need-returns-2
 returns-2 c = simp (ne-eqb _ _ (c .before .if1 .left), eq-eqb _ _ (c .if2 .taken))
 
-add-if3 : tie.Need-add-if3
-add-if3 c = search needs
-
 returns-3 : tie.Need-returns-3
 returns-3 c = simp (
   ne-eqb _ _ (c .before .before .if1 .left),
@@ -20,9 +17,6 @@ returns-3 c = simp (
   lt-ltb _ _
       (c .if3 .taken),
 )
-
-add-if4 : tie.Need-add-if4
-add-if4 c = search needs
 
 returns-4 : tie.Need-returns-4
 returns-4 c = simp (
@@ -44,4 +38,5 @@ returns-5 c = simp (
 
 pub run-word-spec : {M : Type 1} → statement M
 run-word-spec =
-    tie.close (tie.spec returns returns-2 add-if3 returns-3 add-if4 returns-4 returns-5)
+    tie.close
+    (tie.spec returns returns-2 (λ c. search needs) returns-3 (λ c. search needs) returns-4 returns-5)
