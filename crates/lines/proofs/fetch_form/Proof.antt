@@ -37,12 +37,5 @@ returns-3 c = simp (ne-eqb _ _ (c .if1 .left))
 pub fetch-form-spec : {M : Type 1} → statement M
 fetch-form-spec =
     tie.close
-    (tie.spec
-    (λ c. search needs)
-    (λ c. search needs)
-    (λ c κs. search needs)
-    cast-t12
-    cast-t13
-    returns
-    returns-2
+    (tie.spec (λ c. search needs) (λ c. search needs) (λ c κs. search needs) cast-t12 cast-t13 returns returns-2
     returns-3)

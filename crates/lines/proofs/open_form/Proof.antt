@@ -38,15 +38,5 @@ returns-3 c = simp (ne-eqb _ _ (c .if1 .left))
 pub open-form-spec : {M : Type 1} → statement M
 open-form-spec =
     tie.close
-    (tie.spec
-    (λ c. search needs)
-    (λ c. search needs)
-    (λ c κs. search needs)
-    (λ c. search needs)
-    (λ c. search needs)
-    cast-t18
-    cast-t19
-    (λ c. search needs)
-    returns
-    returns-2
-    returns-3)
+    (tie.spec (λ c. search needs) (λ c. search needs) (λ c κs. search needs) (λ c. search needs) (λ c. search needs)
+    cast-t18 cast-t19 (λ c. search needs) returns returns-2 returns-3)
