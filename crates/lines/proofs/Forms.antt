@@ -1,6 +1,6 @@
 -- A form looks at the fields that have ended alone, and none has more than six.
 use Prim.Native.Nat.{ℕ, _≤_, _<_}
-use mathlib.Core.Path.{_≡_, refl}
+use mathlib.Core.Path.{_≡_, refl, sym, _∙_}
 use mathlib.Core.List.{List}
 use mathlib.Core.Bool.{Bool, true, false, cond}
 use native.Mathlib.Omega.{arith}
@@ -13,13 +13,14 @@ use Rattle.lines.specs.declared.Command.{Command}
 use Rattle.lines.specs.declared.Command.the-variants.{Unreadable}
 use Rattle.lines.specs.Command.{field, isLabel, openForm, stepForm, failForm, joinForm, fetchForm, formOf}
 
--- the page and the word of a label are small
-pub label-small : (page word : ℕ) → isLabel page word ≡ true → (page ≤ 63) × (word ≤ 31)
+-- the page and the word of a label are small, where a test tells whether it is one
+pub label-small : (page word : ℕ) {is : Bool} → is ≡ isLabel page word → is ≡ true → (page ≤ 63) × (word ≤ 31)
 unfolding isLabel
-label-small page word label = (
-  leb-true page 63 (and-first (leb page 63) (leb word 31) label),
-  leb-true word 31 (and-second (leb page 63) (leb word 31) label),
-)
+label-small page word told holds =
+    let label = sym told ∙ holds in (
+      leb-true page 63 (and-first (leb page 63) (leb word 31) label),
+      leb-true word 31 (and-second (leb page 63) (leb word 31) label),
+    )
 
 module _ (f : List ℕ) (n : ℕ) where
   kept : (i : ℕ) → i < n → field (take n f) i ≡ field f i

@@ -9,16 +9,10 @@ use Rattle.lines.proofs.fetch_form.Statement.{statement}
 use Rattle.lines.proofs.fetch_form.Tie as tie
 
 cast-t12 : tie.Need-cast-t12
-cast-t12 c =
-    let label = sym (c .before .is-label .ensures) ∙ c .if2 .taken in
-    let small = label-small _ _ label in
-    omega arith
+cast-t12 c = omega (arith, label-small _ _ (c .before .is-label .ensures) (c .if2 .taken))
 
 cast-t13 : tie.Need-cast-t13
-cast-t13 c =
-    let label = sym (c .before .is-label .ensures) ∙ c .if2 .taken in
-    let small = label-small _ _ label in
-    omega arith
+cast-t13 c = omega (arith, label-small _ _ (c .before .is-label .ensures) (c .if2 .taken))
 
 returns : tie.Need-returns
 unfolding fetchForm

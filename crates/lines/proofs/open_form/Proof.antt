@@ -10,15 +10,11 @@ use Rattle.lines.proofs.open_form.Tie as tie
 
 cast-t18 : tie.Need-cast-t18
 cast-t18 c =
-    let label = sym (c .before .before .before .is-label .ensures) ∙ c .before .before .if2 .taken in
-    let small = label-small _ _ label in
-    omega arith
+    omega (arith, label-small _ _ (c .before .before .before .is-label .ensures) (c .before .before .if2 .taken))
 
 cast-t19 : tie.Need-cast-t19
 cast-t19 c =
-    let label = sym (c .before .before .before .is-label .ensures) ∙ c .before .before .if2 .taken in
-    let small = label-small _ _ label in
-    omega arith
+    omega (arith, label-small _ _ (c .before .before .before .is-label .ensures) (c .before .before .if2 .taken))
 
 returns : tie.Need-returns
 unfolding openForm
