@@ -70,10 +70,7 @@ fn in_motion(memory: &[u32], size: usize, pages: u32, live: &[bool], page: u32, 
     if crate::is_open(memory, size, live, card) {
         let list = crate::open_list(memory, size, card);
         let tally = tally_prices(list, pages, page);
-        if counts(memory, size, card, tally.prices) {
-            return tally.named;
-        }
-        return false;
+        return counts(memory, size, card, tally.prices) & tally.named;
     }
     false
 }

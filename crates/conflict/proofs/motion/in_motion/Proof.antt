@@ -10,27 +10,12 @@ returns c =
     let lent = c .before .before .before in
     let entry = lent .before .before .before .before .before in
     let is = lent .before .before .is-open .ensures in
-    let tally = c .before .before .tally-prices in
-    rw (
-      motion-list _ _ _ (entry .pre .0 .0) _ is (lent .before .if1 .taken) (lent .open-list .ensures .0) _
-          (tally .ensures) (c .before .counts .ensures),
-      c .if2 .taken,
-    )
+    sym
+    (motion-list _ _ _ (entry .pre .0 .0) _ is (lent .before .if1 .taken) (lent .open-list .ensures .0) _
+    (c .before .before .tally-prices .ensures) (c .before .counts .ensures))
 
 returns-2 : tie.Need-returns-2
 returns-2 c =
-    let lent = c .before .before .before in
-    let entry = lent .before .before .before .before .before in
-    let is = lent .before .before .is-open .ensures in
-    let tally = c .before .before .tally-prices in
-    rw (
-      motion-list _ _ _ (entry .pre .0 .0) _ is (lent .before .if1 .taken) (lent .open-list .ensures .0) _
-          (tally .ensures) (c .before .counts .ensures),
-      c .if2 .left,
-    )
-
-returns-3 : tie.Need-returns-3
-returns-3 c =
     let entry = c .before .before .before .before in
     sym (motion-not _ _ _ (entry .pre .0 .0) _ (c .before .is-open .ensures) (c .if1 .left) _)
 
@@ -38,4 +23,4 @@ pub in-motion-spec : {M : Type 1} → statement M
 in-motion-spec =
     tie.close
     (tie.spec (λ c κs. search needs) (λ c κs. search needs) (λ c κs. search needs) (λ c κs. search needs) returns
-    returns-2 returns-3)
+    returns-2)
