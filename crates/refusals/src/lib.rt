@@ -3,12 +3,13 @@
 // arrays are lent one by one: a directory handed on by value would be copied at each call.
 ghost use mathlib.Core.Path.{_≡_};
 ghost use Prim.Native.Nat.{_*_, _<_, _≤_};
+ghost use mathlib.Core.List.{[], _∷_};
 ghost use lib.ListN.{length};
 ghost use Rattle.answer.specs.Outcome.{refusedAt};
 ghost use Rattle.memory.specs.Layout.{areaSize};
 ghost use Rattle.directory.specs.Directory.{directoryOf};
 ghost use Rattle.diff.specs.Reading.{checkDiff};
-ghost use Rattle.protocol.specs.Checks.{firstRefusal};
+ghost use Rattle.protocol.specs.Checks.{check, firstRefusal};
 ghost use Rattle.protocol.specs.Opening.{openingChecks};
 ghost use Rattle.protocol.specs.Step.{stepChecks};
 ghost use Rattle.protocol.specs.Fetch.{fetchChecks};
@@ -28,6 +29,16 @@ fn refused(number: u32, place: u64) -> Outcome
         number,
         value: place,
     }
+}
+
+// What the last check of a call comes to.
+fn last_check(refuses: bool, number: u32) -> Outcome
+    ensures { λ r. ⌜ r ≡ firstRefusal (check refuses number ∷ []) 0 ⌝ }
+{
+    if refuses {
+        return refused(number, 0);
+    }
+    refused(0, 0)
 }
 
 // ---- opening a release
@@ -153,10 +164,10 @@ pub fn step(
         return refused(first, 0);
     }
     let size = memory::area_size(pages);
-    if conflict::is_open(memory, size, live, card as usize) {
-        return refused(0, 0);
-    }
-    refused(answer::NONE_OPEN, 0)
+    last_check(
+        !conflict::is_open(memory, size, live, card as usize),
+        answer::NONE_OPEN,
+    )
 }
 
 // `room`: how many words the page buffer has.
@@ -191,10 +202,7 @@ pub fn fetch(
     if card < cards {
         return refused(answer::PAGE_IN_MOTION, card as u64);
     }
-    if room != 32 {
-        return refused(answer::WRONG_BUFFER, 0);
-    }
-    refused(0, 0)
+    last_check(room != 32, answer::WRONG_BUFFER)
 }
 
 pub fn failure(
@@ -220,10 +228,7 @@ pub fn failure(
     if first != 0 {
         return refused(first, 0);
     }
-    if checks::count_live(live, cards) <= 2 {
-        return refused(answer::TWO_LIVE, 0);
-    }
-    refused(0, 0)
+    last_check(checks::count_live(live, cards) <= 2, answer::TWO_LIVE)
 }
 
 pub fn desk_question(
@@ -307,8 +312,8 @@ pub fn join(
     if live[at] {
         return refused(answer::CARD_LIVE, 0);
     }
-    if conflict::any_open(memory, cards, pages, live) {
-        return refused(answer::JOIN_WHILE_OPEN, 0);
-    }
-    refused(0, 0)
+    last_check(
+        conflict::any_open(memory, cards, pages, live),
+        answer::JOIN_WHILE_OPEN,
+    )
 }

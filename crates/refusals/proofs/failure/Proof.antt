@@ -2,9 +2,8 @@
 use mathlib.Core.Path.{refl}
 use native.Mathlib.Omega.{arith}
 use borrow.Author.Needs.{needs}
-use borrow.Author.Tests.{le-leb, lt-leb}
 use Rattle.directory.specs.Directory.{directoryOf}
-use Rattle.checks.proofs.Order.{refused-before, passed-before, first-refuses, last-passes}
+use Rattle.checks.proofs.Order.{refused-before, passed-before}
 use Rattle.checks.proofs.Passing.{live-card-within}
 use Rattle.refusals.proofs.failure.Statement.{statement}
 use Rattle.refusals.proofs.failure.Tie as tie
@@ -25,26 +24,12 @@ count-live-requires c κs =
 
 returns-2 : tie.Need-returns-2
 returns-2 c =
-    let counted = c .before .before in
-    let test = counted .before in
-    rw (
-      passed-before _ _ _ refl (test .before .live-card .ensures) (test .if1 .left),
-      first-refuses _ _ _ _ _ (rw (counted .count-live .ensures) at (le-leb _ _ (c .before .if2 .taken))),
-    )
-    (c .refused2 .ensures)
-
-returns-3 : tie.Need-returns-3
-returns-3 c =
-    let counted = c .before .before in
-    let test = counted .before in
-    rw (
-      passed-before _ _ _ refl (test .before .live-card .ensures) (test .if1 .left),
-      last-passes _ _ _ _ (rw (counted .count-live .ensures) at (lt-leb _ _ (c .before .if2 .left))),
-    )
-    (c .refused3 .ensures)
+    let test = c .before .before in
+    rw (passed-before _ _ _ refl (test .before .live-card .ensures) (test .if1 .left))
+    (rw (c .before .count-live .ensures) at (c .last-check .ensures))
 
 pub failure-spec : {M : Type 1} → statement M
 failure-spec =
     tie.close
     (tie.spec (λ c κs. search needs) (λ c κs. search needs) returns count-live-requires (λ c κs. search needs)
-    returns-2 (λ c κs. search needs) returns-3)
+    returns-2)

@@ -1,11 +1,10 @@
 -- Rests on the order of checks: those of a running rack, then its own tests in the same order.
-use mathlib.Core.Bool.{not}
-use mathlib.Core.Path.{refl, ap}
+use mathlib.Core.Path.{refl}
 use native.Mathlib.Omega.{arith}
 use borrow.Author.Needs.{needs}
-use borrow.Author.Tests.{eq-eqb, ne-eqb, lt-ltb, le-ltb, le-leb, lt-leb}
+use borrow.Author.Tests.{lt-ltb, le-ltb, le-leb, lt-leb}
 use Rattle.directory.specs.Directory.{directoryOf}
-use Rattle.checks.proofs.Order.{refused-before, passed-before, first-refuses, first-passes, last-passes}
+use Rattle.checks.proofs.Order.{refused-before, passed-before, first-refuses, first-passes}
 use Rattle.checks.proofs.Passing.{running-within}
 use Rattle.refusals.proofs.fetch.Statement.{statement}
 use Rattle.refusals.proofs.fetch.Tie as tie
@@ -49,37 +48,19 @@ returns-3 c =
 
 returns-4 : tie.Need-returns-4
 returns-4 c =
-    let test-3 = c .before .before in
+    let test-3 = c .before in
     let searched = test-3 .before in
     let test-2 = searched .before in
     let test = test-2 .before in
-    let found = searched .lowest-in-motion .ensures in
     rw (
       passed-before _ _ _ refl (test .before .running .ensures) (test .if1 .left),
       first-passes _ _ _ _ _ (lt-leb _ _ (test-2 .if2 .left)),
-      first-passes _ _ _ _ _ (rw found at (le-ltb _ _ (test-3 .if3 .left))),
-      first-refuses _ _ _ _ _ (ap not (ne-eqb _ _ (c .before .if4 .taken))),
+      first-passes _ _ _ _ _ (rw (searched .lowest-in-motion .ensures) at (le-ltb _ _ (test-3 .if3 .left))),
     )
-    (c .refused4 .ensures)
-
-returns-5 : tie.Need-returns-5
-returns-5 c =
-    let test-3 = c .before .before in
-    let searched = test-3 .before in
-    let test-2 = searched .before in
-    let test = test-2 .before in
-    let found = searched .lowest-in-motion .ensures in
-    rw (
-      passed-before _ _ _ refl (test .before .running .ensures) (test .if1 .left),
-      first-passes _ _ _ _ _ (lt-leb _ _ (test-2 .if2 .left)),
-      first-passes _ _ _ _ _ (rw found at (le-ltb _ _ (test-3 .if3 .left))),
-      last-passes _ _ _ _ (ap not (eq-eqb _ _ (c .before .if4 .left))),
-    )
-    (c .refused5 .ensures)
+    (c .last-check .ensures)
 
 pub fetch-spec : {M : Type 1} → statement M
 fetch-spec =
     tie.close
     (tie.spec (λ c κs. search needs) (λ c κs. search needs) returns (λ c κs. search needs) returns-2
-    lowest-in-motion-requires (λ c. search needs) (λ c κs. search needs) returns-3 (λ c κs. search needs) returns-4
-    (λ c κs. search needs) returns-5)
+    lowest-in-motion-requires (λ c. search needs) (λ c κs. search needs) returns-3 (λ c κs. search needs) returns-4)

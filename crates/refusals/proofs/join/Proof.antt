@@ -1,9 +1,9 @@
 -- Rests on the order of checks: those for a card, then its own tests in the same order.
-use mathlib.Core.Path.{refl, sym, _∙_}
+use mathlib.Core.Path.{refl}
 use native.Mathlib.Omega.{arith}
 use borrow.Author.Needs.{needs}
 use Rattle.directory.specs.Directory.{directoryOf}
-use Rattle.checks.proofs.Order.{refused-before, passed-before, first-refuses, first-passes, last-passes}
+use Rattle.checks.proofs.Order.{refused-before, passed-before, first-refuses, first-passes}
 use Rattle.checks.proofs.Passing.{card-within}
 use Rattle.refusals.proofs.join.Statement.{statement}
 use Rattle.refusals.proofs.join.Tie as tie
@@ -44,30 +44,16 @@ any-open-requires c κs =
 
 returns-3 : tie.Need-returns-3
 returns-3 c =
-    let searched = c .before .before in
-    let test-2 = searched .before in
+    let test-2 = c .before .before in
     let test = test-2 .before .before in
     rw (
       passed-before _ _ _ refl (test .before .card .ensures) (test .if1 .left),
       first-passes _ _ _ _ _ (test-2 .if2 .left),
-      first-refuses _ _ _ _ _ (sym (searched .any-open .ensures) ∙ c .before .if3 .taken),
     )
-    (c .refused3 .ensures)
-
-returns-4 : tie.Need-returns-4
-returns-4 c =
-    let searched = c .before .before in
-    let test-2 = searched .before in
-    let test = test-2 .before .before in
-    rw (
-      passed-before _ _ _ refl (test .before .card .ensures) (test .if1 .left),
-      first-passes _ _ _ _ _ (test-2 .if2 .left),
-      last-passes _ _ _ _ (sym (searched .any-open .ensures) ∙ c .before .if3 .left),
-    )
-    (c .refused4 .ensures)
+    (rw (c .before .any-open .ensures) at (c .last-check .ensures))
 
 pub join-spec : {M : Type 1} → statement M
 join-spec =
     tie.close
     (tie.spec (λ c κs. search needs) (λ c κs. search needs) returns mark-read (λ c κs. search needs) returns-2
-    any-open-requires (λ c κs. search needs) returns-3 (λ c κs. search needs) returns-4)
+    any-open-requires (λ c κs. search needs) returns-3)

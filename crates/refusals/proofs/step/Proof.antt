@@ -1,11 +1,10 @@
 -- Rests on the order of checks: those for a live card, then whether a release is open.
-use mathlib.Core.Bool.{not}
-use mathlib.Core.Path.{refl, sym, ap, _∙_}
+use mathlib.Core.Path.{refl}
 use native.Mathlib.Omega.{arith}
 use borrow.Author.Needs.{needs}
 use Rattle.memory.proofs.Index.{area-in}
 use Rattle.directory.specs.Directory.{directoryOf}
-use Rattle.checks.proofs.Order.{refused-before, passed-before, first-refuses, last-passes}
+use Rattle.checks.proofs.Order.{refused-before, passed-before}
 use Rattle.checks.proofs.Passing.{live-card-within}
 use Rattle.refusals.proofs.step.Statement.{statement}
 use Rattle.refusals.proofs.step.Tie as tie
@@ -36,30 +35,13 @@ is-open-requires c κs =
 
 returns-2 : tie.Need-returns-2
 returns-2 c =
-    let sized = c .before .before .before in
+    let sized = c .before .before in
     let test = sized .before in
-    let test-2 = c .before in
-    let is = rw (sized .area-size .ensures) at (test-2 .before .is-open .ensures) in
-    rw (
-      passed-before _ _ _ refl (test .before .live-card .ensures) (test .if1 .left),
-      last-passes _ _ _ _ (ap not (sym is ∙ test-2 .if2 .taken)),
-    )
-    (c .refused2 .ensures)
-
-returns-3 : tie.Need-returns-3
-returns-3 c =
-    let sized = c .before .before .before in
-    let test = sized .before in
-    let test-2 = c .before in
-    let is = rw (sized .area-size .ensures) at (test-2 .before .is-open .ensures) in
-    rw (
-      passed-before _ _ _ refl (test .before .live-card .ensures) (test .if1 .left),
-      first-refuses _ _ _ _ _ (ap not (sym is ∙ test-2 .if2 .left)),
-    )
-    (c .refused3 .ensures)
+    let is = rw (sized .area-size .ensures) at (c .before .is-open .ensures) in
+    rw (passed-before _ _ _ refl (test .before .live-card .ensures) (test .if1 .left)) (rw is at (c .last-check .ensures))
 
 pub step-spec : {M : Type 1} → statement M
 step-spec =
     tie.close
     (tie.spec (λ c κs. search needs) (λ c κs. search needs) returns area-size-requires is-open-requires
-    (λ c κs. search needs) returns-2 (λ c κs. search needs) returns-3)
+    (λ c κs. search needs) returns-2)
