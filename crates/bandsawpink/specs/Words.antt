@@ -1,7 +1,7 @@
 -- The directory as 139 words, which is how it crosses to C: cards, pages, the awaited card, marks, homes.
 -- Assumes nothing: these are definitions.
 use Prim.Native.Nat.{ℕ, _+_}
-use mathlib.Core.List.{List, [], _∷_, _++_}
+use mathlib.Core.List.{List, _∷_, _++_}
 use mathlib.Core.Bool.{Bool, cond}
 use lib.Dec.{ltb, eqb}
 use lib.ListN.{getD, take, drop}

@@ -1,9 +1,7 @@
 // The directory as words, which is how it crosses to C: cards, pages, the awaited card, 8 marks, 64
 // primary homes, 64 secondary homes. Any words are a directory.
 ghost use mathlib.Core.Path.{_≡_};
-ghost use mathlib.Core.Bool.{cond};
 ghost use Prim.Native.Nat.{_+_, _≤_};
-ghost use lib.Dec.{eqb};
 ghost use lib.ListN.{length, take, drop};
 ghost use lib.Seq.{sets};
 ghost use Rattle.bandsawpink.specs.Words.{statusIn, marksIn, directoryIn};

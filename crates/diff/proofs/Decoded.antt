@@ -1,13 +1,13 @@
 -- The encoding of ascending prices reads well, and reading gives the prices back.
-use Prim.Native.Nat.{ℕ, zero, suc, _+_, _-_, _*_, _≤_, _<_}
+use Prim.Native.Nat.{ℕ, _+_, _-_, _*_, _≤_, _<_}
 use mathlib.Core.Path.{_≡_, refl, sym, ap, _∙_, subst}
-use mathlib.Core.List.{List, [], _∷_, _++_}
+use mathlib.Core.List.{List, [], _∷_}
 use mathlib.Core.Bool.{Bool, true, false, true≢false}
 use native.Mathlib.Omega.{arith}
-use native.Mathlib.Decide.{ℕ-discrete, decLt}
-use lib.ListN.{length, length-append}
-use Rattle.diff.specs.Format.{pageWord, runWord, endWord}
-use Rattle.diff.specs.Reading.{Cursor, start, pastPrice, pastPage, pastRun}
+use native.Mathlib.Decide.{decLt}
+use lib.ListN.{length}
+use Rattle.diff.specs.Format.{endWord}
+use Rattle.diff.specs.Reading.{Cursor, start, pastPrice, pastPage}
 use Rattle.diff.specs.Prices.{Price, labelOf, pricedWord}
 use Rattle.diff.specs.Making.{follows, runLength, encodeFrom}
 use Rattle.diff.proofs.Derivation.{Reads, reads-end, reads-page, reads-run, reads-price}

@@ -1,10 +1,9 @@
 -- Demand 2 on diffs: the made diff is allowed, turns the twins into the working pages, names what differs, and is
 -- the only one.
-use Prim.Native.Nat.{ℕ, zero, suc, _+_, _-_, _*_, _%_, _≤_, _<_}
+use Prim.Native.Nat.{ℕ, _+_, _-_, _*_, _%_, _≤_, _<_}
 use mathlib.Core.Path.{_≡_, refl, sym, ap, _∙_}
-use mathlib.Core.Logic.{_≢_}
-use mathlib.Core.List.{List, [], _∷_, _++_}
-use mathlib.Core.Bool.{Bool, true, false, cond, _&&_, true≢false}
+use mathlib.Core.List.{List}
+use mathlib.Core.Bool.{Bool, true, false, cond}
 use native.Mathlib.Omega.{arith}
 use native.Mathlib.Nat.{zero-add}
 use native.Mathlib.Decide.{decLt}
@@ -12,14 +11,13 @@ use borrow.Author.Tests.{eqb-true, leb-true, ltb-false, le-ltb}
 use lib.ListN.{length, getD, length-append, List·getD-eq-default}
 use lib.Seq.{ext-getD}
 use lib.Dec.{eqb, leb, ltb}
-use Rattle.answer.specs.declared.Outcome.{Outcome}
 use Rattle.answer.specs.Outcome.{given, refused, refusedAt, limits, faultyList, wrongBuffer}
-use Rattle.laws.proofs.Bools.{and-first, and-second, cond-first}
-use Rattle.diff.specs.Format.{endWord, mostWords}
-use Rattle.diff.specs.Reading.{start, readFrom, readDiff, wholeDiff, checkDiff}
+use Rattle.laws.proofs.Bools.{and-first, and-second}
+use Rattle.diff.specs.Format.{mostWords}
+use Rattle.diff.specs.Reading.{start, readDiff, wholeDiff, checkDiff}
 use Rattle.diff.specs.declared.Verdict.{Verdict}
 use Rattle.diff.specs.declared.Verdict.the-variants.{Good, Faulty}
-use Rattle.diff.specs.Prices.{Price, pricesOf, pricesFrom, names, lay}
+use Rattle.diff.specs.Prices.{Price, pricesOf, pricesFrom, lay}
 use Rattle.diff.specs.Making.{changes, encodeFrom, madeDiff, makeDiff, lentPages}
 use Rattle.diff.specs.OnlyDiff.{Allowed, Turns, Names, Differs, MadeIsOnly, MadeIsOnlyDiff}
 use Rattle.diff.proofs.Derivation.{Reads, reads-good, reads-prices, reads-derived, reads-some, ReadsWhole}

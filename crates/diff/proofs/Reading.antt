@@ -1,22 +1,16 @@
 -- Reading a diff as a derivation: what each word was, and the prices of the words that follow.
-use Prim.Native.Nat.{ℕ, zero, suc, _+_, _-_, _≤_, _<_}
-use mathlib.Core.Path.{_≡_, refl, sym, ap, _∙_, subst}
-use mathlib.Core.List.{List, [], _∷_, _++_}
-use mathlib.Core.Bool.{Bool, true, false, cond}
+use Prim.Native.Nat.{ℕ, _+_, _≤_, _<_}
+use mathlib.Core.Path.{_≡_}
+use mathlib.Core.Bool.{true}
 use native.Mathlib.Omega.{arith}
-use native.Mathlib.Numerals.{add-one}
-use borrow.Author.Tests.{ltb-true, ltb-false, leb-false, eqb-true, eqb-false, lt-ltb, le-ltb, eq-eqb, ne-eqb}
-use lib.ListN.{length}
+use borrow.Author.Tests.{ltb-true, ltb-false, leb-false, eqb-true, eqb-false}
 use lib.Dec.{ltb, eqb}
 use Rattle.laws.proofs.Bools.{by-cond}
-use Rattle.diff.specs.Format.{kind, low, offset, count, pageWord, runWord, endWord, mostWords}
-use Rattle.diff.specs.Reading.{Cursor, Step, Verdict, pastPrice, pastPage, pastRun, wordStep, afterStep}
-use Rattle.diff.specs.Reading.{readFrom}
+use Rattle.diff.specs.Format.{kind, low, offset, count}
+use Rattle.diff.specs.Reading.{Cursor, Step, pastPrice, pastPage, pastRun, wordStep}
 use Rattle.diff.specs.Reading.{pageStep, runStep, endStep, lacksRun, pageBehind, noSuchPage}
 use Rattle.diff.specs.Reading.{beforeFirstPage, emptyRun, pastPageEnd, touchesRun, ownIndex}
-use Rattle.diff.specs.Prices.{Price, pricedWord, pricesAfter, pricesFrom}
 use Rattle.diff.specs.declared.Step.the-variants.{Next, End, Fault}
-use Rattle.diff.specs.declared.Verdict.the-variants.{Good, Faulty}
 
 -- ---- what a word was, by what it did
 

@@ -1,17 +1,14 @@
 -- A diff that is read to its end word, whatever follows it: how many prices and words it has.
 use Prim.Native.Nat.{ℕ, zero, suc, _+_, _≤_, _<_}
-use mathlib.Core.Path.{_≡_, refl, sym, ap, _∙_}
-use mathlib.Core.List.{List, [], _∷_, _++_}
-use mathlib.Core.Bool.{Bool, true, false, cond}
+use mathlib.Core.Path.{_≡_, refl}
+use mathlib.Core.List.{List, [], _∷_}
 use native.Mathlib.Omega.{arith}
-use borrow.Author.Tests.{lt-ltb, le-ltb, eqb-false}
+use borrow.Author.Tests.{lt-ltb, le-ltb}
 use lib.ListN.{length, getD}
-use lib.Dec.{ltb, eqb}
 use Rattle.diff.specs.Format.{mostWords}
-use Rattle.diff.specs.Reading.{Cursor, Step, Verdict, start, wordStep, afterStep, readFrom}
-use Rattle.diff.specs.Prices.{Price, pricedWord, pricesAfter, pricesFrom, pricesOf}
-use Rattle.diff.specs.declared.Step.the-variants.{Next, End, Fault}
-use Rattle.diff.specs.declared.Verdict.the-variants.{Good, Faulty}
+use Rattle.diff.specs.Reading.{Cursor, Step, start, wordStep, afterStep, readFrom}
+use Rattle.diff.specs.Prices.{Price, pricesFrom, pricesOf}
+use Rattle.diff.specs.declared.Verdict.the-variants.{Good}
 use Rattle.diff.proofs.Reading.{WordCase, a-price, a-page, a-run, an-end, a-fault, word-case}
 use Rattle.diff.proofs.Derivation.{not-good, good-words, good-prices, after-word, before-limit, prices-word}
 

@@ -3,7 +3,7 @@
 -- Assumes nothing: these are definitions.
 use Prim.Native.Nat.{ℕ, _+_, _*_, _≤_}
 use mathlib.Core.List.{List}
-use lib.ListN.{length, getD, set, take, drop, replicate}
+use lib.ListN.{getD, set, take, drop, replicate}
 use lib.Seq.{sets}
 
 abbrev pub indexOf : ℕ → ℕ → ℕ → ℕ

@@ -1,9 +1,9 @@
 -- The invariant speaks of the words of live cards alone, and of prices that an accepted fetch may show.
 use Prim.Native.Nat.{ℕ, zero, suc, _+_, _*_, _≤_, _<_}
-use mathlib.Core.Path.{_≡_, refl, sym, ap, _∙_, subst}
-use mathlib.Core.Logic.{_≢_, _⊎_, inl, inr}
-use mathlib.Core.List.{List, []}
-use mathlib.Core.Bool.{Bool, true, false, true≢false, false≢true}
+use mathlib.Core.Path.{_≡_, refl, sym, _∙_}
+use mathlib.Core.Logic.{_⊎_, inl, inr}
+use mathlib.Core.List.{List}
+use mathlib.Core.Bool.{Bool, true, false, false≢true}
 use native.Mathlib.Omega.{arith}
 use native.Mathlib.Decide.{ℕ-discrete, decLt}
 use lib.ListN.{length}
@@ -11,17 +11,17 @@ use Rattle.memory.specs.Layout.{pageStart, committedHalf}
 use Rattle.memory.specs.Area.{load}
 use Rattle.directory.specs.declared.Directory.{Directory}
 use Rattle.directory.specs.Directory.{isLive}
-use Rattle.diff.specs.Prices.{names, laidAt}
+use Rattle.diff.specs.Prices.{names}
 use Rattle.diff.proofs.Prices.{names-none, laid-none}
-use Rattle.protocol.specs.Release.{Release, sizeOf, ownRelease, countsAt}
+use Rattle.protocol.specs.Release.{Release, sizeOf, countsAt}
 use Rattle.protocol.specs.Book.{Opened, none, opened, listPrices, Book}
-use Rattle.protocol.proofs.Shape.{Shape, SameOwn, shape-kept, own-kept, same-own-release}
-use Rattle.protocol.proofs.Over.{over, over-none, HomeOf}
-use Rattle.protocol.proofs.BookLaws.{pricesIn, EightWords}
-use Rattle.protocol.proofs.Claims.{Alone, Apart, HomeWord, wordIn, Claim, claim-kept}
-use Rattle.protocol.proofs.Halves.{tentatives, committeds, committed-early, committed-none, committed-unnamed}
-use Rattle.protocol.proofs.Held.{Own, Held, held-kept}
-use Rattle.protocol.proofs.Core.{Core, Standing, standing-kept}
+use Rattle.protocol.proofs.Shape.{SameOwn, shape-kept, own-kept, same-own-release}
+use Rattle.protocol.proofs.Over.{over, over-none}
+use Rattle.protocol.proofs.BookLaws.{pricesIn}
+use Rattle.protocol.proofs.Claims.{Alone, HomeWord, claim-kept}
+use Rattle.protocol.proofs.Halves.{tentatives, committeds, committed-early, committed-unnamed}
+use Rattle.protocol.proofs.Held.{held-kept}
+use Rattle.protocol.proofs.Core.{Core, standing-kept}
 
 -- ---- two memories that agree in the areas of live cards
 

@@ -1,39 +1,34 @@
 -- A failure takes a rack that runs to one that awaits the recovery of the failed card.
-use Prim.Native.Nat.{ℕ, suc, _+_, _*_, _≤_, _<_}
-use mathlib.Core.Path.{_≡_, refl, sym, ap, _∙_, subst, fun-ext}
+use Prim.Native.Nat.{ℕ, _+_, _*_, _≤_, _<_}
+use mathlib.Core.Path.{_≡_, refl, sym, _∙_, subst, fun-ext}
 use mathlib.Core.Logic.{_≢_, _⊎_, inl, inr}
 use mathlib.Core.List.{List, [], _∷_}
-use mathlib.Core.Bool.{Bool, true, false, true≢false, false≢true}
+use mathlib.Core.Bool.{true, false, false≢true}
 use native.Mathlib.Omega.{arith}
 use native.Mathlib.Decide.{ℕ-discrete, decLt}
-use lib.ListN.{length, getD, set, length-set}
-use Rattle.memory.specs.Layout.{pageStart, tentativeHalf, committedHalf, recordStamp, recordDone}
+use lib.ListN.{length, length-set}
+use Rattle.memory.specs.Layout.{tentativeHalf, committedHalf, recordStamp, recordDone}
 use Rattle.memory.specs.Area.{load}
 use Rattle.directory.specs.declared.Directory.{Directory}
-use Rattle.directory.specs.declared.Status.the-variants.{Running, Awaiting}
-use Rattle.directory.specs.Live.{liveAt, nextLive}
-use Rattle.directory.specs.Directory.{isLive, primaryOf, secondaryOf, nextLiveOf, backupOf, markedLive, markedDead}
+use Rattle.directory.specs.Directory.{isLive, primaryOf, secondaryOf, nextLiveOf, backupOf}
 use Rattle.directory.proofs.Live.{next-live-kept}
 use Rattle.directory.proofs.Changes.{live-of-marked-dead, live-of-other}
 use Rattle.diff.specs.declared.Price.{Price}
-use Rattle.diff.specs.Prices.{names}
-use Rattle.diff.proofs.Prices.{names-none}
 use Rattle.protocol.specs.Release.{Release, sizeOf, priceWrites, releaseWrites, countsAt}
 use Rattle.protocol.specs.Failure.{failedDirectory}
 use Rattle.protocol.specs.Recovery.{backupBefore}
 use Rattle.protocol.specs.Book.{Opened, none, opened, listPrices, Book, update, failBook}
-use Rattle.protocol.proofs.Shape.{Shape}
-use Rattle.protocol.proofs.Over.{over, over-none}
-use Rattle.protocol.proofs.BookLaws.{pricesIn, EightWords, uncounted, uncounted-late, uncounted-none}
-use Rattle.protocol.proofs.BookLaws.{update-same, update-other, update-each}
-use Rattle.protocol.proofs.Claims.{Apart, HomeWord, Half, wordIn, Agrees, Claim, claim-struck, claim-kept}
-use Rattle.protocol.proofs.Halves.{tentatives, committeds, pending, pendingCommitted, pending-none}
+use Rattle.protocol.proofs.Over.{over-none}
+use Rattle.protocol.proofs.BookLaws.{EightWords, uncounted-late}
+use Rattle.protocol.proofs.BookLaws.{update-other, update-each}
+use Rattle.protocol.proofs.Claims.{HomeWord, Claim, claim-struck, claim-kept}
+use Rattle.protocol.proofs.Halves.{tentatives, committeds, pending, pendingCommitted}
 use Rattle.protocol.proofs.Halves.{committed-none}
 use Rattle.protocol.proofs.Halves.{tentative-late, committed-early, committed-late, pending-over}
-use Rattle.protocol.proofs.Held.{Numbers, Own, Done, Held}
-use Rattle.protocol.proofs.Core.{Core, Standing, Under}
+use Rattle.protocol.proofs.Held.{Numbers, Held}
+use Rattle.protocol.proofs.Core.{Core, Under}
 use Rattle.protocol.proofs.StepCore.{apart-struck}
-use Rattle.protocol.proofs.Invariant.{TwoLive, Arrays, RunningRack, AwaitingRack, stampOf, doneOf, unmarked}
+use Rattle.protocol.proofs.Invariant.{TwoLive, RunningRack, AwaitingRack, unmarked}
 use Rattle.protocol.proofs.Invariant.{next-is-live, next-is-other}
 
 -- ---- directories with the same homes write the same

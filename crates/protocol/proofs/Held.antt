@@ -1,15 +1,15 @@
 -- What a card's record on its backup says beside the book, and that a step keeps it so. `f o` is the word at offset o
 -- of the backup's area.
-use Prim.Native.Nat.{ℕ, zero, suc, _+_, _-_, _*_, _/_, _%_, _≤_, _<_}
+use Prim.Native.Nat.{ℕ, suc, _+_, _*_, _≤_, _<_}
 use mathlib.Core.Path.{_≡_, refl, sym, ap, _∙_}
 use mathlib.Core.Logic.{_≢_}
-use mathlib.Core.List.{List, []}
+use mathlib.Core.List.{List}
 use native.Mathlib.Omega.{arith}
 use native.Mathlib.Decide.{ℕ-discrete}
 use lib.ListN.{length, getD}
 use Rattle.memory.specs.Layout.{recordStamp, recordDone, recordDesk}
 use Rattle.directory.specs.declared.Directory.{Directory}
-use Rattle.protocol.specs.Release.{Release, countsAt, stepsIn}
+use Rattle.protocol.specs.Release.{Release, countsAt}
 use Rattle.protocol.specs.Book.{Opened, none, opened, listPrices}
 use Rattle.protocol.proofs.Writes.{Phase, phase, to-tentative, to-desk, to-stamp, to-committed, to-done}
 use Rattle.protocol.proofs.Writes.{to-close}

@@ -1,23 +1,21 @@
 -- The invariant of demand 3: a rack that runs, and one that awaits the recovery of a card, beside the book.
-use Prim.Native.Nat.{ℕ, _+_, _*_, _≤_, _<_}
-use mathlib.Core.Path.{_≡_, refl, sym, ap, _∙_}
-use mathlib.Core.Logic.{_≢_, _⊎_, inl, inr}
+use Prim.Native.Nat.{ℕ, _+_, _≤_, _<_}
+use mathlib.Core.Path.{_≡_, sym, _∙_}
+use mathlib.Core.Logic.{_≢_, _⊎_}
 use mathlib.Core.List.{List}
 use mathlib.Core.Bool.{Bool, true, false}
-use native.Mathlib.Omega.{arith}
 use native.Mathlib.Decide.{ℕ-discrete}
 use lib.ListN.{length, getD, set}
-use lib.Seq.{set-set, set-getD, getD-set-other, getD-set-same}
+use lib.Seq.{set-set, set-getD}
 use Rattle.memory.specs.Layout.{recordStamp, recordDone, recordDesk}
 use Rattle.memory.specs.Area.{load}
 use Rattle.directory.specs.declared.Directory.{Directory}
 use Rattle.directory.specs.declared.Status.the-variants.{Running, Awaiting}
-use Rattle.directory.specs.Live.{liveAt, nextLive}
-use Rattle.directory.specs.Directory.{isLive, primaryOf, secondaryOf, nextLiveOf, backupOf, markedLive}
-use Rattle.directory.proofs.Live.{next-live-is-live, next-live-below, next-live-other, next-live-kept}
-use Rattle.protocol.specs.Release.{Release, sizeOf}
+use Rattle.directory.specs.Directory.{isLive, primaryOf, secondaryOf, nextLiveOf, backupOf}
+use Rattle.directory.proofs.Live.{next-live-is-live, next-live-other}
+use Rattle.protocol.specs.Release.{sizeOf}
 use Rattle.protocol.specs.Recovery.{backupBefore}
-use Rattle.protocol.specs.Book.{Opened, none, Book}
+use Rattle.protocol.specs.Book.{none, Book}
 use Rattle.protocol.proofs.Held.{Held}
 use Rattle.protocol.proofs.Core.{Core}
 

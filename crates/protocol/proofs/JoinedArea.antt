@@ -1,20 +1,19 @@
 -- The area of a card that joins: its own stamp and desk, and the records that are copied to it. No other
 -- card's word changes.
 use Prim.Native.Nat.{ℕ, zero, suc, _+_, _-_, _*_, _≤_, _<_}
-use mathlib.Core.Path.{_≡_, refl, sym, ap, _∙_}
+use mathlib.Core.Path.{_≡_, refl, sym, _∙_}
 use mathlib.Core.Logic.{_≢_, _⊎_, inl, inr}
-use mathlib.Core.List.{List, [], _∷_}
-use mathlib.Core.Bool.{Bool, true, false, cond, not, _&&_, true≢false, false≢true}
+use mathlib.Core.List.{List, _∷_}
+use mathlib.Core.Bool.{Bool, true, false, cond, not, _&&_, true≢false}
 use native.Mathlib.Nat.{zero-add}
 use native.Mathlib.Omega.{arith}
 use native.Mathlib.Decide.{ℕ-discrete, decLt}
-use borrow.Author.Tests.{eq-eqb, ne-eqb, eqb-true, not-true}
+use borrow.Author.Tests.{ne-eqb}
 use lib.ListN.{length, getD}
 use lib.Dec.{eqb}
 use Rattle.laws.specs.Search.{inTurn}
-use Rattle.laws.proofs.Bools.{and-first, and-second}
-use Rattle.memory.specs.Layout.{deskSize, ownStamp, ownDesk, releaseOpen, recordStamp, recordSize}
-use Rattle.memory.specs.Area.{AreaIn, load, storeRun, clearRun, copyRun}
+use Rattle.memory.specs.Layout.{deskSize, ownStamp, ownDesk, recordStamp, recordSize}
+use Rattle.memory.specs.Area.{AreaIn, load, clearRun, copyRun}
 use Rattle.memory.proofs.Index.{outside-other-card, outside-below, outside-above}
 use Rattle.memory.proofs.Runs.{length-store-run, length-clear-run, length-copy-run, load-run-is}
 use Rattle.memory.proofs.Runs.{load-store-run-outside, load-store-run-inside, load-clear-run-outside}

@@ -1,43 +1,41 @@
 -- The invariant survives an accepted opening.
-use Prim.Native.Nat.{ℕ, zero, suc, _+_, _-_, _*_, _≤_, _<_}
-use mathlib.Core.Path.{_≡_, refl, sym, ap, _∙_, subst}
+use Prim.Native.Nat.{ℕ, suc, _+_, _-_, _*_, _≤_, _<_}
+use mathlib.Core.Path.{_≡_, refl, sym, ap, _∙_}
 use mathlib.Core.Logic.{_≢_, _⊎_, inl, inr}
-use mathlib.Core.List.{List, [], _∷_, _++_}
-use mathlib.Core.Bool.{Bool, true, false, true≢false, false≢true}
-use native.Mathlib.Nat.{zero-add, add-zero}
+use mathlib.Core.List.{List, _∷_, _++_}
+use mathlib.Core.Bool.{Bool, true, false, true≢false}
+use native.Mathlib.Nat.{zero-add}
 use native.Mathlib.Omega.{arith}
 use native.Mathlib.Decide.{ℕ-discrete}
-use lib.ListN.{length, getD, drop}
-use Rattle.memory.specs.Layout.{deskSize, releaseOpen, stepsMade, releaseNumber, releaseDesk, listStart, listSize}
-use Rattle.memory.specs.Layout.{pageStart, tentativeHalf, committedHalf, recordStamp}
+use lib.ListN.{length, getD}
+use Rattle.memory.specs.Layout.{deskSize, releaseOpen, releaseDesk, listStart, listSize}
+use Rattle.memory.specs.Layout.{pageStart, tentativeHalf, committedHalf}
 use Rattle.memory.specs.Area.{AreaIn, load, loadRun, storeRun}
 use Rattle.memory.proofs.Index.{outside-other-card, outside-below, outside-above}
 use Rattle.memory.proofs.Runs.{length-store-run, load-store-run-outside, load-store-run-inside, load-run-store-run}
-use Rattle.memory.proofs.Runs.{load-run-append, load-run-is, length-load-run}
+use Rattle.memory.proofs.Runs.{load-run-append, load-run-is}
 use Rattle.directory.specs.declared.Directory.{Directory}
 use Rattle.directory.specs.Directory.{isLive}
 use Rattle.diff.specs.declared.Verdict.the-variants.{Good}
-use Rattle.diff.specs.Format.{mostWords}
-use Rattle.diff.specs.Reading.{start, readFrom, readDiff}
-use Rattle.diff.specs.Prices.{names, laidAt, pricesFrom, pricesOf}
+use Rattle.diff.specs.Reading.{start, readDiff}
+use Rattle.diff.specs.Prices.{names, laidAt, pricesOf}
 use Rattle.diff.specs.OnlyDiff.{Allowed}
 use Rattle.diff.proofs.Prices.{names-none, laid-none}
 use Rattle.diff.proofs.Derivation.{Reads, reads-derived, reads-good-then, reads-prices-then, reads-prices}
 use Rattle.diff.proofs.Derivation.{reads-more-pages}
 use Rattle.diff.proofs.OnlyDiff.{allowed-whole}
-use Rattle.protocol.specs.Release.{Release, sizeOf, ownRelease, openRelease, openList, openPrices, stepsOf}
-use Rattle.protocol.specs.Release.{countsAt}
+use Rattle.protocol.specs.Release.{Release, sizeOf, ownRelease, openRelease, openList, stepsOf}
 use Rattle.protocol.specs.Opening.{openMemory}
 use Rattle.protocol.specs.Book.{Opened, none, opened, listPrices, Book, update, setOpen}
 use Rattle.protocol.proofs.Shape.{SameOwn, shape-kept, area-of-live, own-kept, own-words-kept, same-own-release}
-use Rattle.protocol.proofs.Over.{over, over-none}
+use Rattle.protocol.proofs.Over.{over-none}
 use Rattle.protocol.proofs.BookLaws.{pricesIn, EightWords, uncounted-early, uncounted-none, update-same}
 use Rattle.protocol.proofs.BookLaws.{update-other, update-each}
-use Rattle.protocol.proofs.Claims.{Apart, HomeWord, Half, wordIn, Agrees, Claim, claim-moves}
-use Rattle.protocol.proofs.Halves.{on-pages, tentatives, committeds, pending, pending-none, committed-none}
+use Rattle.protocol.proofs.Claims.{Apart, HomeWord, Claim, claim-moves}
+use Rattle.protocol.proofs.Halves.{tentatives, committeds, pending-none, committed-none}
 use Rattle.protocol.proofs.Halves.{committed-early, tentative-first}
 use Rattle.protocol.proofs.Held.{Numbers, Own, Held, held-kept}
-use Rattle.protocol.proofs.Core.{Core, OpenStands, Standing, Under, standing-kept}
+use Rattle.protocol.proofs.Core.{Core, Standing, Under, standing-kept}
 
 -- ---- a list that is allowed, read where it is stored
 

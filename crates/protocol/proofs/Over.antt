@@ -1,5 +1,5 @@
 -- What a list of writes, made in order, leaves in one word of a card's area.
-use Prim.Native.Nat.{ℕ, zero, suc, _+_, _*_, _/_, _%_, _≤_, _<_}
+use Prim.Native.Nat.{ℕ, zero, suc, _+_, _*_, _≤_, _<_}
 use mathlib.Core.Path.{_≡_, refl, sym, ap, _∙_}
 use mathlib.Core.Logic.{_≢_, _⊎_, inl, inr}
 use mathlib.Core.List.{List, [], _∷_, _++_}
@@ -7,7 +7,7 @@ use mathlib.Core.Bool.{Bool, true, false, cond, _&&_, true≢false}
 use native.Mathlib.Omega.{arith}
 use native.Mathlib.Decide.{ℕ-discrete}
 use borrow.Author.Tests.{eq-eqb, ne-eqb}
-use lib.ListN.{length, getD, drop, drop-of-length-le}
+use lib.ListN.{length, getD, drop}
 use lib.Seq.{drop-cons}
 use lib.Dec.{eqb}
 use Rattle.memory.specs.Layout.{pageStart}
@@ -17,7 +17,7 @@ use Rattle.diff.specs.declared.Price.{Price}
 use Rattle.diff.specs.Prices.{labelOf, names, laidAt}
 use Rattle.diff.proofs.Prices.{names-first, names-later, laid-first, laid-later, laid-none}
 use Rattle.diff.proofs.Stored.{OnPages}
-use Rattle.protocol.specs.Release.{Write, writeOf, noWrite, priceWrite, priceWrites, runWrites}
+use Rattle.protocol.specs.Release.{Write, noWrite, priceWrite, priceWrites, runWrites}
 
 -- ---- one write
 

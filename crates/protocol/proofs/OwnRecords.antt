@@ -9,7 +9,7 @@ use native.Mathlib.Decide.{ℕ-discrete, decLt}
 use lib.ListN.{length}
 use Rattle.laws.specs.Search.{inTurn}
 use Rattle.memory.specs.Area.{AreaIn, load}
-use Rattle.protocol.specs.Release.{Release, ownRelease}
+use Rattle.protocol.specs.Release.{ownRelease}
 use Rattle.protocol.specs.Record.{writeRecord, writeOwnRecord}
 use Rattle.protocol.specs.Book.{none}
 use Rattle.protocol.proofs.Shape.{own-words-kept}

@@ -1,24 +1,19 @@
 -- Settled records written: what such a record says, and that nothing else changes.
-use Prim.Native.Nat.{ℕ, zero, suc, _+_, _*_, _%_, _≤_, _<_}
-use mathlib.Core.Path.{_≡_, refl, sym, ap, _∙_}
+use Prim.Native.Nat.{ℕ, suc, _+_, _*_, _%_, _≤_, _<_}
+use mathlib.Core.Path.{_≡_, refl, _∙_}
 use mathlib.Core.Logic.{_≢_, _⊎_, inl, inr}
-use mathlib.Core.List.{List, [], _∷_, _++_}
-use mathlib.Core.Bool.{Bool, true, false, cond, _&&_, true≢false}
+use mathlib.Core.List.{List, _∷_, _++_}
+use mathlib.Core.Bool.{Bool, true, false, cond}
 use native.Mathlib.Omega.{arith}
-use native.Mathlib.Decide.{ℕ-discrete}
-use borrow.Author.Tests.{eq-eqb, ne-eqb, eqb-true, eqb-false}
+use borrow.Author.Tests.{eqb-true, eqb-false}
 use lib.ListN.{length, getD, length-append, List·getD-append}
 use lib.Seq.{getD-append-add}
 use lib.Dec.{eqb}
-use Rattle.laws.specs.Search.{inTurn}
-use Rattle.laws.proofs.Bools.{and-first, and-second}
 use Rattle.memory.specs.Layout.{deskSize, recordStamp, recordDone, recordDesk}
-use Rattle.memory.specs.Area.{AreaIn, load, zeros, storeRun}
+use Rattle.memory.specs.Area.{AreaIn, load, zeros}
 use Rattle.memory.proofs.Index.{outside-other-card, outside-below, outside-above}
 use Rattle.memory.proofs.Runs.{length-zeros, length-store-run, load-store-run-outside, load-store-run-inside}
-use Rattle.directory.specs.declared.Directory.{Directory}
-use Rattle.directory.specs.Directory.{isLive, backupOf}
-use Rattle.protocol.specs.Release.{Release, sizeOf, ownRelease}
+use Rattle.protocol.specs.Release.{Release}
 use Rattle.protocol.specs.Record.{settledRecord, writeRecord}
 use Rattle.protocol.specs.Book.{none}
 use Rattle.protocol.proofs.Held.{Held}

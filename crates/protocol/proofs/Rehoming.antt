@@ -1,9 +1,9 @@
 -- Pages copied to new homes: what shows the book's prices goes on showing them, and each new home shows them too.
 use Prim.Native.Nat.{ℕ, zero, suc, _+_, _*_, _≤_, _<_}
-use mathlib.Core.Path.{_≡_, refl, sym, ap, _∙_}
+use mathlib.Core.Path.{_≡_, refl, sym, _∙_}
 use mathlib.Core.Logic.{_≢_, _⊎_, inl, inr}
 use mathlib.Core.List.{List}
-use mathlib.Core.Bool.{Bool, true, false, cond, true≢false}
+use mathlib.Core.Bool.{Bool, true, false, true≢false}
 use native.Mathlib.Omega.{arith}
 use native.Mathlib.Decide.{ℕ-discrete}
 use lib.ListN.{length}
@@ -13,7 +13,7 @@ use Rattle.memory.specs.Area.{load, copyRun}
 use Rattle.memory.proofs.Index.{Outside, outside-other-card, outside-below, outside-other-offset}
 use Rattle.memory.proofs.Runs.{length-copy-run, load-copy-run-outside, load-copy-run-inside}
 use Rattle.directory.specs.declared.Directory.{Directory}
-use Rattle.directory.specs.Directory.{isLive, primaryOf, secondaryOf}
+use Rattle.directory.specs.Directory.{isLive}
 use Rattle.protocol.specs.Release.{sizeOf}
 use Rattle.protocol.specs.Recovery.{lostHome, keptHome, newHome, copyToNewHome, copyToNewHomes}
 use Rattle.protocol.proofs.Shape.{Shape, area-of-live, shape-kept}

@@ -1,17 +1,17 @@
 -- Restoring the pages: at each live home of each page the one half becomes what the other is, and
 -- nothing else changes.
-use Prim.Native.Nat.{ℕ, zero, suc, _+_, _*_, _≤_, _<_}
-use mathlib.Core.Path.{_≡_, refl, sym, ap, _∙_}
+use Prim.Native.Nat.{ℕ, zero, suc, _+_, _≤_, _<_}
+use mathlib.Core.Path.{_≡_, refl, _∙_}
 use mathlib.Core.Logic.{_≢_, _⊎_, inl, inr}
 use mathlib.Core.List.{List}
-use mathlib.Core.Bool.{Bool, true, false, cond, true≢false}
+use mathlib.Core.Bool.{Bool, true, false, cond}
 use native.Mathlib.Nat.{add-zero}
 use native.Mathlib.Omega.{arith}
 use native.Mathlib.Decide.{ℕ-discrete}
 use lib.ListN.{length}
 use Rattle.laws.specs.Search.{inTurn}
 use Rattle.memory.specs.Layout.{pageStart, pageSize, tentative, committed, tentativeHalf, committedHalf}
-use Rattle.memory.specs.Area.{AreaIn, load, copyRun}
+use Rattle.memory.specs.Area.{load, copyRun}
 use Rattle.memory.proofs.Index.{Outside, outside-other-card, outside-below, outside-other-offset}
 use Rattle.memory.proofs.Runs.{length-copy-run, load-copy-run-outside, load-copy-run-inside}
 use Rattle.directory.specs.declared.Directory.{Directory}

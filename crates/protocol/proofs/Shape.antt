@@ -1,20 +1,18 @@
 -- A memory of its stated length, and what a card's own words say when they are kept.
 use Prim.Native.Nat.{ℕ, _+_, _*_, _≤_, _<_}
-use mathlib.Core.Path.{_≡_, refl, sym, ap, _∙_}
+use mathlib.Core.Path.{_≡_, _∙_}
 use mathlib.Core.List.{List}
-use mathlib.Core.Bool.{Bool, true, false, cond, _&&_}
+use mathlib.Core.Bool.{Bool, true}
 use native.Mathlib.Omega.{arith}
-use lib.ListN.{length, getD}
-use lib.Dec.{eqb}
-use Rattle.memory.specs.Layout.{areaSize, deskSize, ownStamp, ownDesk, releaseOpen, stepsMade, releaseNumber}
+use lib.ListN.{length}
+use Rattle.memory.specs.Layout.{deskSize, ownStamp, ownDesk, releaseOpen, stepsMade, releaseNumber}
 use Rattle.memory.specs.Layout.{releaseDesk, listStart, listSize}
 use Rattle.memory.specs.Area.{AreaIn, load, loadRun}
 use Rattle.memory.proofs.Index.{area-in}
 use Rattle.memory.proofs.Runs.{load-run-kept}
 use Rattle.directory.specs.declared.Directory.{Directory}
-use Rattle.directory.specs.Live.{liveAt}
 use Rattle.directory.specs.Directory.{isLive}
-use Rattle.protocol.specs.Release.{Release, sizeOf, ownRelease, openRelease, openList, stepsOf, isOpen}
+use Rattle.protocol.specs.Release.{sizeOf, ownRelease, openRelease, openList, stepsOf, isOpen}
 
 -- a rack within its limits
 pub record Shape (d : Directory) (m : List ℕ) : Type 0 where

@@ -1,28 +1,26 @@
 -- The invariant survives a step of any open release: its writes, and its close.
-use Prim.Native.Nat.{ℕ, zero, suc, _+_, _*_, _≤_, _<_}
-use mathlib.Core.Path.{_≡_, refl, sym, ap, _∙_, subst}
+use Prim.Native.Nat.{ℕ, suc, _+_, _*_, _≤_, _<_}
+use mathlib.Core.Path.{_≡_, refl, sym, _∙_, subst}
 use mathlib.Core.Logic.{_≢_, _⊎_, inl, inr}
-use mathlib.Core.List.{List, []}
-use mathlib.Core.Bool.{Bool, true, false, true≢false, false≢true}
+use mathlib.Core.List.{List}
+use mathlib.Core.Bool.{true, false, false≢true}
 use native.Mathlib.Omega.{arith}
 use native.Mathlib.Decide.{ℕ-discrete, decLt}
 use lib.ListN.{length}
-use Rattle.memory.specs.Layout.{releaseOpen}
 use Rattle.memory.specs.Area.{load}
 use Rattle.directory.specs.declared.Directory.{Directory}
 use Rattle.directory.specs.Directory.{isLive}
-use Rattle.diff.specs.Prices.{names, laidAt}
 use Rattle.diff.proofs.Prices.{names-none}
 use Rattle.protocol.specs.Release.{Release, sizeOf, ownRelease, stepMemory, close, countsAt, stepsIn}
-use Rattle.protocol.specs.Book.{Opened, none, opened, listPrices, Book, update, count, setOpen, stepBook}
+use Rattle.protocol.specs.Book.{Opened, none, opened, listPrices, Book, update, setOpen, stepBook}
 use Rattle.protocol.proofs.Shape.{SameOwn, shape-kept, area-of-live, own-kept, same-own-release}
-use Rattle.protocol.proofs.Stepped.{StandsIn, step-closes, length-close, load-close, close-own, close-word-9}
-use Rattle.protocol.proofs.BookLaws.{pricesIn, EightWords, update-same, update-other, update-each}
+use Rattle.protocol.proofs.Stepped.{step-closes, length-close, load-close, close-own, close-word-9}
+use Rattle.protocol.proofs.BookLaws.{EightWords, update-same, update-other, update-each}
 use Rattle.protocol.proofs.BookLaws.{step-book-plain, step-book-counts, step-book-closes}
-use Rattle.protocol.proofs.Claims.{Apart, HomeWord}
-use Rattle.protocol.proofs.StepClaims.{PricesAfter, close-tentatives, close-committeds}
-use Rattle.protocol.proofs.Held.{Numbers, Own, Held, held-kept, LastAfter, close-held}
-use Rattle.protocol.proofs.Core.{Core, OpenStands, Standing, Under, standing-kept, write-core, steppedBook}
+use Rattle.protocol.proofs.Claims.{Apart}
+use Rattle.protocol.proofs.StepClaims.{close-tentatives, close-committeds}
+use Rattle.protocol.proofs.Held.{Numbers, Own, Held, held-kept, close-held}
+use Rattle.protocol.proofs.Core.{Core, OpenStands, Standing, Under, standing-kept, write-core}
 
 -- releases that stay apart when one is struck out
 pub apart-struck : (release : ℕ → Opened) (c : ℕ) → Apart release → Apart (update release c none)

@@ -1,8 +1,8 @@
 -- The stores of a release: how many there are, and which one each step makes.
-use Prim.Native.Nat.{ℕ, zero, suc, _+_, _-_, _*_, _/_, _%_, _≤_, _<_}
-use mathlib.Core.Path.{_≡_, refl, sym, ap, _∙_}
+use Prim.Native.Nat.{ℕ, zero, suc, _+_, _-_, _*_, _/_, _%_, _<_}
+use mathlib.Core.Path.{_≡_, refl, ap, _∙_}
 use mathlib.Core.List.{List, [], _∷_, _++_}
-use mathlib.Core.Bool.{Bool, cond}
+use mathlib.Core.Bool.{cond}
 use native.Mathlib.Omega.{arith}
 use native.Mathlib.Nat.{add-zero}
 use native.Mathlib.Decide.{decLt}
@@ -14,7 +14,7 @@ use Rattle.directory.specs.declared.Directory.{Directory}
 use Rattle.directory.specs.Directory.{primaryOf, secondaryOf}
 use Rattle.diff.specs.declared.Price.{Price}
 use Rattle.protocol.specs.Release.{Release, Write, writeOf, noWrite, priceWrite, priceWrites, runWrites}
-use Rattle.protocol.specs.Release.{releaseWrites, countsAt, stepsIn}
+use Rattle.protocol.specs.Release.{releaseWrites, stepsIn}
 
 abbrev pub noPrice : Price
 noPrice = record { page = 0; word = 0; price = 0 }

@@ -1,9 +1,9 @@
 -- The book (document 01, "The book of demand 3"): the reference model of the rack. It is fed each call and whether it
 -- was accepted; it sees neither memory nor directory nor an answer.
 -- Assumes nothing: these are definitions.
-use Prim.Native.Nat.{ℕ, suc, _+_, _*_}
-use mathlib.Core.List.{List, []}
-use mathlib.Core.Bool.{Bool, true, false, cond}
+use Prim.Native.Nat.{ℕ, suc}
+use mathlib.Core.List.{List}
+use mathlib.Core.Bool.{Bool, cond}
 use lib.ListN.{length}
 use lib.Dec.{ltb, eqb}
 use Rattle.laws.specs.Search.{inTurn}

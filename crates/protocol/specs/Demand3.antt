@@ -8,7 +8,7 @@ use Rattle.memory.specs.Layout.{deskSize, pageSize}
 use Rattle.memory.specs.Area.{load}
 use Rattle.directory.specs.declared.Directory.{Directory}
 use Rattle.directory.specs.Directory.{table}
-use Rattle.protocol.specs.Release.{Release, sizeOf}
+use Rattle.protocol.specs.Release.{sizeOf}
 use Rattle.protocol.specs.Result.{Result, accepted}
 use Rattle.protocol.specs.Formatting.{formatting}
 use Rattle.protocol.specs.Opening.{opening}
@@ -20,7 +20,7 @@ use Rattle.protocol.specs.Join.{join}
 use Rattle.protocol.specs.DeskQuestion.{deskQuestion}
 use Rattle.protocol.specs.Book.{Call, open-release, make-step, fetch-page, fail-card, recover, join-card}
 use Rattle.protocol.specs.Book.{ask-desk}
-use Rattle.protocol.specs.Book.{Opened, none}
+use Rattle.protocol.specs.Book.{none}
 use Rattle.protocol.specs.Book.{Book, newBook, update, feedIf}
 
 -- each call by the definition that its contract cites

@@ -2,14 +2,14 @@
 -- dead card's record"; refusals 1, 2, 11, 3).
 -- Assumes nothing: these are definitions.
 use Prim.Native.Nat.{ℕ}
-use mathlib.Core.List.{List, [], _∷_, _++_}
+use mathlib.Core.List.{List}
 use mathlib.Core.Bool.{cond}
 use Rattle.answer.specs.declared.Outcome.{Outcome}
 use Rattle.memory.specs.Layout.{deskSize}
 use Rattle.memory.specs.Area.{zeros}
 use Rattle.directory.specs.declared.Directory.{Directory}
 use Rattle.directory.specs.Directory.{isLive, nextLiveOf}
-use Rattle.protocol.specs.Release.{Release, sizeOf, ownRelease}
+use Rattle.protocol.specs.Release.{sizeOf, ownRelease}
 use Rattle.protocol.specs.Record.{recordedRelease}
 use Rattle.protocol.specs.Checks.{Check, firstRefusal, cardChecks}
 use Rattle.protocol.specs.Result.{Result, resultOf}

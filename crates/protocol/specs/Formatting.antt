@@ -7,7 +7,7 @@ use Rattle.answer.specs.declared.Outcome.{Outcome}
 use Rattle.answer.specs.Outcome.{limits}
 use Rattle.memory.specs.Area.{zeros}
 use Rattle.directory.specs.Directory.{formattedDirectory, emptyDirectory}
-use Rattle.protocol.specs.Checks.{Check, check, firstRefusal, outsideLimits}
+use Rattle.protocol.specs.Checks.{check, firstRefusal, outsideLimits}
 use Rattle.protocol.specs.Result.{Result, resultOf}
 
 -- "Refused formatting gives one that is running, with 0 cards, 0 pages, all dead, homes 0."

@@ -1,10 +1,10 @@
 -- A release and its 4k + 11 steps (document 01, "A release and its 4k + 11 steps").
 -- Assumes nothing: these are definitions.
-use Prim.Native.Nat.{ℕ, zero, suc, _+_, _-_, _*_, _%_}
+use Prim.Native.Nat.{ℕ, suc, _+_, _*_}
 use mathlib.Core.List.{List, [], _∷_, _++_}
-use mathlib.Core.Bool.{Bool, true, false, cond, _&&_}
+use mathlib.Core.Bool.{Bool, cond, _&&_}
 use lib.ListN.{length, getD}
-use lib.Dec.{ltb, leb, eqb}
+use lib.Dec.{ltb, eqb}
 use Rattle.memory.specs.Layout.{areaSize, deskSize, ownStamp, ownDesk, releaseOpen, stepsMade, releaseNumber}
 use Rattle.memory.specs.Layout.{releaseDesk, releaseSize, recordStamp, recordDone, recordDesk}
 use Rattle.memory.specs.Layout.{listStart, listSize, pageStart, tentativeHalf, committedHalf}

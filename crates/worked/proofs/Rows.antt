@@ -1,11 +1,9 @@
 -- The rows hold: what is a number is computed, and the two rows on every number and every stamp are proved.
-use Prim.Native.Nat.{ℕ, _≤_, _<_}
-use mathlib.Core.Path.{_≡_, refl, sym, ap, _∙_}
-use mathlib.Core.List.{List, [], _∷_}
-use mathlib.Core.Bool.{Bool, true, false}
+use Prim.Native.Nat.{ℕ, _≤_}
+use mathlib.Core.Path.{_≡_, refl, ap, _∙_}
+use mathlib.Core.List.{List, []}
 use native.Mathlib.Omega.{arith}
 use borrow.Author.Tests.{le-leb, lt-leb}
-use lib.ListN.{length}
 use Rattle.laws.specs.Search.{lowestFrom, countBelow, inTurn}
 use Rattle.answer.specs.declared.Outcome.{Outcome}
 use Rattle.answer.specs.Outcome.{refusedAt, numberUsed}
@@ -36,7 +34,7 @@ use Rattle.protocol.specs.Recovery.{awaitedCard, recovery}
 use Rattle.protocol.proofs.Accepting.{outcome-of}
 use Rattle.worked.specs.Rows.{AllHold, newRack, changedPages, changes, noChange, stepped, released}
 use Rattle.worked.specs.Rows.{recoveredFrom}
-use Rattle.worked.specs.Rows.{fetched, pageOf, Idle, rows, Worked, Shown}
+use Rattle.worked.specs.Rows.{fetched, pageOf, Idle, Worked, Shown}
 
 -- ---- a number at or below the stamp
 
