@@ -29,12 +29,6 @@ pub struct StepsReply {
     pub answer: Answer,
 }
 
-fn smaller(a: u32, b: u32) -> u32
-    ensures { λ r. ⌜ r ≡ min a b ⌝ }
-{
-    if a < b { a } else { b }
-}
-
 // Makes so many steps of a release, or all that it has left if they are fewer; answers how many.
 fn make_steps(memory: &mut [u32], directory: Directory, card: u32, count: u32) -> u32
     requires { ⌜ HomesIn (directory .live) (directory .pages) (directory .primary)
@@ -53,8 +47,6 @@ fn make_steps(memory: &mut [u32], directory: Directory, card: u32, count: u32) -
     let secondary = directory.secondary;
     let backup = directory.backup(card) as usize;
     let at = card as usize;
-    let left = release::steps_left(memory, pages, at);
-    let made = smaller(count, left.steps);
     release::make_steps(
         memory,
         pages,
@@ -63,10 +55,8 @@ fn make_steps(memory: &mut [u32], directory: Directory, card: u32, count: u32) -
         &secondary,
         backup,
         at,
-        left.prices,
-        made,
-    );
-    made
+        count,
+    )
 }
 
 // The first refusal of a step, or the number 0.

@@ -59,6 +59,38 @@ module _ (f : Price → ℕ) (pages : ℕ) (list : List ℕ) (index : ℕ) (s : 
         → listLeft f pages list index s out ≡ out
     list-over none = turn ∙ rw none
 
+-- ---- how many they are
+
+-- the prices that are read, and those of the words from an index on
+unfoldable pub countLeft : ℕ → List ℕ → ℕ → Cursor → ℕ
+countLeft pages list index s = s .prices + length (pricesFrom pages (drop index list) index s)
+
+pub count-first : (pages : ℕ) (list : List ℕ) → countLeft pages list 0 start ≡ length (pricesOf pages list)
+unfolding countLeft pricesOf
+count-first pages list = zero-add _
+
+module _ (pages : ℕ) (list : List ℕ) (index : ℕ) (s : Cursor) where
+  pub count-end : length list ≤ index → countLeft pages list index s ≡ s .prices
+  unfolding countLeft
+  count-end end = rw (prices-end pages list index s end) (omega arith)
+
+  pub count-due : index < length list → 0 < s .due
+      → countLeft pages list index s ≡ countLeft pages list (index + 1) (pastPrice s)
+  unfolding countLeft
+  count-due within due = rw (prices-due pages list index s within due) (omega arith)
+
+  module _ (step : Step) (does : step ≡ wordStep pages s index (getD list index 0)) (within : index < length list)
+      (idle : s .due ≤ 0) where
+    pub count-next : (t : Cursor) → step ≡ Next t → t .prices ≡ s .prices
+        → countLeft pages list index s ≡ countLeft pages list (index + 1) t
+    unfolding countLeft
+    count-next t is same = rw (prices-turn pages list index s step does within idle, is, same)
+
+    pub count-over : pricesAfter (pricesFrom pages (drop (index + 1) list) (index + 1)) step ≡ []
+        → countLeft pages list index s ≡ s .prices
+    unfolding countLeft
+    count-over none = rw (prices-turn pages list index s step does within idle, none) (omega arith)
+
 -- ---- what a caller finds in the list
 
 mapped : (f : Price → ℕ) (ps : List Price) (j : ℕ) (d : Price) → j < length ps → getD (map f ps) j 0 ≡ f (getD ps j d)

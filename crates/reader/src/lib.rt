@@ -265,11 +265,12 @@ pub fn nth_stored(memory: &[u32], size: usize, card: usize, pages: u32, n: u32) 
     nth_price(&memory[from..end], pages, n)
 }
 
-// Lists the prices of a diff: label j (32 × page + word) and price j, from 0 on. The words after
-// the last one are kept.
-pub fn list_prices(list: &[u32], pages: u32, labels: &mut [u32], prices: &mut [u32])
+// Lists the prices of a diff, and answers how many they are: label j (32 × page + word) and price j,
+// from 0 on. The words after the last one are kept.
+pub fn list_prices(list: &[u32], pages: u32, labels: &mut [u32], prices: &mut [u32]) -> u32
     requires { ⌜ (length (now list) ≤ 512) × (pages ≤ 64) ⌝ }
     requires { ⌜ (length (now labels) ≡ 512) × (length (now prices) ≡ 512) ⌝ }
+    ensures count { λ r. ⌜ r ≡ length (pricesOf pages (now (list .entry))) ⌝ }
     ensures labels { λ _. ⌜ now (labels .exit)
         ≡ sets (now (labels .entry)) 0 (map labelOf (pricesOf pages (now (list .entry)))) ⌝ }
     ensures prices { λ _. ⌜ now (prices .exit)
@@ -292,14 +293,15 @@ pub fn list_prices(list: &[u32], pages: u32, labels: &mut [u32], prices: &mut [u
                     index += 1;
                 }
                 Step::End => {
-                    return;
+                    return s.prices;
                 }
                 Step::Fault => {
-                    return;
+                    return s.prices;
                 }
             }
         }
     }
+    s.prices
 }
 
 // Lists the prices of the list of the open release in a card's area.
@@ -310,9 +312,11 @@ pub fn list_stored(
     pages: u32,
     labels: &mut [u32],
     prices: &mut [u32],
-)
+) -> u32
     requires { ⌜ (676 ≤ size) × AreaIn (length (now memory)) size card × (pages ≤ 64) ⌝ }
     requires { ⌜ (length (now labels) ≡ 512) × (length (now prices) ≡ 512) ⌝ }
+    ensures count { λ r. ⌜ r
+        ≡ length (pricesOf pages (loadRun size (now (memory .entry)) card listStart listSize)) ⌝ }
     ensures labels { λ _. ⌜ now (labels .exit)
         ≡ sets (now (labels .entry)) 0
         (map labelOf
@@ -324,5 +328,5 @@ pub fn list_stored(
 {
     let from = card * size + memory::LIST_START;
     let end = from + memory::LIST_SIZE;
-    list_prices(&memory[from..end], pages, labels, prices);
+    list_prices(&memory[from..end], pages, labels, prices)
 }

@@ -30,7 +30,6 @@ fn run_release(
         (homesOf pages (now (live .entry)) (now (primary .entry)) (now (secondary .entry))) backup
         card (leftOf pages (now (memory .entry)) card) (now (memory .entry)) ⌝ }
 {
-    let left = release::steps_left(memory, pages, card);
     release::make_steps(
         memory,
         pages,
@@ -39,8 +38,7 @@ fn run_release(
         secondary,
         backup,
         card,
-        left.prices,
-        left.steps,
+        0xFFFFFFFF,
     );
 }
 

@@ -1,12 +1,13 @@
 -- Several steps of a release: those that it has left fall one by one.
-use Prim.Native.Nat.{ℕ, suc, _+_, _-_, _<_, _≤_}
-use mathlib.Core.Path.{_≡_, refl, ap, _∙_}
+use Prim.Native.Nat.{ℕ, suc, _+_, _-_, _<_, _≤_, min}
+use mathlib.Core.Path.{_≡_, refl, sym, ap, _∙_}
 use mathlib.Core.List.{List}
 use native.Mathlib.Omega.{arith}
 use lib.ListN.{length}
-use Rattle.memory.specs.Layout.{areaSize}
-use Rattle.memory.specs.Area.{AreaIn}
+use Rattle.memory.specs.Layout.{areaSize, listStart, listSize}
+use Rattle.memory.specs.Area.{AreaIn, loadRun}
 use Rattle.directory.specs.declared.Directory.{Directory}
+use Rattle.diff.specs.Prices.{pricesOf}
 use Rattle.protocol.specs.Release.{sizeOf, openList, stepMemory}
 use Rattle.protocol.specs.Recovery.{stepTimes}
 use Rattle.protocol.proofs.Shape.{SameOwn, same-own-release, list-kept, steps-kept}
@@ -44,6 +45,22 @@ module _ (pages : ℕ) (m m′ : List ℕ) (c : ℕ) (same : SameOwn (areaSize p
 pub counted : (pages : ℕ) (m : List ℕ) (c : ℕ) (good : GoodRelease pages m c) → Counted pages m c (good .k)
 unfolding openList
 counted pages m c good = read-counts pages (areaSize pages) m c refl good refl (good .reads)
+
+-- and so many are listed
+pub listed-counts : (pages size : ℕ) (m : List ℕ) (c : ℕ) → size ≡ areaSize pages → GoodRelease pages m c → {k : ℕ}
+    → k ≡ length (pricesOf pages (loadRun size m c listStart listSize)) → Counted pages m c k
+unfolding openList
+listed-counts pages size m c sized good {k} is =
+    let all = counted pages m c good in
+    let same : k ≡ good .k = (rw sized at is) ∙ sym (all .prices) in
+    rw same all
+
+-- a count past any release's steps asks for all of them
+pub all-asked : (pages : ℕ) (m : List ℕ) (c : ℕ) → GoodRelease pages m c
+    → min 4294967295 (leftOf pages m c) ≡ leftOf pages m c
+all-asked pages m c good =
+    let all = counted pages m c good in
+    omega arith
 
 module _ {pages : ℕ} {m : List ℕ} {c k left : ℕ} where
   pub counted-left : StepsLeft pages m c k left → 0 < left → Counted pages m c k

@@ -17,6 +17,7 @@ use Rattle.diff.specs.Reading.{readDiff}
 use Rattle.protocol.specs.Release.{sizeOf, openRelease, openList, openPrices, stepsOf, stepsIn}
 use Rattle.protocol.specs.Release.{Release, Write, writeOf, noWrite, releaseWrites, makeWrite}
 use Rattle.protocol.specs.Release.{stepMemory}
+use Rattle.protocol.specs.Recovery.{stepTimes}
 
 -- a card with a mark, and with an area in a memory of so many words
 pub record CardIn (live : List Bool) (words size card : ℕ) : Type 0 where
@@ -72,6 +73,10 @@ afterStore pages live primary secondary backup m card steps =
 -- the memory after a step
 abbrev pub afterStep : ℕ → List Bool → List ℕ → List ℕ → ℕ → List ℕ → ℕ → List ℕ
 afterStep pages live primary secondary = stepMemory (homesOf pages live primary secondary)
+
+-- the memory after so many steps
+abbrev pub afterSteps : ℕ → List Bool → List ℕ → List ℕ → ℕ → ℕ → ℕ → List ℕ → List ℕ
+afterSteps pages live primary secondary = stepTimes (homesOf pages live primary secondary)
 
 -- the store of this number among the nine between the prices, in the record at the backup: the desk, then the stamp
 abbrev pub recordWrite : ℕ → ℕ → Release → ℕ → Write

@@ -19,9 +19,7 @@ mod running;
 
 use diff::Price;
 use reader::Found;
-pub use running::Left;
 pub use running::make_steps;
-pub use running::steps_left;
 
 // Copies list, desk and number to the card's own area and sets steps to 0.
 pub fn open_release(
@@ -200,7 +198,7 @@ fn step_record(
 
 // One more in word 10.
 fn count_step(memory: &mut [u32], size: usize, card: usize, steps: u32)
-    requires { ⌜ (676 ≤ size) × AreaIn (length (now memory)) size card × (steps < 4294967295) ⌝ }
+    requires { ⌜ (676 ≤ size) × AreaIn (length (now memory)) size card × (steps < 2058) ⌝ }
     ensures { λ _. ⌜ now (memory .exit)
         ≡ store size (now (memory .entry)) card stepsMade (steps + 1) ⌝ }
 {

@@ -1,12 +1,12 @@
 // Several steps of a release.
 ghost use mathlib.Core.Path.{_≡_};
-ghost use Prim.Native.Nat.{_<_, _≤_};
+ghost use Prim.Native.Nat.{_+_, _-_, _*_, _<_, _≤_, min};
 ghost use lib.ListN.{length};
 ghost use Rattle.memory.specs.Layout.{areaSize};
 ghost use Rattle.memory.specs.Area.{AreaIn};
-ghost use Rattle.protocol.specs.Recovery.{stepTimes};
-ghost use Rattle.release.specs.Stepping.{CardIn, HomesIn, GoodRelease, Counted, homesOf};
-ghost use Rattle.release.specs.Stepping.{StepsLeft, Listed, leftOf, listedPrice};
+ghost use Rattle.protocol.specs.Release.{stepsOf, stepsIn};
+ghost use Rattle.release.specs.Stepping.{CardIn, HomesIn, GoodRelease, Counted, StepsLeft};
+ghost use Rattle.release.specs.Stepping.{Listed, leftOf, listedPrice, afterSteps};
 use diff::Price;
 use diff::Verdict;
 
@@ -22,24 +22,20 @@ pub(crate) fn count_prices(memory: &[u32], size: usize, pages: u32, card: usize)
     }
 }
 
-// How far a release is: its prices, and the steps that it has left.
-pub struct Left {
-    pub prices: u32,
-    pub steps: u32,
+// How many steps a release of k prices has left, the close among them.
+fn steps_left(memory: &[u32], size: usize, card: usize, k: u32) -> u32
+    requires { ⌜ (676 ≤ size) × AreaIn (length (now memory)) size card ⌝ }
+    requires { ⌜ (stepsOf size (now memory) card ≤ 4 * k + 10) × (k < 512) ⌝ }
+    ensures { λ r. ⌜ r ≡ stepsIn k - stepsOf size (now (memory .entry)) card ⌝ }
+{
+    let made = memory::load_word(memory, size, card, memory::STEPS_MADE);
+    4 * k + 11 - made
 }
 
-// How many steps the release open on a card has left, the close among them.
-pub fn steps_left(memory: &[u32], pages: u32, card: usize) -> Left
-    requires { ⌜ (pages ≤ 64) × AreaIn (length (now memory)) (areaSize pages) card ⌝ }
-    requires { ⌜ GoodRelease pages (now memory) card ⌝ }
-    ensures prices { λ r. ⌜ Counted pages (now (memory .entry)) card (r .prices) ⌝ }
-    ensures steps { λ r. ⌜ r .steps ≡ leftOf pages (now (memory .entry)) card ⌝ }
+fn smaller(a: u32, b: u32) -> u32
+    ensures { λ r. ⌜ r ≡ min a b ⌝ }
 {
-    let size = memory::area_size(pages);
-    let prices = count_prices(memory, size, pages, card);
-    let made = memory::load_word(memory, size, card, memory::STEPS_MADE);
-    let steps = 4 * prices + 11 - made;
-    Left { prices, steps }
+    if a < b { a } else { b }
 }
 
 // The price of this number in a table of labels and prices.
@@ -75,9 +71,8 @@ fn make_listed(
     requires { ⌜ StepsLeft pages (now memory) card k steps ⌝ }
     requires { ⌜ Listed pages (now memory) card (now labels) (now prices) ⌝ }
     ensures { λ _. ⌜ now (memory .exit)
-        ≡ stepTimes
-        (homesOf pages (now (live .entry)) (now (primary .entry)) (now (secondary .entry))) backup
-        card steps (now (memory .entry)) ⌝ }
+        ≡ afterSteps pages (now (live .entry)) (now (primary .entry)) (now (secondary .entry))
+        backup card steps (now (memory .entry)) ⌝ }
 {
     let size = memory::area_size(pages);
     let mut left = steps;
@@ -95,7 +90,8 @@ fn make_listed(
     }
 }
 
-// Makes so many steps of a release of k prices, no more than it has left. Reads its list once.
+// Makes so many steps of the release open on a card, or all that it has left if they are fewer;
+// answers how many. Reads the list once.
 pub fn make_steps(
     memory: &mut [u32],
     pages: u32,
@@ -104,22 +100,22 @@ pub fn make_steps(
     secondary: &[u32],
     backup: usize,
     card: usize,
-    k: u32,
-    steps: u32,
-)
+    count: u32,
+) -> u32
     requires { ⌜ HomesIn (now live) pages (now primary) (now secondary) (length (now memory)) ⌝ }
     requires { ⌜ CardIn (now live) (length (now memory)) (areaSize pages) card ⌝ }
     requires { ⌜ CardIn (now live) (length (now memory)) (areaSize pages) backup ⌝ }
-    requires { ⌜ StepsLeft pages (now memory) card k steps ⌝ }
-    ensures { λ _. ⌜ now (memory .exit)
-        ≡ stepTimes
-        (homesOf pages (now (live .entry)) (now (primary .entry)) (now (secondary .entry))) backup
-        card steps (now (memory .entry)) ⌝ }
+    requires { ⌜ GoodRelease pages (now memory) card ⌝ }
+    ensures made { λ r. ⌜ r ≡ min count (leftOf pages (now (memory .entry)) card) ⌝ }
+    ensures memory { λ r. ⌜ now (memory .exit)
+        ≡ afterSteps pages (now (live .entry)) (now (primary .entry)) (now (secondary .entry))
+        backup card r (now (memory .entry)) ⌝ }
 {
     let size = memory::area_size(pages);
     let mut labels = [0u32; 512];
     let mut prices = [0u32; 512];
-    reader::list_stored(memory, size, card, pages, &mut labels, &mut prices);
+    let k = reader::list_stored(memory, size, card, pages, &mut labels, &mut prices);
+    let steps = smaller(count, steps_left(memory, size, card, k));
     make_listed(
         memory,
         pages,
@@ -133,4 +129,5 @@ pub fn make_steps(
         &labels,
         &prices,
     );
+    steps
 }

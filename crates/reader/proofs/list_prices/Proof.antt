@@ -11,6 +11,7 @@ use Rattle.reader.specs.Steady.{Steady}
 use Rattle.reader.specs.Listed.{priceOf}
 use Rattle.reader.proofs.Keeping.{Idle, word-passed, passed-steady}
 use Rattle.reader.proofs.Listing.{listLeft, list-first, list-end, list-due, list-next, list-over}
+use Rattle.reader.proofs.Listing.{countLeft, count-first, count-end, count-due, count-next, count-over}
 use Rattle.reader.proofs.list_prices.Statement.{statement}
 use Rattle.reader.proofs.list_prices.Tie as tie
 
@@ -20,12 +21,13 @@ Inv-loop list pages labels₀ prices₀ s₀ index₀ labels prices s index =
     × (length labels ≡ length labels₀) × (length prices ≡ length prices₀)
     × (listLeft labelOf pages list index s labels ≡ sets labels₀ 0 (map labelOf (pricesOf pages list)))
     × (listLeft priceOf pages list index s prices ≡ sets prices₀ 0 (map priceOf (pricesOf pages list)))
+    × (countLeft pages list index s ≡ length (pricesOf pages list))
 
 abbrev μ-loop : tie.MeasureT-loop
 μ-loop list pages labels₀ prices₀ s₀ index₀ labels prices s index = length list - index
 
 loop-holds : tie.Need-loop-holds Inv-loop μ-loop
-loop-holds c = rw (c .cursor .ensures, list-first, list-first) (search needs)
+loop-holds c = rw (c .cursor .ensures, list-first, list-first, count-first) (search needs)
 
 loop-again : tie.Need-loop-again Inv-loop μ-loop
 loop-again c =
@@ -41,6 +43,7 @@ loop-again c =
       search needs,
       sym (list-due labelOf _ _ _ (at .s) (at .labels) within due) ∙ at .inv .6,
       sym (list-due priceOf _ _ _ (at .s) (at .prices) within due) ∙ at .inv .7,
+      sym (count-due _ _ _ (at .s) within due) ∙ at .inv .8,
     )
 
 loop-again-2 : tie.Need-loop-again-2 Inv-loop μ-loop
@@ -59,6 +62,7 @@ loop-again-2 c =
       at .inv .5,
       sym (list-next labelOf _ _ _ (at .s) (at .labels) _ does within idle _ refl (passed .counts)) ∙ at .inv .6,
       sym (list-next priceOf _ _ _ (at .s) (at .prices) _ does within idle _ refl (passed .counts)) ∙ at .inv .7,
+      sym (count-next _ _ _ (at .s) _ does within idle _ refl (passed .counts)) ∙ at .inv .8,
     )
 
 returns : tie.Need-returns Inv-loop μ-loop
@@ -67,8 +71,11 @@ returns c =
     let within = c .before .before .before .before .before .before .loop-test .taken in
     let idle = c .before .before .before .if1 .left in
     let does = sym (c .enum-told .given .1) ∙ c .before .before .read-word .ensures in (
-      sym (list-over labelOf _ _ _ (at .s) (at .labels) _ does within idle refl) ∙ at .inv .6,
-      sym (list-over priceOf _ _ _ (at .s) (at .prices) _ does within idle refl) ∙ at .inv .7,
+      sym (count-over _ _ _ (at .s) _ does within idle refl) ∙ at .inv .8,
+      (
+        sym (list-over labelOf _ _ _ (at .s) (at .labels) _ does within idle refl) ∙ at .inv .6,
+        sym (list-over priceOf _ _ _ (at .s) (at .prices) _ does within idle refl) ∙ at .inv .7,
+      ),
     )
 
 returns-2 : tie.Need-returns-2 Inv-loop μ-loop
@@ -77,15 +84,21 @@ returns-2 c =
     let within = c .before .before .before .before .before .before .loop-test .taken in
     let idle = c .before .before .before .if1 .left in
     let does = sym (c .enum-told2 .given .1) ∙ c .before .before .read-word .ensures in (
-      sym (list-over labelOf _ _ _ (at .s) (at .labels) _ does within idle refl) ∙ at .inv .6,
-      sym (list-over priceOf _ _ _ (at .s) (at .prices) _ does within idle refl) ∙ at .inv .7,
+      sym (count-over _ _ _ (at .s) _ does within idle refl) ∙ at .inv .8,
+      (
+        sym (list-over labelOf _ _ _ (at .s) (at .labels) _ does within idle refl) ∙ at .inv .6,
+        sym (list-over priceOf _ _ _ (at .s) (at .prices) _ does within idle refl) ∙ at .inv .7,
+      ),
     )
 
 returns-3 : tie.Need-returns-3 Inv-loop μ-loop
 returns-3 c =
     let at = c .before .loop in (
-      sym (list-end labelOf _ _ _ (at .s) (at .labels) (c .loop-test .left)) ∙ at .inv .6,
-      sym (list-end priceOf _ _ _ (at .s) (at .prices) (c .loop-test .left)) ∙ at .inv .7,
+      sym (count-end _ _ _ (at .s) (c .loop-test .left)) ∙ at .inv .8,
+      (
+        sym (list-end labelOf _ _ _ (at .s) (at .labels) (c .loop-test .left)) ∙ at .inv .6,
+        sym (list-end priceOf _ _ _ (at .s) (at .prices) (c .loop-test .left)) ∙ at .inv .7,
+      ),
     )
 
 pub list-prices-spec : {M : Type 1} → statement M

@@ -7,7 +7,7 @@ use Rattle.reader.proofs.list_stored.Tie as tie
 returns : tie.Need-returns
 returns c =
     let listed = c .before .before .before .before .list-prices .ensures in
-    (rw lent-list at (listed .0), rw lent-list at (listed .1))
+    (rw lent-list at (listed .0), (rw lent-list at (listed .1 .0), rw lent-list at (listed .1 .1)))
 
 pub list-stored-spec : {M : Type 1} → statement M
 list-stored-spec =

@@ -38,7 +38,8 @@ returns-2 c =
     let sized = c .before .before in
     let test = sized .before in
     let is = rw (sized .area-size .ensures) at (c .before .is-open .ensures) in
-    rw (passed-before _ _ _ refl (test .before .live-card .ensures) (test .if1 .left)) (rw is at (c .last-check .ensures))
+    let last = rw is at (c .last-check .ensures) in
+    rw (passed-before _ _ _ refl (test .before .live-card .ensures) (test .if1 .left)) last
 
 pub step-spec : {M : Type 1} → statement M
 step-spec =
