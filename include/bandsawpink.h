@@ -20,6 +20,14 @@
 ** may store them and load them again: both are plain words, and any words at all may be handed
 ** in. A call refuses what does not fit.
 **
+** The memory has an area of 676 + 64 * pages words for each card, ascending. In it stand:
+**
+**     0; 1 to 8            number (the card's stamp) and desk of its last closed release
+**     9; 10; 11; 12 to 19  a release is open (0 or 1); its steps made; its number; its desk
+**     20 to 163            for each card c, at 20 + 18 * c: stamp, done mark, even desk, odd desk
+**     164 to 675           the list of the open release, from its first word
+**     676 + 64 * p         page p: 32 tentative prices, then 32 committed
+**
 ** WHAT THE CALLER MUST SEE TO
 **
 ** Each pointer with a count beside it has that many words to read or, where it is not const, to
@@ -47,10 +55,12 @@
 **     size_t words = RACK_MEMORY_WORDS(3, 4);
 **     rack_directory directory;
 **     rack_answer answer = rack_format(memory, words, 3, 4, &directory);
+**     if (answer.number != RACK_ACCEPTED) return refuse(answer);
 **     answer = rack_open(memory, words, &directory, 1, 1, desk, list, 4);
 **     if (answer.number != RACK_ACCEPTED) return refuse(answer);
 **     rack_steps(memory, words, &directory, 1, UINT32_MAX);
 **     answer = rack_fetch(memory, words, &directory, 1, page, RACK_PAGE_WORDS);
+**     if (answer.number != RACK_ACCEPTED) return refuse(answer);
 **
 ** and page[2] is 250.
 */
@@ -80,13 +90,15 @@ extern "C" {
 /*
 ** The directory: which cards are live, where the pages live, and whether the rack awaits a
 ** recovery. rack_format makes it, rack_fail, rack_recover and rack_join change it, all other
-** calls only read it. Marks past the cards and homes past the pages are never read.
+** calls only read it. Marks past the cards and homes past the pages are never read: rack_format
+** makes them 0, all other calls keep them. An accepted call that changes the directory writes each
+** of the 8 marks as 0 or 1, whatever other word said that a card is live.
 */
 typedef struct rack_directory {
     uint32_t cards;
     uint32_t pages;
     uint32_t awaited;                   /* the card whose recovery is awaited, or RACK_RUNNING */
-    uint32_t live[RACK_MAX_CARDS];      /* 0: dead; any other word: live, and written as 1 */
+    uint32_t live[RACK_MAX_CARDS];      /* for each card, 0: dead; any other word: live */
     uint32_t primary[RACK_MAX_PAGES];   /* for each page, the card that fetches read */
     uint32_t secondary[RACK_MAX_PAGES]; /* for each page, its other home */
 } rack_directory;
@@ -133,10 +145,12 @@ RACK_ASSERT(offsetof(rack_directory, live) == 3 * sizeof(uint32_t));
 RACK_ASSERT(offsetof(rack_directory, primary) == 11 * sizeof(uint32_t));
 RACK_ASSERT(offsetof(rack_directory, secondary) == 75 * sizeof(uint32_t));
 RACK_ASSERT(sizeof(rack_answer) == 16 && offsetof(rack_answer, value) == 8);
-RACK_ASSERT(sizeof(rack_desk_answer) == 48 && offsetof(rack_desk_answer, desk) == 16);
+RACK_ASSERT(sizeof(rack_desk_answer) == 48 && offsetof(rack_desk_answer, value) == 8);
+RACK_ASSERT(offsetof(rack_desk_answer, desk) == 16);
 RACK_ASSERT(sizeof(rack_steps_answer) == 16 && offsetof(rack_steps_answer, made) == 4);
 RACK_ASSERT(offsetof(rack_steps_answer, value) == 8);
-RACK_ASSERT(sizeof(rack_fetch_all_answer) == 80 && offsetof(rack_fetch_all_answer, shown) == 16);
+RACK_ASSERT(sizeof(rack_fetch_all_answer) == 80 && offsetof(rack_fetch_all_answer, value) == 8);
+RACK_ASSERT(offsetof(rack_fetch_all_answer, shown) == 16);
 RACK_ASSERT(sizeof(size_t) == 8);
 #undef RACK_ASSERT
 
@@ -150,9 +164,11 @@ RACK_ASSERT(sizeof(size_t) == 8);
 #define RACK_LIMITS 1 /* cards or pages outside their limits, or a memory not of RACK_MEMORY_WORDS;
                          rack_make_list: pages of unequal length, or not 32 words times 1 to 64 */
 #define RACK_UNFIT 2  /* memory and directory do not make a rack: fewer than two live cards; a page
-                         whose homes are equal, no card, or dead and not awaited; an awaited card
-                         that is live or does not exist; a live card whose memory has a release
-                         that is neither open nor closed, a faulty list, or too many steps */
+                         whose homes are equal, or one of them not below the number of cards, or
+                         dead and not the awaited card; an awaited card that is live, or not below
+                         the number of cards; a live card with word 9 of its area above 1, or with
+                         word 9 equal to 1 and a faulty list from word 164 on (read to its end
+                         word, k prices) or a word 10 above 4k + 10 */
 
 /* The price desk */
 #define RACK_NO_CARD 3      /* no such card, or a dead one; rack_join, rack_desk: no such card */
@@ -160,7 +176,8 @@ RACK_ASSERT(sizeof(size_t) == 8);
 #define RACK_NUMBER_USED 5  /* the number is at or below the card's stamp, as that of a release sent
                                twice. Place: the stamp */
 #define RACK_NUMBER_AHEAD 6 /* the number is above the card's stamp + 1 */
-#define RACK_FAULTY_LIST 7  /* the list breaks a rule. Place: the first word that does, the length
+#define RACK_FAULTY_LIST 7  /* the list breaks a rule (THE LIST OF CHANGES, below). Place: the
+                               lowest that applies of the first word that breaks one, the length
                                if the list stops early, 512 if it is longer */
 #define RACK_WORD_IN_USE 8  /* a label of the list is in another card's open release. Place: the
                                lowest such card */
@@ -184,11 +201,29 @@ RACK_ASSERT(sizeof(size_t) == 8);
 /*
 ** THE LIST OF CHANGES
 **
-** The top four bits of a word are its kind. Kind 1 names a page in its low 28 bits. Kind 2 is a
-** run: offset in bits 27 to 16, count in bits 15 to 0, then that many prices as plain words. Kind
-** 15 ends the list, with its own index in the low 28 bits. Pages ascend, each with at least one
-** run; the runs of a page ascend and do not touch. rack_make_list makes the one list for a change
-** of pages; a list of k prices takes 4k + 11 steps.
+** The top four bits of a word are its kind; the words of a run that are prices have none.
+**
+**     kind 1   a page: its number in the low 28 bits
+**     kind 2   a run: its offset in bits 27 to 16, its count in bits 15 to 0; so many prices follow
+**     kind 15  the end: its own index in the list in the low 28 bits
+**
+** The rules, and the word that refusal 7 names as the place where one is broken:
+**
+** - A word where no price is due is of one of these kinds: that word.
+** - A page is below the pages of the rack, and above the page before it: the page word.
+** - A page has at least one run: the word after the page word.
+** - A run stands after a page word, not before the first: the run word.
+** - A run's count is at least 1, and offset + count at most 32: the run word.
+** - A run's offset is above the end, offset + count, of the run before it on the page, so that runs
+**   ascend and do not touch: the run word.
+** - The end word says its own index: the end word.
+** - Nothing follows the end word: the word after it.
+** - A list has an end word, and all prices of its runs: the length, one past the last word.
+** - A list has at most 512 words: 512.
+**
+** The list of no change is the end word 0xF0000000 alone; a list of no words is refused at 0. Of a
+** list in the memory, what stands after its end word is not read. rack_make_list makes the one list
+** for a change of pages; a list of k prices takes 4k + 11 steps.
 */
 
 /*
@@ -255,7 +290,7 @@ rack_answer rack_fail(const uint32_t *memory, size_t words, rack_directory *dire
 ** Recovers the card that failed: releases that are open on live cards are run to their close, the
 ** failed card's release is completed if it counted and taken back if not, and each page gets two
 ** live homes. Gives the failed card's stamp and its desk, which say which of its releases was the
-** last to count. Refusals: 1, 2, 12.
+** last to count: 0 and a desk of zeros if none ever did. Refusals: 1, 2, 12.
 */
 rack_desk_answer rack_recover(uint32_t *memory, size_t words, rack_directory *directory);
 
@@ -266,8 +301,8 @@ rack_desk_answer rack_recover(uint32_t *memory, size_t words, rack_directory *di
 rack_answer rack_join(uint32_t *memory, size_t words, rack_directory *directory, uint32_t card);
 
 /*
-** The desk of a card's last release that is closed or recovered, live or dead. Gives 0 and the
-** desk. Refusals: 1, 2, 11, 3.
+** The desk of a card's last release that is closed or recovered, live or dead; zeros if there was
+** none. Gives 0 and the desk. Refusals: 1, 2, 11, 3.
 */
 rack_desk_answer rack_desk(const uint32_t *memory, size_t words, const rack_directory *directory,
                            uint32_t card);

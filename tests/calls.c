@@ -8,7 +8,7 @@
 
 enum { WORDS = 2796 };
 
-static uint32_t memory[WORDS + 1], memory_before[WORDS + 1];
+static uint32_t memory[WORDS + 1], memory_before[WORDS + 1], large[RACK_MEMORY_WORDS(3, 64)];
 static rack_directory directory, directory_before;
 static const uint32_t desk[RACK_DESK_WORDS] = { 1, 2, 3, 4, 5, 6, 7, 8 };
 static const uint32_t list[] = { 0x10000001, 0x20020002, 250, 199, 0xF0000004 };
@@ -94,6 +94,74 @@ static void desk_calls(void) {
     rack_desk_answer asked = rack_desk(memory, WORDS, &directory, 1);
     EXPECT(asked.number == RACK_ACCEPTED && memcmp(asked.desk, desk, sizeof desk) == 0);
     REFUSED(checked(rack_desk(memory, WORDS, &directory, 3)), RACK_NO_CARD, 0);
+}
+
+/* The header's rules for a list, in its order, each broken once: the words, their number, the place. */
+static void list_rules(void) {
+    static const struct {
+        uint32_t words[6], length, place;
+    } faulty[] = {
+        { { 0x10000001, 0x20020001, 5, 0x30000000 }, 4, 3 },             /* no kind */
+        { { 0x10000004, 0x20020001, 5, 0xF0000003 }, 4, 0 },             /* a page past the rack's */
+        { { 0x10000001, 0x20020001, 5, 0x10000001 }, 4, 3 },             /* a page twice */
+        { { 0x10000001, 0xF0000001 }, 2, 1 },                            /* a page without a run */
+        { { 0x20020001, 5, 0xF0000002 }, 3, 0 },                         /* a run before the first page */
+        { { 0x10000001, 0x20020000, 0xF0000002 }, 3, 1 },                /* a run of no price */
+        { { 0x10000001, 0x201F0002, 5, 6, 0xF0000004 }, 5, 1 },          /* a run past the page's end */
+        { { 0x10000001, 0x20020001, 5, 0x20030001, 6, 0xF0000005 }, 6, 3 }, /* runs that touch */
+        { { 0x10000001, 0x20020001, 5, 0xF0000004 }, 4, 3 },             /* another index */
+        { { 0x10000001, 0x20020001, 5, 0xF0000003, 0 }, 5, 4 },          /* a word after the end */
+        { { 0x10000001, 0x20020002, 5 }, 3, 3 },                         /* a run cut short */
+        { { 0x10000001, 0x20020001, 5 }, 3, 3 },                         /* no end word */
+    };
+    uint32_t longest[RACK_LIST_WORDS + 1] = { 0 };
+    format();
+    for (size_t at = 0; at < sizeof faulty / sizeof *faulty; at++)
+        REFUSED(rack_open(memory, WORDS, &directory, 1, 1, desk, faulty[at].words, faulty[at].length), RACK_FAULTY_LIST,
+                faulty[at].place);
+    ACCEPTED(rack_format(large, RACK_MEMORY_WORDS(3, 64), 3, 64, &directory));
+    size_t length = 0;
+    for (uint32_t page = 0; length + 34 <= RACK_LIST_WORDS; page++, length += 34) {
+        longest[length] = 0x10000000 | page;
+        longest[length + 1] = 0x20000020;
+    }
+    longest[length] = 0x1000003F; /* two words are left: a page and a run, whose price is the word too many */
+    longest[length + 1] = 0x20000001;
+    EXPECT(length + 2 == RACK_LIST_WORDS);
+    const size_t words = RACK_MEMORY_WORDS(3, 64);
+    rack_answer answer = rack_open(large, words, &directory, 1, 1, desk, longest, RACK_LIST_WORDS + 1);
+    EXPECT(answer.number == RACK_FAULTY_LIST && answer.value == RACK_LIST_WORDS);
+}
+
+/* The header's list of what does not make a rack, each clause once. */
+static void unfit_racks(void) {
+    format();
+    directory.live[1] = directory.live[2] = 0;
+    REFUSED(checked(rack_desk(memory, WORDS, &directory, 0)), RACK_UNFIT, 0);
+    const uint32_t homes[] = { 0, 3, 1 }; /* equal to the primary, no card, dead */
+    for (int at = 0; at < 3; at++) {
+        format();
+        directory.secondary[3] = homes[at];
+        directory.live[1] = at != 2;
+        REFUSED(checked(rack_desk(memory, WORDS, &directory, 0)), RACK_UNFIT, 0);
+    }
+    for (uint32_t awaited = 2; awaited < 4; awaited++) { /* live, no card */
+        format();
+        directory.awaited = awaited;
+        REFUSED(checked(rack_desk(memory, WORDS, &directory, 0)), RACK_UNFIT, 0);
+    }
+    format();
+    ACCEPTED(rack_open(memory, WORDS, &directory, 1, 1, desk, list, 5));
+    const uint32_t changed[] = { 9, 10, 164, 165 }; /* word 9 above 1, too many steps, a faulty list */
+    for (int at = 0; at < 4; at++) {
+        uint32_t *word = memory + 932 + changed[at], before = *word;
+        *word = at == 1 ? 4 * 2 + 11 : 2;
+        REFUSED(checked(rack_desk(memory, WORDS, &directory, 0)), RACK_UNFIT, 0);
+        *word = before;
+    }
+    memory[932 + 10] = 4 * 2 + 10;
+    memory[932 + 164 + 5] = 2; /* past the list's end word: not read */
+    ACCEPTED(rack_desk(memory, WORDS, &directory, 0));
 }
 
 static void reader_calls(void) {
@@ -194,10 +262,12 @@ static void card_calls(void) {
     REFUSED(checked(rack_recover(memory, WORDS, &directory)), RACK_NONE_AWAITED, 0);
     REFUSED(rack_join(memory, WORDS, &directory, 1), RACK_CARD_LIVE, 0);
     REFUSED(rack_fail(memory, WORDS, &directory, 3), RACK_NO_CARD, 0);
-    directory.live[2] = 2; /* any word but 0 says live; a refusal keeps it, an accepted call writes 1 */
+    /* any word but 0 says live; a refusal keeps it, an accepted call writes 1 */
+    directory.live[2] = directory.live[7] = 2;
     REFUSED(rack_fail(memory, WORDS, &directory, 3), RACK_NO_CARD, 0);
     ACCEPTED(rack_fail(memory, WORDS, &directory, 1));
     EXPECT(directory.live[1] == 0 && directory.live[2] == 1 && directory.awaited == 1);
+    EXPECT(directory.live[3] == 0 && directory.live[7] == 1);
     memset(memory + 932, 0xA5, 932 * sizeof *memory); /* the failed card's memory may hold anything */
     REFUSED(rack_step(memory, WORDS, &directory, 0), RACK_RECOVERY_AWAITED, 0);
     rack_desk_answer found = rack_recover(memory, WORDS, &directory);
@@ -211,6 +281,10 @@ static void card_calls(void) {
     while (rack_step(memory, WORDS, &directory, 0).number == RACK_ACCEPTED) { }
     ACCEPTED(rack_join(memory, WORDS, &directory, 1));
     EXPECT(directory.live[1] == 1);
+    ACCEPTED(rack_fail(memory, WORDS, &directory, 2)); /* it never released */
+    found = rack_recover(memory, WORDS, &directory);
+    const uint32_t zeros[RACK_DESK_WORDS] = { 0 };
+    EXPECT(found.number == RACK_ACCEPTED && found.value == 0 && memcmp(found.desk, zeros, sizeof zeros) == 0);
 }
 
 static void list_maker(void) {
@@ -255,8 +329,9 @@ static void any_words(void) {
         number = rack_step(memory, WORDS, &directory, card).number;
         if (number != 0) EXPECT(memcmp(memory, memory_before, sizeof memory) == 0);
         memcpy(memory_before, memory, sizeof memory);
-        rack_steps_answer stepped = rack_steps(memory, WORDS, &directory, card, round % 40);
-        EXPECT(stepped.made <= (uint32_t)round % 40);
+        uint32_t count = (uint32_t)round % 40;
+        rack_steps_answer stepped = rack_steps(memory, WORDS, &directory, card, count);
+        EXPECT(stepped.made <= count);
         if (stepped.made == 0) EXPECT(memcmp(memory, memory_before, sizeof memory) == 0);
         number = rack_fail(memory, WORDS, &directory, card).number;
         if (number != 0) EXPECT(memcmp(&directory, &directory_before, sizeof directory) == 0);
@@ -272,6 +347,8 @@ static void any_words(void) {
 int main(void) {
     formatting();
     desk_calls();
+    list_rules();
+    unfit_racks();
     reader_calls();
     several_steps();
     all_pages();

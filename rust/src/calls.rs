@@ -56,10 +56,12 @@ const _: () = {
     assert!(offset_of!(Directory, primary) == 11 * 4);
     assert!(offset_of!(Directory, secondary) == 75 * 4);
     assert!(size_of::<Answer>() == 16 && offset_of!(Answer, value) == 8);
-    assert!(size_of::<DeskAnswer>() == 48 && offset_of!(DeskAnswer, desk) == 16);
+    assert!(size_of::<DeskAnswer>() == 48 && offset_of!(DeskAnswer, value) == 8);
+    assert!(offset_of!(DeskAnswer, desk) == 16);
     assert!(size_of::<StepsAnswer>() == 16 && offset_of!(StepsAnswer, made) == 4);
     assert!(offset_of!(StepsAnswer, value) == 8);
-    assert!(size_of::<FetchAllAnswer>() == 80 && offset_of!(FetchAllAnswer, shown) == 16);
+    assert!(size_of::<FetchAllAnswer>() == 80 && offset_of!(FetchAllAnswer, value) == 8);
+    assert!(offset_of!(FetchAllAnswer, shown) == 16);
     assert!(size_of::<usize>() == 8);
 };
 
