@@ -163,3 +163,24 @@ impl fmt::Display for Stopped {
 }
 
 impl std::error::Error for Stopped {}
+
+#[cfg(test)]
+mod tests {
+    use super::Refusal;
+    use std::collections::HashSet;
+
+    #[test]
+    fn each_has_its_number_its_place_and_a_sentence_of_its_own() {
+        assert_eq!(Refusal::of(0, 41), None);
+        let mut sentences = HashSet::new();
+        for number in 1..=17 {
+            let refusal = Refusal::of(number, 41).expect("any number but 0 is a refusal");
+            let names_a_place = matches!(number, 5 | 7 | 8 | 10);
+            assert_eq!(refusal.number(), number);
+            assert_eq!(refusal.place(), if names_a_place { 41 } else { 0 });
+            let sentence = refusal.to_string();
+            assert_eq!(sentence.contains("41"), names_a_place, "{sentence}");
+            assert!(!sentence.is_empty() && sentences.insert(sentence));
+        }
+    }
+}
