@@ -1,7 +1,10 @@
 //! The price rack: pages on two cards, released in two phases.
 //!
-//! A second implementation, written from document 01 alone. Comments cite
-//! document 01 by the titles of its sections.
+//! A second implementation, written from document 01 alone by a hand that had
+//! not read the Rattle source, but for the calls with the directory lent, which
+//! came later from one that had: `by_reference`, `by_value`, and what these
+//! needed in `calls`, `directory` and `recovery`. Comments cite document 01 by
+//! the titles of its sections.
 
 #![forbid(unsafe_code)]
 
