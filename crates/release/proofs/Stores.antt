@@ -9,7 +9,7 @@ use borrow.Author.Tests.{lt-ltb, le-ltb, ltb-true, ltb-false}
 use lib.ListN.{length, getD}
 use lib.Dec.{ltb, eqb}
 use Rattle.laws.proofs.Bools.{by-cond}
-use Rattle.memory.specs.Layout.{areaSize, deskSize, stepsMade, releaseDesk, recordStamp, recordDone, recordDesk}
+use Rattle.memory.specs.Layout.{areaSize, deskSize, stepsMade, releaseDesk, recordStamp, recordDone}
 use Rattle.memory.specs.Layout.{pageStart, tentativeHalf, committedHalf}
 use Rattle.memory.specs.Area.{AreaIn, load, store}
 use Rattle.memory.proofs.Runs.{getD-load-run, length-load-run}

@@ -1,11 +1,9 @@
 -- Rests on `StepsMade`: what is left of the steps gives what all of them give; the list stays, and so does its table.
-use Prim.Native.Nat.{_<_}
-use mathlib.Core.Path.{_≡_, sym, _∙_}
+use mathlib.Core.Path.{sym, _∙_}
 use native.Mathlib.Omega.{arith}
 use borrow.Author.Needs.{needs}
-use Rattle.memory.specs.Layout.{areaSize}
 use Rattle.protocol.specs.Release.{stepsOf}
-use Rattle.release.specs.Stepping.{homesOf, priceNumber}
+use Rattle.release.specs.Stepping.{homesOf}
 use Rattle.release.proofs.Callers.{homes-kept, card-kept}
 use Rattle.release.proofs.Prices.{number-listed}
 use Rattle.release.proofs.Left.{StepsMade, counted-left, steps-none, steps-one, steps-all}

@@ -1,8 +1,7 @@
 -- Rests on `listed`: `list_stored` writes a table of the release's prices, and on `listed-counts`: it counts them.
-use mathlib.Core.Path.{_≡_}
 use native.Mathlib.Omega.{arith}
 use borrow.Author.Needs.{needs}
-use lib.ListN.{length, replicate}
+use lib.ListN.{replicate}
 use Rattle.release.proofs.Left.{listed-counts, all-left}
 use Rattle.release.proofs.Prices.{listed}
 use Rattle.release.proofs.running.make_steps.Statement.{statement}
