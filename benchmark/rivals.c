@@ -116,7 +116,7 @@ static void lmdb_read_all(uint32_t turn) {
 }
 
 static void lmdb(void) {
-    char folder[] = "/tmp/rivals.XXXXXX", file[64];
+    char folder[] = "out/rivals.XXXXXX", file[64];
     MDB_txn *txn;
     check(mkdtemp(folder) == NULL, "mkdtemp");
     snprintf(file, sizeof file, "%s/rack", folder);

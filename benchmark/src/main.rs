@@ -27,7 +27,8 @@ fn main() {
     println!();
     println!("The second implementation makes several steps one by one, each with its checks.");
     println!();
-    println!("One step of a release of {PRICES} prices, by cards, pages and other open releases:");
+    println!("One step of a release of {PRICES} prices, the opening spread over its {STEPS} steps, by cards, pages");
+    println!("and other open releases:");
     println!();
     println!("| cards | pages | other releases | proved | Rust, by value | ratio | Rust, by reference | ratio |");
     println!("|---|---|---|---|---|---|---|---|");
