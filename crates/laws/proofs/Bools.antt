@@ -19,8 +19,3 @@ and-second false b e = absurd (false≢true e)
 pub neither : (a b : Bool) → a || b ≡ false → (a ≡ false) × (b ≡ false)
 neither true b e = absurd (true≢false e)
 neither false b e = (refl, e)
-
--- a choice that came out as its first value, which the second is not
-pub cond-first : {A : Type 0} (test : Bool) (x y z : A) → cond test x y ≡ z → (y ≡ z → ⊥) → test ≡ true
-cond-first true x y z e other = refl
-cond-first false x y z e other = absurd (other e)

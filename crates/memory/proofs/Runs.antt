@@ -5,20 +5,16 @@ use mathlib.Core.List.{List, _∷_, _++_}
 use native.Mathlib.Nat.{add-assoc}
 use native.Mathlib.Omega.{arith}
 use lib.ListN.{length, getD, drop, length-take, length-drop, length-replicate}
-use lib.Seq.{drop-cons, drop-drop, take-add, getD-take, getD-drop, ext-getD, length-sets}
-use Rattle.laws.proofs.Lists.{sets-append, getD-sets-outside, getD-sets-inside}
+use lib.Seq.{drop-drop, take-add, getD-take, getD-drop, ext-getD, length-sets}
+use Rattle.laws.proofs.Lists.{getD-sets-outside, getD-sets-inside}
 use Rattle.memory.specs.Area.{indexOf, AreaIn, load, store, loadRun, storeRun, zeros, clearRun, copyRun}
-use Rattle.memory.proofs.Index.{index-in, Outside, outside-fewer}
+use Rattle.memory.proofs.Index.{Outside, outside-fewer}
 
 -- ---- zeros
 
 pub length-zeros : (n : ℕ) → length (zeros n) ≡ n
 unfolding zeros
 length-zeros n = length-replicate n 0
-
-pub zeros-cons : (n : ℕ) → zeros (suc n) ≡ 0 ∷ zeros n
-unfolding zeros
-zeros-cons n = refl
 
 -- also past their end
 pub getD-zeros : (n i : ℕ) → getD (zeros n) i 0 ≡ 0
@@ -48,13 +44,6 @@ module _ (size : ℕ) (m : List ℕ) (card offset n : ℕ) where
 
   pub length-load-run : AreaIn (length m) size card → offset + n ≤ size → length (loadRun size m card offset n) ≡ n
   length-load-run area fits = omega (arith, length-load-run-min)
-
-  pub load-run-cons : AreaIn (length m) size card → offset < size
-      → loadRun size m card offset (suc n) ≡ load size m card offset ∷ loadRun size m card (offset + 1) n
-  unfolding load loadRun
-  load-run-cons area inside =
-      let next : suc (indexOf size card offset) ≡ indexOf size card (offset + 1) = omega arith in
-      rw (drop-cons m (indexOf size card offset) 0 (index-in size card offset area inside), next)
 
   pub load-run-append : (k : ℕ)
       → loadRun size m card offset (n + k) ≡ loadRun size m card offset n ++ loadRun size m card (offset + n) k
@@ -101,12 +90,6 @@ module _ (size : ℕ) (m : List ℕ) (card offset : ℕ) (vs : List ℕ) where
       let next : suc (indexOf size card offset) ≡ indexOf size card (offset + 1) = omega arith in
       rw next
 
-  pub store-run-append : (us : List ℕ)
-      → storeRun size m card offset (vs ++ us)
-      ≡ storeRun size (storeRun size m card offset vs) card (offset + length vs) us
-  unfolding storeRun
-  store-run-append us = rw (sets-append, add-assoc)
-
   pub load-store-run-outside : (card′ offset′ : ℕ) → Outside size card offset (length vs) card′ offset′
       → load size (storeRun size m card offset vs) card′ offset′ ≡ load size m card′ offset′
   unfolding load storeRun
@@ -150,12 +133,6 @@ module _ (size : ℕ) (m : List ℕ) (card offset n : ℕ) where
         let long = length-zeros n in
         load-store-run-inside size m card offset (zeros n) area (omega arith) j (omega arith) ∙ getD-zeros n j
 
-    pub load-run-clear-run : loadRun size (clearRun size m card offset n) card offset n ≡ zeros n
-    unfolding clearRun
-    load-run-clear-run =
-        let long = length-zeros n in
-        load-run-store-run size m card offset (zeros n) area (omega arith) n long
-
 -- ---- a run copied
 
 module _ (size : ℕ) (m : List ℕ) (from offset to offset′ n : ℕ) where
@@ -179,10 +156,3 @@ module _ (size : ℕ) (m : List ℕ) (from offset to offset′ n : ℕ) where
         let long = length-load-run size m from offset n source fits in
         load-store-run-inside size m to offset′ (loadRun size m from offset n) target (omega arith) j (omega arith)
         ∙ getD-load-run size m from offset n j inside
-
-    pub load-run-copy-run : loadRun size (copyRun size m from offset to offset′ n) to offset′ n
-        ≡ loadRun size m from offset n
-    unfolding copyRun
-    load-run-copy-run =
-        let long = length-load-run size m from offset n source fits in
-        load-run-store-run size m to offset′ (loadRun size m from offset n) target (omega arith) n long

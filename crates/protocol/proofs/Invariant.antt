@@ -101,9 +101,6 @@ module _ (d : Directory) (two : TwoLive d) (below : (c : ℕ) → isLive d c ≡
   pub next-is-live : isLive d (nextLiveOf d c) ≡ true
   next-is-live = next-live-is-live (d .live) (d .cards) c (next .card) (below (next .card) (next .live)) (next .live)
 
-  pub next-is-below : nextLiveOf d c < d .cards
-  next-is-below = below (nextLiveOf d c) next-is-live
-
   pub next-is-other : nextLiveOf d c ≢ c
   next-is-other = next-live-other (d .live) (d .cards) c (next .card) (below (next .card) (next .live)) (next .live)
       (next .other)
