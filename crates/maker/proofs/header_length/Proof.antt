@@ -27,5 +27,4 @@ returns-3 c =
     )
 
 pub header-length-spec : {M : Type 1} → statement M
-header-length-spec = tie.close
-    (tie.spec (λ c. search needs) returns returns-2 returns-3)
+header-length-spec = tie.close (tie.spec (λ c. search needs) returns returns-2 returns-3)

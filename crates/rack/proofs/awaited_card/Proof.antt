@@ -13,5 +13,4 @@ unfolding awaitedCard
 returns-2 c = rw (c .before .status .given .1)
 
 pub awaited-card-spec : {M : Type 1} → statement M
-awaited-card-spec = tie.close
-    (tie.spec (λ c. search needs) (λ c. search needs) returns returns-2)
+awaited-card-spec = tie.close (tie.spec (λ c. search needs) (λ c. search needs) returns returns-2)

@@ -14,5 +14,4 @@ returns-3 : tie.Need-returns-3
 returns-3 c = simp (ne-eqb _ _ (c .before .if1 .left), ne-eqb _ _ (c .if2 .left))
 
 pub end-word-spec : {M : Type 1} → statement M
-end-word-spec = tie.close
-    (tie.spec (λ c. search needs) returns returns-2 returns-3)
+end-word-spec = tie.close (tie.spec (λ c. search needs) returns returns-2 returns-3)

@@ -27,5 +27,4 @@ returns-4 c = simp (
 )
 
 pub page-word-spec : {M : Type 1} → statement M
-page-word-spec = tie.close
-    (tie.spec returns returns-2 (λ c. search needs) returns-3 returns-4)
+page-word-spec = tie.close (tie.spec returns returns-2 (λ c. search needs) returns-3 returns-4)

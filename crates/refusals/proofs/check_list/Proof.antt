@@ -13,5 +13,4 @@ returns c =
     c .outcome-of .ensures ∙ told (checkDiff (a .pages) (a .list .now)) (c .before .check .ensures)
 
 pub check-list-spec : {M : Type 1} → statement M
-check-list-spec = tie.close
-    (tie.spec (λ c κs. search needs) (λ c κs. search needs) returns)
+check-list-spec = tie.close (tie.spec (λ c κs. search needs) (λ c κs. search needs) returns)
