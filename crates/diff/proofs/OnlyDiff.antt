@@ -22,6 +22,7 @@ use Rattle.diff.specs.Making.{changes, encodeFrom, madeDiff, makeDiff, l
 use Rattle.diff.specs.OnlyDiff.{Allowed, Turns, Names, Differs, MadeIsOnly, MadeIsOnlyDiff}
 use Rattle.diff.proofs.Derivation.{Reads, reads-good, reads-prices, reads-derived, reads-some, ReadsWhole}
 use Rattle.diff.proofs.Derivation.{good-within}
+use Rattle.diff.proofs.Stored.{good-few}
 use Rattle.diff.proofs.Encoding.{Ascending}
 use Rattle.diff.proofs.Coded.{coded, reads-coded}
 use Rattle.diff.proofs.Decoded.{decoded}
@@ -91,6 +92,11 @@ allowed-whole pages diff ok = go (readDiff pages diff) refl ok
         past n true cut e = absurd (omega arith)
         past n false whole e = ltb-false n (length diff) whole
     go (Faulty place) read e = absurd (omega arith)
+
+pub allowed-few : (pages : ℕ) (diff : List ℕ) → Allowed pages diff → length diff ≤ 512
+allowed-few pages diff allowed =
+    let whole = allowed-whole pages diff allowed in
+    omega (arith, good-few pages _ _ diff start 0 (whole .1) (omega arith) (omega arith) .1)
 
 pub whole-allowed : (pages : ℕ) (diff : List ℕ) (k : ℕ) → ReadsWhole pages k diff 0 start → Allowed pages diff
 unfolding checkDiff

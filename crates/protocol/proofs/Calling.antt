@@ -13,11 +13,8 @@ use Rattle.directory.specs.declared.Directory.{Directory}
 use Rattle.directory.specs.Directory.{isLive, backupOf}
 use Rattle.diff.specs.declared.Price.{Price}
 use Rattle.diff.specs.Prices.{labelOf, names, pricesOf}
-use Rattle.diff.specs.OnlyDiff.{Allowed}
-use Rattle.diff.specs.Reading.{start}
 use Rattle.diff.proofs.Prices.{names-none}
-use Rattle.diff.proofs.Stored.{good-few}
-use Rattle.diff.proofs.OnlyDiff.{allowed-whole}
+use Rattle.diff.proofs.OnlyDiff.{allowed-few}
 use Rattle.protocol.specs.Release.{Release, sizeOf, ownRelease, isOpen, stepMemory, countsAt}
 use Rattle.protocol.specs.Opening.{shareWord, sharesWith, openMemory}
 use Rattle.protocol.specs.Book.{Opened, none, opened, listPrices, Book, count, setOpen, stepBook}
@@ -98,11 +95,6 @@ unshared-names (p ∷ ps) others label apart named =
     go true shared apart rest = absurd (true≢false apart)
     go false other apart rest =
         rw (ne-eqb (labelOf p) label (λ same. true≢false (sym named ∙ (rw same at other)))) (rest apart)
-
-allowed-few : (pages : ℕ) (list : List ℕ) → Allowed pages list → length list ≤ 512
-allowed-few pages list allowed =
-    let whole = allowed-whole pages list allowed in
-    omega (arith, good-few pages _ _ list start 0 (whole .1) (omega arith) (omega arith) .1)
 
 module _ (d : Directory) (m : List ℕ) (b : Book) (rack : RunningRack d m b) (c : ℕ) (r : Release) (list : List ℕ)
     (eight : length (r .desk) ≡ 8) (passed : OpeningPassed d m c (r .number) list) where

@@ -4,10 +4,10 @@ use native.Mathlib.Omega.{arith}
 use borrow.Author.Needs.{needs}
 use lib.ListN.{length}
 use Rattle.memory.proofs.Index.{area-in}
+use Rattle.diff.proofs.OnlyDiff.{allowed-few}
 use Rattle.protocol.specs.Release.{releaseOf}
 use Rattle.rack.proofs.Fitting.{fitting}
 use Rattle.rack.proofs.Results.{opening-facts, opening-refused, opening-accepted}
-use Rattle.refusals.proofs.Passing.{allowed-few}
 use Rattle.rack.proofs.open_release.Statement.{statement}
 use Rattle.rack.proofs.open_release.Tie as tie
 

@@ -3,8 +3,8 @@ use mathlib.Core.Path.{sym, _∙_}
 use native.Mathlib.Omega.{arith}
 use borrow.Author.Needs.{needs}
 use borrow.Author.Tests.{lt-ltb, le-ltb}
+use Rattle.diff.proofs.OnlyDiff.{allowed-few}
 use Rattle.checks.proofs.Order.{first-refuses, first-passes, last-passes}
-use Rattle.refusals.proofs.Passing.{allowed-few}
 use Rattle.refusals.proofs.list_refusal.Statement.{statement}
 use Rattle.refusals.proofs.list_refusal.Tie as tie
 
