@@ -1,7 +1,8 @@
-//! One call, made of both: the answers, the directories and every lent word must be equal.
+//! One call, made of both: the answers, the words of the directories and every lent word must be equal.
 
-use crate::guard::{Flush, Guarded};
-use crate::library;
+use crate::guard::Flush;
+use crate::library::{directory_of, words_of, Rack};
+use crate::raw::FIRST_MARK;
 use second::{Answer, Directory};
 
 /// A call with its arguments. A buffer is given by what stands in it before.
@@ -19,6 +20,23 @@ pub enum Call {
     AskDesk { card: u32 },
 }
 
+impl Call {
+    /// The memory is lent to be read.
+    pub fn keeps_memory(&self) -> bool {
+        matches!(self, Call::Fetch { .. } | Call::FetchAll { .. } | Call::Fail { .. } | Call::AskDesk { .. })
+    }
+
+    /// The directory is lent to be read.
+    pub fn keeps_directory(&self) -> bool {
+        !matches!(self, Call::Format { .. } | Call::Fail { .. } | Call::Recover | Call::Join { .. })
+    }
+
+    /// The directory is written anew: by formatting, and by another call that is accepted.
+    fn changes_directory(&self, reply: &Reply) -> bool {
+        matches!(self, Call::Format { .. }) || !self.keeps_directory() && reply.accepted()
+    }
+}
+
 /// What a call answers: the answer, and beside it a page, a desk, the steps made, all pages with a mark for each that
 /// was shown, or nothing.
 #[derive(Clone, PartialEq, Eq, Debug)]
@@ -33,42 +51,78 @@ impl Reply {
     }
 }
 
-/// Two racks that must stay equal: the proved library's and the second implementation's.
+/// Racks that must stay equal: two of the proved library's, one flush left and one flush right, and the second
+/// implementation's.
+#[derive(Clone)]
 pub struct Racks {
-    memory: Guarded,
+    proved: [Rack; 2],
     twin: Vec<u32>,
+    /// The words of the directory, whose marks may be any.
+    words: Vec<u32>,
     pub directory: Directory,
-    flush: Flush,
 }
 
 impl Racks {
-    pub fn new(memory: &[u32], directory: Directory, flush: Flush) -> Self {
-        Self { memory: Guarded::new(memory, flush), twin: memory.to_vec(), directory, flush }
+    pub fn new(memory: &[u32], words: &[u32]) -> Self {
+        Self {
+            proved: [Flush::Left, Flush::Right].map(|flush| Rack::new(memory, words, flush)),
+            twin: memory.to_vec(),
+            words: words.to_vec(),
+            directory: directory_of(words),
+        }
     }
 
-    /// Sets a word of both.
+    /// The stamp of a card, 0 if the memory has no such word.
+    pub fn stamp(&self, card: u32) -> u32 {
+        let area = 676 + 64 * (self.directory.pages as usize % 4096);
+        self.twin.get(card as usize * area).copied().unwrap_or(0)
+    }
+
+    /// Sets a word of every memory.
     pub fn store(&mut self, at: usize, word: u32) {
-        self.memory[at] = word;
+        self.proved.iter_mut().for_each(|rack| rack.memory[at] = word);
         self.twin[at] = word;
     }
 
-    /// Makes the call of both and compares all that they hand back.
+    /// Gives a live mark another word: the directory is the same.
+    pub fn disguise_mark(&mut self, card: usize, word: u32) {
+        let at = FIRST_MARK + card;
+        if word != 0 && self.words[at] != 0 {
+            self.proved.iter_mut().for_each(|rack| rack.directory[at] = word);
+            self.words[at] = word;
+        }
+    }
+
+    /// Makes the call of all and compares all that they hand back.
     pub fn call(&mut self, call: &Call) -> Result<Reply, String> {
-        let before = self.directory;
-        let (after, reply) = library::make(&mut self.memory, before, call, self.flush);
-        let (expected_after, expected) = make_second(&mut self.twin, before, call);
-        let differ = |what: &str| Err(format!("{call:?}: {what}: {reply:?}, second implementation {expected:?}"));
-        if reply != expected {
-            return differ("the answers differ");
+        let (after, expected) = make_second(&mut self.twin, self.directory, call);
+        let differ = |what: String| format!("{call:?}: {what}; second implementation {expected:?}");
+        if call.changes_directory(&expected) {
+            self.words = words_of(&after);
+        } else if after != self.directory {
+            return Err(differ("the directory is not kept".into()));
         }
-        if after != expected_after {
-            return differ("the directories differ");
-        }
-        if let Some(at) = (0..self.twin.len()).find(|&at| self.memory[at] != self.twin[at]) {
-            return differ(&format!("word {at} of the memory differs"));
+        for rack in &mut self.proved {
+            let reply = rack.make(call);
+            if reply != expected {
+                return Err(differ(format!("the answers differ: {reply:?}")));
+            }
+            if let Some(at) = first_difference(&rack.directory, &self.words) {
+                return Err(differ(format!("word {at} of the directory differs")));
+            }
+            if let Some(at) = first_difference(&rack.memory, &self.twin) {
+                return Err(differ(format!("word {at} of the memory differs")));
+            }
         }
         self.directory = after;
-        Ok(reply)
+        Ok(expected)
+    }
+}
+
+fn first_difference(words: &[u32], expected: &[u32]) -> Option<usize> {
+    match words == expected {
+        true => None,
+        false => (0..words.len()).find(|&at| words[at] != expected[at]),
     }
 }
 

@@ -1,39 +1,46 @@
-//! Single calls on damaged memories and directories: random words anywhere, lists without an end word, releases that
-//! overlap, memories of another length.
+//! Single calls on damaged memories and directories: random words anywhere, lists without an end word, steps past the last,
+//! records that no call left, releases that overlap, memories of another length.
 
 use crate::calls::{Call, Racks};
-use crate::guard::Flush;
+use crate::library::words_of;
 use crate::lists;
 use crate::play::number;
 use crate::random::Random;
 use second::{Directory, Status};
 
-/// One damaged rack, and a few calls on it.
-pub fn compare(random: &mut Random, flush: Flush, seen: &mut [u64; 19]) -> Result<u64, String> {
-    let (memory, directory) = reached(random);
+/// The damaged rack of this number, and a few calls on it.
+pub fn compare(random: &mut Random, at: u64, seen: &mut [u64; 19]) -> Result<u64, String> {
+    let (cards, pages) = match at % 40 {
+        0 => (8, 64),
+        1 => (3, 1),
+        2..=5 => (random.within(3, 8), random.within(16, 64)),
+        _ => (random.within(3, 8), random.within(1, 4)),
+    };
+    let (memory, directory) = reached(random, cards, pages);
     let (memory, directory) = damaged(random, memory, directory);
-    let mut racks = Racks::new(&memory, directory, flush);
+    let mut racks = Racks::new(&memory, &words_of(&directory));
     let calls = random.within(1, 6);
     for _ in 0..calls {
-        let call = any_call(random, &racks.directory);
+        let mark = random.odd_word();
+        racks.disguise_mark(random.below(8) as usize, mark);
+        let call = any_call(random, &racks);
         seen[number(&racks.call(&call)?)] += 1;
     }
     Ok(calls.into())
 }
 
 /// A rack that calls have led to, with releases open, cards dead or awaited.
-fn reached(random: &mut Random) -> (Vec<u32>, Directory) {
-    let (cards, pages) = (random.within(3, 8), random.within(1, 4));
+fn reached(random: &mut Random, cards: u32, pages: u32) -> (Vec<u32>, Directory) {
     let mut memory = vec![0; cards as usize * (676 + 64 * pages as usize)];
     let (mut directory, _) = second::format_rack(&mut memory, cards, pages);
-    for _ in 0..random.below(10) {
+    for _ in 0..random.below(14) {
         let card = random.below(cards);
-        let after = match random.below(6) {
-            0 => second::fail_card(&memory, directory, card).0,
-            1 => second::recover(&mut memory, directory).0,
-            2 => second::join_card(&mut memory, directory, card).0,
+        let after = match random.below(7) {
+            0 | 1 => second::fail_card(&memory, directory, card).0,
+            2 | 3 => second::recover(&mut memory, directory).0,
+            4 => second::join_card(&mut memory, directory, card).0,
             _ => {
-                let number = memory[card as usize * (676 + 64 * pages as usize)].wrapping_add(1);
+                let number = memory[card as usize * area_of(&directory)].wrapping_add(1);
                 let list = lists::allowed(random, pages, 30 * pages);
                 second::open_release(&mut memory, directory, card, number, random.desk(), &list);
                 let count = random.below(40);
@@ -42,16 +49,30 @@ fn reached(random: &mut Random) -> (Vec<u32>, Directory) {
         };
         directory = after;
     }
+    if random.one_in(4) {
+        directory = with_dead_cards(random, &mut memory, directory);
+    }
     (memory, directory)
+}
+
+/// Cards fail one after the other, each with its recovery.
+fn with_dead_cards(random: &mut Random, memory: &mut [u32], mut directory: Directory) -> Directory {
+    for _ in 0..random.below(directory.cards) {
+        directory = second::fail_card(memory, directory, random.below(directory.cards)).0;
+        directory = second::recover(memory, directory).0;
+    }
+    directory
 }
 
 fn damaged(random: &mut Random, mut memory: Vec<u32>, mut directory: Directory) -> (Vec<u32>, Directory) {
     for _ in 0..random.below(4) {
-        match random.below(6) {
+        match random.below(10) {
             0 => damage_directory(random, &mut directory),
             1 => overlap(random, &mut memory, &directory),
             2 if random.one_in(6) => memory.resize(random.below(6_000) as usize, 1),
-            3 => damage_area(random, &mut memory, &directory),
+            3 | 4 => damage_area(random, &mut memory, &directory),
+            5 | 6 => put_release(random, &mut memory, &directory),
+            7 | 8 => damage_record(random, &mut memory, &directory),
             _ if memory.is_empty() => {}
             _ => {
                 let at = random.below(memory.len() as u32) as usize;
@@ -62,19 +83,61 @@ fn damaged(random: &mut Random, mut memory: Vec<u32>, mut directory: Directory) 
     (memory, directory)
 }
 
-/// A word that the checks look at, or that a list is read from.
+fn area_of(directory: &Directory) -> usize {
+    676 + 64 * (directory.pages as usize % 4096)
+}
+
+/// A word that the checks look at, that a list is read from, or of a page.
 fn damage_area(random: &mut Random, memory: &mut [u32], directory: &Directory) {
-    let area = 676 + 64 * directory.pages as usize % 4096;
-    let offset = random.of(&[0, 9, 9, 10, 10, 11, 164, 164, 165, 166, 168, 675]);
+    let area = area_of(directory);
+    let page_word = random.within(676, area as u32) as usize;
+    let offset = random.of(&[0, 0, 9, 9, 10, 10, 11, 164, 164, 165, 166, 168, 675, page_word, page_word]);
     let at = random.below(8) as usize * area + offset;
     if let Some(word) = memory.get_mut(at) {
         *word = random.odd_word();
     }
 }
 
+/// A release on one card, about to count or to close, or past that. Its list may go on past word 675, in the words of the
+/// first pages.
+fn put_release(random: &mut Random, memory: &mut [u32], directory: &Directory) {
+    let (area, pages) = (area_of(directory), directory.pages.clamp(1, 64));
+    let list = match random.below(6) {
+        0 => lists::near_limit(random, pages),
+        1 => {
+            let words = random.within(513, 576);
+            lists::of_length(random, pages, words)
+        }
+        _ => lists::allowed(random, pages, 30 * pages),
+    };
+    let prices = lists::priced(&list).len() as u32;
+    let list = if random.one_in(4) { lists::damaged(random, &list) } else { list };
+    let steps = match random.below(4) {
+        0 => random.below(4 * prices + 11),
+        1 => 2 * prices + random.within(7, 10),
+        _ => 4 * prices + random.within(8, 12),
+    };
+    let at = random.below(directory.cards.clamp(1, 8)) as usize * area;
+    if let Some(own) = memory.get_mut(at..at + area) {
+        let number = own[0].wrapping_add(random.of(&[1, 1, 1, 2]));
+        own[9..12].copy_from_slice(&[1, steps, number]);
+        own[164..].iter_mut().zip(list).for_each(|(word, listed)| *word = listed);
+    }
+}
+
+/// One word of a card's record, on every card: a dead card's if there is one, and mostly the stamp or done mark, so that
+/// either may be the greater.
+fn damage_record(random: &mut Random, memory: &mut [u32], directory: &Directory) {
+    let card = dead_card(random, directory).unwrap_or(random.below(8));
+    let offset = if random.one_in(3) { random.below(18) } else { random.below(2) };
+    let word = if random.one_in(2) { random.below(4) } else { random.odd_word() };
+    let at = (20 + 18 * card + offset) as usize;
+    memory.iter_mut().skip(at).step_by(area_of(directory)).for_each(|record| *record = word);
+}
+
 /// The first card's release words and list also on another card: the two overlap.
 fn overlap(random: &mut Random, memory: &mut [u32], directory: &Directory) {
-    let area = 676 + 64 * directory.pages as usize % 4096;
+    let area = area_of(directory);
     let to = random.within(1, 7) as usize * area;
     if to + area <= memory.len() {
         memory.copy_within(9..20, to + 9);
@@ -97,17 +160,31 @@ fn damage_directory(random: &mut Random, directory: &mut Directory) {
     }
 }
 
-fn any_call(random: &mut Random, directory: &Directory) -> Call {
+/// The awaited card, or any dead one.
+fn dead_card(random: &mut Random, directory: &Directory) -> Option<u32> {
+    let start = random.below(8);
+    match directory.status {
+        Status::Awaiting(card) if card < 8 => Some(card),
+        _ => (0..8).map(|up| (start + up) % 8).find(|&card| is_dead(directory, card)),
+    }
+}
+
+fn is_dead(directory: &Directory, card: u32) -> bool {
+    card < directory.cards && !directory.live[card as usize]
+}
+
+fn any_call(random: &mut Random, racks: &Racks) -> Call {
+    let directory = &racks.directory;
+    match (directory.status, dead_card(random, directory)) {
+        (Status::Awaiting(_), _) if random.one_in(2) => return Call::Recover,
+        (Status::Running, Some(card)) if random.one_in(4) => return Call::Join { card },
+        _ => {}
+    }
     let card = if random.one_in(6) { random.odd_word() } else { random.below(8) };
     let page = if random.one_in(6) { random.odd_word() } else { random.below(4) };
-    match random.below(12) {
+    match random.below(15) {
         0 => Call::Format { cards: random.below(10), pages: random.below(66) },
-        1 | 2 => {
-            let pages = directory.pages.clamp(1, 64);
-            let list = lists::allowed(random, pages, 30 * pages);
-            let list = if random.one_in(3) { lists::damaged(random, &list) } else { list };
-            Call::Open { card, number: random.below(4), desk: random.desk(), list }
-        }
+        1 | 2 | 11..=13 => opening(random, racks, card),
         3 => Call::Step { card },
         4 => Call::Fetch { page, buffer: vec![5; if random.one_in(6) { 31 } else { 32 }] },
         5 => Call::Fail { card },
@@ -119,5 +196,27 @@ fn any_call(random: &mut Random, directory: &Directory) -> Call {
             Call::FetchAll { buffer: vec![5; if random.one_in(6) { room + 1 } else { room }] }
         }
         _ => Call::AskDesk { card },
+    }
+}
+
+/// Mostly the number after the card's stamp, whatever that is.
+fn opening(random: &mut Random, racks: &Racks, card: u32) -> Call {
+    let stamp = racks.stamp(card);
+    let number = match random.one_in(4) {
+        true => random.of(&[0, 1, stamp, stamp.wrapping_add(2), u32::MAX]),
+        false => stamp.wrapping_add(1),
+    };
+    Call::Open { card, number, desk: random.desk(), list: any_list(random, &racks.directory) }
+}
+
+fn any_list(random: &mut Random, directory: &Directory) -> Vec<u32> {
+    let pages = directory.pages.clamp(1, 64);
+    let list = match random.below(6) {
+        0 => lists::near_limit(random, pages),
+        _ => lists::allowed(random, pages, 30 * pages),
+    };
+    match random.one_in(2) {
+        true => lists::damaged(random, &list),
+        false => list,
     }
 }

@@ -1,6 +1,8 @@
-//! Words that end, or begin, at a page that may not be touched: a word read or written outside is a
-//! crash.
+//! Words that end, or begin, at a page that may not be touched: a word read or written outside is a crash, and so is a word
+//! written that is lent to be read.
 
+use std::cell::RefCell;
+use std::collections::HashMap;
 use std::ffi::c_void;
 use std::ops::{Deref, DerefMut};
 use std::ptr;
@@ -12,15 +14,20 @@ pub enum Flush {
     Right,
 }
 
+/// What may be done with the words.
+#[derive(Clone, Copy, PartialEq, Eq, Debug)]
+pub enum Access {
+    Read = 1,
+    ReadWrite = 3,
+}
+
 const PAGE: usize = 4096;
 const PROT_NONE: i32 = 0;
-const PROT_READ_WRITE: i32 = 3;
 const MAP_PRIVATE_ANONYMOUS: i32 = 0x22;
 
 extern "C" {
     fn mmap(at: *mut c_void, len: usize, prot: i32, flags: i32, fd: i32, offset: i64) -> *mut c_void;
     fn mprotect(at: *mut c_void, len: usize, prot: i32) -> i32;
-    fn munmap(at: *mut c_void, len: usize) -> i32;
 }
 
 pub struct Guarded {
@@ -28,6 +35,33 @@ pub struct Guarded {
     map_len: usize,
     words: *mut u32,
     len: usize,
+    flush: Flush,
+    access: Access,
+}
+
+thread_local! {
+    /// Maps that are free again, by their length: a fresh one for all that is lent would take most of the time.
+    static FREE: RefCell<HashMap<usize, Vec<*mut u8>>> = RefCell::default();
+}
+
+/// A fresh map whose first and last page may not be touched.
+fn map_of(map_len: usize) -> *mut u8 {
+    // SAFETY: a fresh anonymous map, to which no one refers yet.
+    unsafe {
+        let map = mmap(ptr::null_mut(), map_len, PROT_NONE, MAP_PRIVATE_ANONYMOUS, -1, 0).cast::<u8>();
+        assert!(map as isize != -1, "mmap");
+        allow(map, map_len, Access::ReadWrite);
+        map
+    }
+}
+
+/// # Safety
+/// The map is one of `map_of`, of this length, and no one refers to its words.
+unsafe fn allow(map: *mut u8, map_len: usize, access: Access) {
+    let room = map_len - 2 * PAGE;
+    if room > 0 {
+        assert_eq!(mprotect(map.add(PAGE).cast(), room, access as i32), 0, "mprotect");
+    }
 }
 
 impl Guarded {
@@ -35,31 +69,55 @@ impl Guarded {
         let bytes = words.len() * 4;
         let room = bytes.next_multiple_of(PAGE);
         let map_len = room + 2 * PAGE;
-        // SAFETY: a fresh anonymous map; the room between its first and last page is made usable, and the words stand
-        // inside it.
+        let free = FREE.with_borrow_mut(|free| free.get_mut(&map_len).and_then(Vec::pop));
+        let map = free.unwrap_or_else(|| map_of(map_len));
+        let start = match flush {
+            Flush::Left => PAGE,
+            Flush::Right => PAGE + room - bytes,
+        };
+        // SAFETY: the words stand inside the room of the map, which may be written and is no one else's.
         unsafe {
-            let map = mmap(ptr::null_mut(), map_len, PROT_NONE, MAP_PRIVATE_ANONYMOUS, -1, 0).cast::<u8>();
-            assert!(map as isize != -1, "mmap");
-            if room > 0 {
-                assert_eq!(mprotect(map.add(PAGE).cast(), room, PROT_READ_WRITE), 0, "mprotect");
-            }
-            let start = match flush {
-                Flush::Left => PAGE,
-                Flush::Right => PAGE + room - bytes,
-            };
             let at = map.add(start).cast::<u32>();
             ptr::copy_nonoverlapping(words.as_ptr(), at, words.len());
-            Self { map, map_len, words: at, len: words.len() }
+            Self { map, map_len, words: at, len: words.len(), flush, access: Access::ReadWrite }
         }
+    }
+
+    /// Words that may only be read.
+    pub fn read_only(words: &[u32], flush: Flush) -> Self {
+        let mut guarded = Self::new(words, flush);
+        guarded.allow(Access::Read);
+        guarded
+    }
+
+    pub fn allow(&mut self, access: Access) {
+        if access != self.access {
+            // SAFETY: the map is this one's alone, and every reference to the words borrows `self`.
+            unsafe { allow(self.map, self.map_len, access) };
+            self.access = access;
+        }
+    }
+
+    /// The first word, for a call that may write it only if that is allowed.
+    pub fn first(&self) -> *mut u32 {
+        self.words
+    }
+
+    pub fn flush(&self) -> Flush {
+        self.flush
+    }
+}
+
+impl Clone for Guarded {
+    fn clone(&self) -> Self {
+        Self::new(self, self.flush)
     }
 }
 
 impl Drop for Guarded {
     fn drop(&mut self) {
-        // SAFETY: the map was made in `new`, and nothing refers to it any more.
-        unsafe {
-            munmap(self.map.cast(), self.map_len);
-        }
+        self.allow(Access::ReadWrite);
+        FREE.with_borrow_mut(|free| free.entry(self.map_len).or_default().push(self.map));
     }
 }
 
@@ -74,7 +132,8 @@ impl Deref for Guarded {
 
 impl DerefMut for Guarded {
     fn deref_mut(&mut self) -> &mut [u32] {
-        // SAFETY: as in `deref`, and `self` is borrowed alone.
+        self.allow(Access::ReadWrite);
+        // SAFETY: as in `deref`, `self` is borrowed alone, and the words may be written.
         unsafe { std::slice::from_raw_parts_mut(self.words, self.len) }
     }
 }

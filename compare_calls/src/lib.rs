@@ -3,6 +3,7 @@
 pub mod calls;
 pub mod damage;
 pub mod guard;
+pub mod held;
 pub mod library;
 pub mod lists;
 pub mod play;

@@ -1,9 +1,8 @@
-//! Makes the same calls of the proved library and of the second implementation, and compares answers, directories and
-//! every lent word; the book is held beside both.
+//! Makes the same calls of the proved library and of the second implementation, and compares answers, the words of the
+//! directories and every lent word; the book is held beside both.
 //!
 //!     compare_calls [--seed N] [--calls N]
 
-use compare_calls::guard::Flush;
 use compare_calls::play::Play;
 use compare_calls::random::Random;
 use compare_calls::{damage, lists, sweep};
@@ -47,43 +46,58 @@ fn main() -> ExitCode {
 /// top.
 fn compare(options: &Options) -> Result<String, String> {
     let mut seen = [0; 19];
-    let swept = sweep::compare(Flush::Right)? + sweep::compare(Flush::Left)?;
-    let played = play_all(options, &mut seen)?;
     let mut random = Random::new(options.seed);
-    let mut damaged = 0;
-    while damaged < options.calls / 3 {
-        let flush = random.of(&[Flush::Left, Flush::Right]);
-        damaged += damage::compare(&mut random, flush, &mut seen)?;
-    }
+    let played = play_all(&mut random, options.calls / 2, &mut seen)?;
+    let damaged = damage_all(&mut random, options.calls / 3, &mut seen)?;
     let made = options.calls / 6;
     for _ in 0..made {
-        let flush = random.of(&[Flush::Left, Flush::Right]);
-        lists::compare_makers(&mut random, flush)?;
+        lists::compare_makers(&mut random)?;
     }
     // 18 is shelfrun's alone
     if let Some(number) = (1..18).find(|&number| seen[number] == 0) {
         return Err(format!("no call was refused with {number}"));
     }
+    let swept = sweep::compare()?;
     Ok(format!(
-        "{swept} swept, {played} played with the book, {damaged} on damaged racks, {made} lists made: all equal (seed {})\n\
+        "{swept} swept and {played} played with the book, {damaged} on damaged racks, {made} lists made, each flush left \
+         and flush right: all equal (seed {})\n\
          compare_calls: calls by refusal (0: accepted): {seen:?}",
         options.seed
     ))
 }
 
-fn play_all(options: &Options, seen: &mut [u64; 19]) -> Result<u64, String> {
+/// The greatest and the smallest rack always come first. Each play draws its own generator from the one of the seed.
+fn play_all(random: &mut Random, calls: u64, seen: &mut [u64; 19]) -> Result<u64, String> {
     let mut played = 0;
     for at in 0.. {
-        if played >= options.calls / 2 {
+        if played >= calls {
             break;
         }
-        let mut random = Random::new(options.seed ^ at);
-        let (cards, flush) = (random.within(3, 8), random.of(&[Flush::Left, Flush::Right]));
+        let mut random = random.fork();
         let pages = if random.one_in(8) { random.within(1, 64) } else { random.within(1, 4) };
-        let calls = random.within(50, 1_000);
-        let mut play = Play::new(options.seed ^ at, cards, pages, flush)?;
-        play.run(calls, seen).map_err(|error| format!("{cards} cards, {pages} pages, play {at}: {error}"))?;
-        played += u64::from(calls);
+        let (cards, pages) = match at {
+            0 => (8, 64),
+            1 => (3, 1),
+            2 => (3, 64),
+            3 => (8, 1),
+            _ => (random.within(3, 8), pages),
+        };
+        let made = random.within(50, 1_000);
+        Play::new(random, cards, pages)
+            .and_then(|mut play| play.run(made, seen))
+            .map_err(|error| format!("{cards} cards, {pages} pages, play {at}: {error}"))?;
+        played += u64::from(made);
     }
     Ok(played)
+}
+
+fn damage_all(random: &mut Random, calls: u64, seen: &mut [u64; 19]) -> Result<u64, String> {
+    let mut damaged = 0;
+    for at in 0.. {
+        if damaged >= calls {
+            break;
+        }
+        damaged += damage::compare(random, at, seen).map_err(|error| format!("damaged rack {at}: {error}"))?;
+    }
+    Ok(damaged)
 }

@@ -3,8 +3,15 @@
 pub struct Random(u64);
 
 impl Random {
+    /// No two seeds give the same numbers, but for the one whose state would be 0, where the generator stands still.
     pub fn new(seed: u64) -> Self {
-        Self(seed.wrapping_mul(0x9E37_79B9_7F4A_7C15) ^ 0x2545_F491_4F6C_DD1D | 1)
+        let state = seed.wrapping_mul(0x9E37_79B9_7F4A_7C15) ^ 0x2545_F491_4F6C_DD1D;
+        Self(if state == 0 { 1 } else { state })
+    }
+
+    /// A generator of its own, drawn from this one.
+    pub fn fork(&mut self) -> Self {
+        Self::new(u64::from(self.word()) << 32 | u64::from(self.word()))
     }
 
     pub fn word(&mut self) -> u32 {
@@ -12,6 +19,10 @@ impl Random {
         self.0 ^= self.0 >> 7;
         self.0 ^= self.0 << 17;
         (self.0 >> 16) as u32
+    }
+
+    pub fn words(&mut self, count: usize) -> Vec<u32> {
+        (0..count).map(|_| self.word()).collect()
     }
 
     pub fn below(&mut self, limit: u32) -> u32 {

@@ -5,6 +5,7 @@ pub const RUNNING: u32 = u32::MAX;
 
 /// The words of a directory: cards, pages, the awaited card, 8 marks, 64 primary and 64 secondary homes.
 pub const DIRECTORY: usize = 139;
+pub const FIRST_MARK: usize = 3;
 
 #[repr(C)]
 pub struct RackAnswer {

@@ -1,60 +1,146 @@
-//! Every card fails after every step of a release of two prices, on racks of 3 to 8 cards; then the others are asked. The
-//! steps are made one by one, and in one call.
+//! Every card fails at every step of one release, and of two that are open on different cards, on racks of 3 to 8 cards; then
+//! the others are asked, the card joins, and the next one fails.
 
-use crate::calls::{Call, Racks};
-use crate::guard::Flush;
+use crate::calls::{Call, Reply};
+use crate::held::Held;
+use crate::raw::DIRECTORY;
+use std::cell::Cell;
 
-/// Page 0 words 2 and 3.
-const LIST: [u32; 5] = [0x1000_0000, 0x2002_0002, 250, 199, 0xF000_0004];
-const STEPS: u32 = 19;
+/// A rack on which releases are open. The first has two prices and 19 steps, the other one price and 15 steps.
+#[derive(Clone)]
+struct Swept<'a> {
+    held: Held,
+    cards: u32,
+    pages: u32,
+    first: u32,
+    other: u32,
+    /// The calls made of this rack and of its clones.
+    calls: &'a Cell<u64>,
+}
+
+const FIRST_STEPS: u32 = 19;
+const OTHER_STEPS: u32 = 15;
 
 /// Makes all calls, and says how many.
-pub fn compare(flush: Flush) -> Result<u64, String> {
-    let mut calls = 0;
+pub fn compare() -> Result<u64, String> {
+    let calls = Cell::new(0);
     for cards in 3..=8 {
-        for failing in 0..cards {
-            for steps in 0..=STEPS {
-                calls += fail_after(cards, failing, steps, single, flush)?;
-                calls += fail_after(cards, failing, steps, batched, flush)?;
+        for pages in [1, 2, 64] {
+            for (first, other) in [(1, 2), (cards - 1, 0)] {
+                Swept::new(cards, pages, first, other, &calls)
+                    .and_then(Swept::fail_everywhere)
+                    .map_err(|error| format!("sweep, {cards} cards, {pages} pages: {error}"))?;
             }
         }
     }
-    Ok(calls)
+    Ok(calls.get())
 }
 
-fn single(count: u32) -> Vec<Call> {
-    vec![Call::Step { card: 1 }; count as usize]
-}
-
-fn batched(count: u32) -> Vec<Call> {
-    vec![Call::Steps { card: 1, count }]
-}
-
-fn fail_after(
-    cards: u32,
-    failing: u32,
-    steps: u32,
-    steps_of: fn(u32) -> Vec<Call>,
-    flush: Flush,
-) -> Result<u64, String> {
-    let pages = 2;
-    let memory = vec![9; cards as usize * (676 + 64 * pages as usize)];
-    let (empty, _) = second::format_rack(&mut [], 0, 0);
-    let mut racks = Racks::new(&memory, empty, flush);
-    let open = |number| Call::Open { card: 1, number, desk: [number; 8], list: LIST.to_vec() };
-    let fetch = |page| Call::Fetch { page, buffer: vec![0; 32] };
-    let fetch_all = || Call::FetchAll { buffer: vec![0; 64] };
-    let mut calls = vec![Call::Format { cards, pages }, open(1)];
-    calls.extend(steps_of(STEPS));
-    calls.push(open(2));
-    calls.extend(steps_of(steps));
-    calls.extend([fetch(0), fetch_all(), Call::Fail { card: failing }, fetch(0), fetch_all()]);
-    calls.extend([Call::Recover, fetch(0), fetch(1), fetch_all()]);
-    calls.extend((0..cards).map(|card| Call::AskDesk { card }));
-    calls.extend([Call::Join { card: failing }, open(2), open(3), Call::Step { card: 1 }, fetch(0)]);
-    calls.extend([Call::Steps { card: 1, count: STEPS }, fetch_all()]);
-    for call in &calls {
-        racks.call(call)?;
+impl<'a> Swept<'a> {
+    /// Both cards have made a release before, so that their stamps and desks are not those of a formatted rack.
+    fn new(cards: u32, pages: u32, first: u32, other: u32, calls: &'a Cell<u64>) -> Result<Self, String> {
+        let memory = vec![9; cards as usize * (676 + 64 * pages as usize)];
+        let held = Held::formatted(&memory, &[7; DIRECTORY], cards, pages)?;
+        let mut swept = Self { held, cards, pages, first, other, calls };
+        swept.open(first)?;
+        swept.open(other)?;
+        for card in [first, other] {
+            swept.call(Call::Steps { card, count: FIRST_STEPS })?;
+        }
+        swept.open(first)?;
+        Ok(swept)
     }
-    Ok(calls.len() as u64)
+
+    fn call(&mut self, call: Call) -> Result<Reply, String> {
+        self.calls.set(self.calls.get() + 1);
+        self.held.call(&call)
+    }
+
+    /// A call that must be accepted, so that the sweep shows what it is meant to.
+    fn accepted(&mut self, call: Call) -> Result<(), String> {
+        let reply = self.call(call.clone())?;
+        match reply.accepted() {
+            true => Ok(()),
+            false => Err(format!("{call:?}: {reply:?}")),
+        }
+    }
+
+    /// The next release of a card: page 0 word 2 and the last page's last word, or page 0 word 4.
+    fn open(&mut self, card: u32) -> Result<(), String> {
+        let number = self.held.book.last(card).0 + 1;
+        let price = 100 * number + card;
+        let list = match (card == self.first, self.pages) {
+            (true, 1) => vec![0x1000_0000, 0x2002_0001, price, 0x201F_0001, price, 0xF000_0005],
+            (true, pages) => {
+                vec![0x1000_0000, 0x2002_0001, price, 0x1000_0000 | (pages - 1), 0x201F_0001, price, 0xF000_0006]
+            }
+            (false, _) => vec![0x1000_0000, 0x2004_0001, price, 0xF000_0003],
+        };
+        self.accepted(Call::Open { card, number, desk: [price; 8], list })
+    }
+
+    fn fetch(&mut self, page: u32) -> Result<Reply, String> {
+        self.call(Call::Fetch { page, buffer: vec![5; 32] })
+    }
+
+    fn fetch_all(&mut self) -> Result<(), String> {
+        self.accepted(Call::FetchAll { buffer: vec![5; 32 * self.pages as usize] })
+    }
+
+    fn fail_everywhere(self) -> Result<(), String> {
+        self.one_release()?;
+        self.two_releases()
+    }
+
+    /// The steps are made one by one, and in one call.
+    fn one_release(&self) -> Result<(), String> {
+        let mut stepped = self.clone();
+        for count in 0..=FIRST_STEPS {
+            self.clone().call(Call::Steps { card: self.first, count })?;
+            stepped.each_fails()?;
+            stepped.call(Call::Step { card: self.first })?;
+        }
+        Ok(())
+    }
+
+    /// Every pair of steps; on 64 pages, whose memory is long, the two cards make their steps by turns.
+    fn two_releases(mut self) -> Result<(), String> {
+        self.open(self.other)?;
+        for first in 0..=FIRST_STEPS {
+            let mut stepped = self.clone();
+            let turn = first.min(OTHER_STEPS);
+            for other in 0..=OTHER_STEPS {
+                if self.pages < 64 || other == turn || other + 1 == turn {
+                    stepped.each_fails()?;
+                }
+                stepped.call(Call::Step { card: self.other })?;
+            }
+            self.call(Call::Step { card: self.first })?;
+        }
+        Ok(())
+    }
+
+    fn each_fails(&self) -> Result<(), String> {
+        (0..self.cards).try_for_each(|failing| {
+            self.clone().fails(failing).map_err(|error| format!("card {failing} fails: {error}"))
+        })
+    }
+
+    fn fails(&mut self, failing: u32) -> Result<(), String> {
+        self.fetch_all()?;
+        self.accepted(Call::Fail { card: failing })?;
+        self.fetch(0)?;
+        self.accepted(Call::Recover)?;
+        self.fetch(self.pages - 1)?;
+        self.fetch_all()?;
+        for card in 0..self.cards {
+            self.accepted(Call::AskDesk { card })?;
+        }
+        self.accepted(Call::Join { card: failing })?;
+        self.open(self.first)?;
+        self.call(Call::Steps { card: self.first, count: 7 })?;
+        self.accepted(Call::Fail { card: (failing + 1) % self.cards })?;
+        self.accepted(Call::Recover)?;
+        self.fetch_all()
+    }
 }

@@ -1,0 +1,83 @@
+//! Racks with the book held beside them.
+
+use crate::calls::{Call, Racks, Reply};
+use second::book::{self, Book};
+use second::Answer;
+
+#[derive(Clone)]
+pub struct Held {
+    pub racks: Racks,
+    pub book: Book,
+    /// The cards that have failed and not joined.
+    pub away: Vec<u32>,
+}
+
+impl Held {
+    /// A newly formatted rack, whatever the memory and the words of the directory were.
+    pub fn formatted(memory: &[u32], words: &[u32], cards: u32, pages: u32) -> Result<Self, String> {
+        let mut racks = Racks::new(memory, words);
+        let reply = racks.call(&Call::Format { cards, pages })?;
+        match reply.accepted() {
+            true => Ok(Self { racks, book: Book::new(), away: Vec::new() }),
+            false => Err(format!("formatting: {reply:?}")),
+        }
+    }
+
+    /// Makes the call of all, and holds the book beside.
+    pub fn call(&mut self, call: &Call) -> Result<Reply, String> {
+        let reply = self.racks.call(call)?;
+        self.hold(call, &reply).map_err(|error| format!("{call:?}: {error}"))?;
+        self.note(call, &reply);
+        Ok(reply)
+    }
+
+    /// What demand 3 says of an accepted call's answer.
+    fn hold(&self, call: &Call, reply: &Reply) -> Result<(), String> {
+        let expected = match call {
+            _ if !reply.accepted() => return Ok(()),
+            Call::Fetch { page, .. } => self.book.page(*page).to_vec(),
+            Call::FetchAll { buffer } => self.all_pages(buffer, &reply.beside),
+            Call::Recover => self.book.last(self.book.failed()).1.to_vec(),
+            Call::AskDesk { card } if !self.book.is_open(*card) => self.book.last(*card).1.to_vec(),
+            _ => return Ok(()),
+        };
+        let stamp = Answer::Given(u64::from(self.book.last(self.book.failed()).0));
+        match reply.beside == expected && (!matches!(call, Call::Recover) || reply.answer == stamp) {
+            true => Ok(()),
+            false => Err(format!("{reply:?}, the book has {expected:?}, {stamp:?}")),
+        }
+    }
+
+    /// The book's words of each page that is marked as shown, those before of the others; then the marks.
+    fn all_pages(&self, before: &[u32], told: &[u32]) -> Vec<u32> {
+        let marks = &told[before.len()..];
+        let pages = before.chunks(32).zip(0..).flat_map(|(words, page)| match marks[page as usize] {
+            0 => words.to_vec(),
+            _ => self.book.page(page).to_vec(),
+        });
+        pages.chain(marks.iter().copied()).collect()
+    }
+
+    fn note(&mut self, call: &Call, reply: &Reply) {
+        let accepted = reply.accepted();
+        let told = match call.clone() {
+            Call::Open { card, number, desk, list } => book::Call::Open { card, number, desk, list },
+            Call::Step { card } => book::Call::Step { card },
+            Call::Steps { card, .. } => {
+                (0..reply.beside[0]).for_each(|_| self.book.feed(&book::Call::Step { card }, true));
+                return;
+            }
+            Call::Fail { card } => {
+                self.away.extend(accepted.then_some(card));
+                book::Call::Fail { card }
+            }
+            Call::Join { card } => {
+                self.away.retain(|&away| !accepted || away != card);
+                book::Call::Join { card }
+            }
+            Call::Recover => book::Call::Recover,
+            Call::Fetch { .. } | Call::FetchAll { .. } | Call::AskDesk { .. } | Call::Format { .. } => return,
+        };
+        self.book.feed(&told, accepted);
+    }
+}
