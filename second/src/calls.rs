@@ -101,6 +101,9 @@ pub fn fetch_all(
     }
     let pages = (0..directory.pages).zip(buffer.chunks_mut(PAGE_WORDS));
     for ((page, words), mark) in pages.zip(&mut shown) {
+        if cfg!(feature = "wrong_last_page") && page == 63 {
+            continue;
+        }
         if checks::counting_card(memory, directory, page).is_none() {
             words.copy_from_slice(committed_page(memory, directory, page));
             *mark = true;

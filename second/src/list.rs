@@ -91,7 +91,10 @@ impl Reader {
 /// the first 512 are not looked at: a list that goes on there is at fault at 512,
 /// and one that stops before its end word is at fault at its length.
 pub fn read_list(list: &[u32], pages: u32) -> Result<Extent, usize> {
-    let list = &list[..list.len().min(LIST_WORDS)];
+    let list = match cfg!(feature = "wrong_stored_list") {
+        true => list,
+        false => &list[..list.len().min(LIST_WORDS)],
+    };
     let mut reader = Reader::default();
     let mut at = 0;
     while let Some(&word) = list.get(at) {
@@ -118,7 +121,13 @@ pub fn read_list(list: &[u32], pages: u32) -> Result<Extent, usize> {
 
 /// Reads a list handed in: "Nothing follows the end word".
 pub fn read_handed_in(list: &[u32], pages: u32) -> Result<Extent, usize> {
-    let extent = read_list(list, pages)?;
+    if cfg!(feature = "wrong_handed_in") && list.len() == LIST_WORDS {
+        return Err(LIST_WORDS);
+    }
+    let extent = match read_list(&list[..list.len().min(LIST_WORDS)], pages) {
+        Err(LIST_WORDS) if cfg!(feature = "wrong_place") => return Err(list.len()),
+        read => read?,
+    };
     if extent.words < list.len() {
         return Err(extent.words);
     }
@@ -210,7 +219,8 @@ pub fn make_list(working: &[u32], twins: &[u32], buffer: &mut [u32]) -> Answer {
         return Answer::Refused(1, 0);
     }
     let list = changes(working, twins);
-    if list.len() > LIST_WORDS || list.len() > buffer.len() {
+    let longest = LIST_WORDS - usize::from(cfg!(feature = "wrong_maker"));
+    if list.len() > longest || list.len() > buffer.len() {
         return Answer::Refused(17, 0);
     }
     buffer[..list.len()].copy_from_slice(&list);

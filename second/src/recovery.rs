@@ -44,6 +44,9 @@ fn steps_left(area: &[u32]) -> u32 {
 /// committed stores may be missing.
 #[cfg(not(feature = "wrong"))]
 fn second_phase(record: &Record) -> bool {
+    if cfg!(feature = "wrong_done_mark") {
+        return record.stamp > record.done_mark;
+    }
     record.stamp != record.done_mark
 }
 
@@ -133,6 +136,10 @@ pub fn join(memory: &mut [u32], directory: &mut Directory, joining: u32) {
 
 /// Copies the whole record of a dead card from one card to another.
 fn copy_record(memory: &mut [u32], pages: u32, dead: u32, from: u32, to: u32) {
+    if cfg!(feature = "wrong_join") {
+        let record = Record::read(area(memory, pages, from), dead);
+        return record.write(area_mut(memory, pages, to), dead);
+    }
     let start = area_at(pages, from) + record_at(dead);
     let to = area_at(pages, to) + record_at(dead);
     memory.copy_within(start..start + RECORD_WORDS, to);

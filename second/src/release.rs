@@ -15,11 +15,17 @@ pub fn counting_steps(prices: u32) -> u32 {
 
 /// The steps of a whole release: 4k + 11.
 pub fn all_steps(prices: u32) -> u32 {
+    if cfg!(feature = "wrong_long_release") {
+        return (4 * prices + 11).min(700);
+    }
     4 * prices + 11
 }
 
 /// The words of an area that hold the open release's list.
 pub fn list_of(area: &[u32]) -> &[u32] {
+    if cfg!(feature = "wrong_stored_list") {
+        return &area[LIST..];
+    }
     &area[LIST..LIST + LIST_WORDS]
 }
 
