@@ -2,14 +2,16 @@
 use Prim.Native.Nat.{ℕ, _*_, _<_, _≤_}
 use mathlib.Core.Path.{_≡_}
 use mathlib.Core.List.{List, []}
-use mathlib.Core.Bool.{Bool, true, _&&_}
+use mathlib.Core.Bool.{Bool, true, cond, _&&_}
 use lib.ListN.{length}
 use lib.Dec.{eqb}
-use Rattle.memory.specs.Layout.{areaSize}
+use Rattle.memory.specs.Layout.{areaSize, recordStamp}
+use Rattle.memory.specs.Area.{storeRun}
 use Rattle.directory.specs.declared.Directory.{Directory}
 use Rattle.directory.specs.declared.Status.the-variants.{Running}
 use Rattle.directory.specs.Live.{liveAt, nextLive}
-use Rattle.directory.specs.Directory.{directoryOf}
+use Rattle.directory.specs.Directory.{directoryOf, isLive}
+use Rattle.protocol.specs.Release.{sizeOf}
 
 -- marks of at most 8 cards, and a memory of one area for each card
 pub record RackIn (live : List Bool) (cards pages words : ℕ) : Type 0 where
@@ -25,6 +27,11 @@ rackOf cards pages live primary secondary = directoryOf cards pages live primary
 -- cards, pages and marks
 abbrev pub marksOf : ℕ → ℕ → List Bool → Directory
 marksOf cards pages live = rackOf cards pages live [] []
+
+-- the record of a failed card, given by its words, stored on a card if that is live
+abbrev pub storeFailed : Directory → ℕ → List ℕ → ℕ → List ℕ → List ℕ
+storeFailed d failed words holder m =
+    cond (isLive d holder) (storeRun (sizeOf d) m holder (recordStamp failed) words) m
 
 -- homes alone
 abbrev pub pagesOf : List ℕ → List ℕ → Directory

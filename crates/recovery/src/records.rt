@@ -10,8 +10,8 @@ ghost use Rattle.memory.specs.Layout.{areaSize};
 ghost use Rattle.directory.specs.Live.{nextLive};
 ghost use Rattle.protocol.specs.Record.{recordedRelease, underWay, settledRecord, writeRecord};
 ghost use Rattle.protocol.specs.Record.{writeOwnRecord};
-ghost use Rattle.protocol.specs.Recovery.{writeFailed, writeRecords};
-ghost use Rattle.recovery.specs.Rack.{RackIn, Covers, marksOf, backedBy};
+ghost use Rattle.protocol.specs.Recovery.{writeRecords};
+ghost use Rattle.recovery.specs.Rack.{RackIn, Covers, marksOf, backedBy, storeFailed};
 use directory::Directory;
 
 // Reads the release that the record of a card on its holder tells: its number, and its desk by the
@@ -79,32 +79,25 @@ pub(crate) fn under_way(memory: &[u32], size: usize, holder: usize, card: usize)
     true
 }
 
-// Writes the record of a failed card on one card, if that is live.
+// Stores the record of a failed card, given by its words, on one card, if that is live.
 fn write_failed(
     memory: &mut [u32],
     cards: u32,
     pages: u32,
     live: &[bool],
     failed: usize,
-    number: u32,
-    desk: &[u32],
+    words: &[u32],
     holder: usize,
 )
     requires { ⌜ RackIn (now live) cards pages (length (now memory)) ⌝ }
-    requires { ⌜ (failed < 8) × (holder < cards) × (length (now desk) ≡ 8) ⌝ }
+    requires { ⌜ (failed < 8) × (holder < cards) × (length (now words) ≡ 18) ⌝ }
     ensures { λ _. ⌜ now (memory .exit)
-        ≡ writeFailed (marksOf cards pages (now (live .entry))) failed
-        (releaseOf number (now (desk .entry))) holder (now (memory .entry)) ⌝ }
+        ≡ storeFailed (marksOf cards pages (now (live .entry))) failed (now (words .entry)) holder
+        (now (memory .entry)) ⌝ }
 {
     if live[holder] {
-        write_record(
-            memory,
-            memory::area_size(pages),
-            holder,
-            failed,
-            number,
-            desk,
-        );
+        let record = memory::RECORDS_START + memory::RECORD_SIZE * failed;
+        memory::store_run(memory, memory::area_size(pages), holder, record, words);
     }
 }
 
@@ -151,35 +144,24 @@ fn write_own_record(
     }
 }
 
-// Writes the record of a failed card on every live card.
+// Stores the record of a failed card on every live card.
 fn write_failed_records(
     memory: &mut [u32],
     cards: u32,
     pages: u32,
     live: &[bool],
     failed: usize,
-    number: u32,
-    desk: &[u32],
+    words: &[u32],
 )
     requires { ⌜ RackIn (now live) cards pages (length (now memory)) ⌝ }
-    requires { ⌜ (failed < 8) × (length (now desk) ≡ 8) ⌝ }
+    requires { ⌜ (failed < 8) × (length (now words) ≡ 18) ⌝ }
     ensures { λ _. ⌜ now (memory .exit)
         ≡ inTurn
-        (writeFailed (marksOf cards pages (now (live .entry))) failed
-        (releaseOf number (now (desk .entry))))
-        cards (now (memory .entry)) ⌝ }
+        (storeFailed (marksOf cards pages (now (live .entry))) failed (now (words .entry))) cards
+        (now (memory .entry)) ⌝ }
 {
     for holder in 0..cards {
-        write_failed(
-            memory,
-            cards,
-            pages,
-            live,
-            failed,
-            number,
-            desk,
-            holder as usize,
-        );
+        write_failed(memory, cards, pages, live, failed, words, holder as usize);
     }
 }
 
@@ -228,6 +210,7 @@ pub(crate) fn write_records(
     let live = directory.live;
     let marked = directory.mark_live(failed);
     let before = marked.live;
-    write_failed_records(memory, cards, pages, &live, failed as usize, number, desk);
+    let words = settled_record(number, desk);
+    write_failed_records(memory, cards, pages, &live, failed as usize, &words);
     write_own_records(memory, cards, pages, &live, &before, &live, failed);
 }

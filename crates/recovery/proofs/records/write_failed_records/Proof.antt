@@ -2,20 +2,18 @@
 use Prim.Native.Nat.{_-_}
 use native.Mathlib.Omega.{arith}
 use borrow.Author.Needs.{needs}
-use Rattle.protocol.specs.Release.{releaseOf}
-use Rattle.protocol.specs.Recovery.{writeFailed}
-use Rattle.recovery.specs.Rack.{marksOf}
+use Rattle.recovery.specs.Rack.{marksOf, storeFailed}
 use Rattle.recovery.proofs.Kept.{rack-kept}
 use Rattle.recovery.proofs.Turns.{Turned, turn-none, turn-more, turn-all}
 use Rattle.recovery.proofs.records.write_failed_records.Statement.{statement}
 use Rattle.recovery.proofs.records.write_failed_records.Tie as tie
 
 abbrev Inv-loop : tie.InvT-loop
-Inv-loop memory₀ cards pages live failed number desk holder₀ memory holder =
-    Turned (writeFailed (marksOf cards pages live) failed (releaseOf number desk)) cards memory₀ holder memory
+Inv-loop memory₀ cards pages live failed words holder₀ memory holder =
+    Turned (storeFailed (marksOf cards pages live) failed words) cards memory₀ holder memory
 
 abbrev μ-loop : tie.MeasureT-loop
-μ-loop memory₀ cards pages live failed number desk holder₀ memory holder = cards - holder
+μ-loop memory₀ cards pages live failed words holder₀ memory holder = cards - holder
 
 pub write-failed-records-spec : {M : Type 1} → statement M
 write-failed-records-spec =
