@@ -1,7 +1,9 @@
-/* What a shop would use instead: LMDB without syncing, and SQLite in memory. Each holds two copies of 64 pages of 32
- * prices, one record for each page of each copy. Timed: the releases of forty prices that are timed of the rack, each in
- * one transaction on both copies; one page read; all pages read. Prints rows of a table. */
+/* What a shop would use instead of the rack: LMDB without syncing, and SQLite in memory. Each holds two copies of 64
+ * pages of 32 prices, one record for each page of each copy. Timed in turn: a release of forty prices, on the rack an
+ * opening and all its steps in one call, on the others one transaction on both copies; one page read; all pages read.
+ * Prints a table. */
 #define _POSIX_C_SOURCE 200809L
+#include "../include/bandsawpink.h"
 #include <lmdb.h>
 #include <sqlite3.h>
 #include <stdint.h>
@@ -31,17 +33,36 @@ static int ascending(const void *a, const void *b) {
     return (x > y) - (x < y);
 }
 
+typedef void work(uint32_t turn);
+
 /* The median of all rounds, and the distance between the quartiles. */
-static void row(const char *name, void (*run)(uint32_t)) {
-    double times[ROUNDS];
-    uint32_t turn = 0;
-    for (int round = 0; round < ROUNDS; round++) {
-        double start = now();
-        for (int i = 0; i < RUNS; i++) run(turn++);
-        times[round] = (now() - start) / RUNS;
-    }
+struct time {
+    double median, spread;
+};
+
+static struct time summed_up(double *times) {
     qsort(times, ROUNDS, sizeof times[0], ascending);
-    printf("| %s | %.0f | %.0f |\n", name, times[ROUNDS / 2], times[3 * ROUNDS / 4] - times[ROUNDS / 4]);
+    return (struct time){times[ROUNDS / 2], times[3 * ROUNDS / 4] - times[ROUNDS / 4]};
+}
+
+/* The rack, LMDB and SQLite in turn, and how many times the rack's time the others take. */
+static void row(const char *name, work *rack, work *lmdb, work *sqlite) {
+    static double times[3][ROUNDS];
+    work *const all[] = {rack, lmdb, sqlite};
+    uint32_t turns[] = {0, 0, 0};
+    for (int round = 0; round < ROUNDS; round++)
+        for (int which = 0; which < 3; which++) {
+            double start = now();
+            for (int i = 0; i < RUNS; i++) all[which](turns[which]++);
+            times[which][round] = (now() - start) / RUNS;
+        }
+    struct time first = summed_up(times[0]);
+    printf("| %s | %.0f | %.0f |", name, first.median, first.spread);
+    for (int which = 1; which < 3; which++) {
+        struct time other = summed_up(times[which]);
+        printf(" %.0f | %.0f | %.1f |", other.median, other.spread, other.median / first.median);
+    }
+    printf("\n");
 }
 
 static uint32_t page_words[WORDS];
@@ -62,6 +83,61 @@ static int change(const struct release *release, int at, uint32_t price) {
     for (; at < PRICES && page_of(release, at) == page; at++)
         page_words[(at * release->stride + release->first) % WORDS] = price;
     return at;
+}
+
+/* ---- the rack: 8 cards and 64 pages, and 3 cards and 4 pages */
+
+static uint32_t large[RACK_MEMORY_WORDS(8, 64)], small[RACK_MEMORY_WORDS(3, 4)];
+static rack_directory large_directory, small_directory;
+static const size_t large_words = RACK_MEMORY_WORDS(8, 64), small_words = RACK_MEMORY_WORDS(3, 4);
+
+/* The list of a release: a page word, a run word and the prices of each page, and the end word. Gives its length. */
+static size_t list_of(const struct release *release, uint32_t *list, uint32_t price) {
+    size_t words = 0;
+    for (int at = 0; at < PRICES;) {
+        int start = at, page = page_of(release, at);
+        while (at < PRICES && page_of(release, at) == page) at++;
+        int offset = (start * release->stride + release->first) % WORDS;
+        list[words++] = 0x10000000u | (uint32_t)page;
+        list[words++] = 0x20000000u | (uint32_t)offset << 16 | (uint32_t)(at - start);
+        for (int i = start; i < at; i++) list[words++] = price;
+    }
+    list[words] = 0xF0000000u | (uint32_t)words;
+    return words + 1;
+}
+
+static void rack_release(const struct release *release, uint32_t price) {
+    static uint32_t number;
+    static const uint32_t desk[RACK_DESK_WORDS];
+    uint32_t list[RACK_LIST_WORDS];
+    size_t words = list_of(release, list, price);
+    check(rack_open(large, large_words, &large_directory, 0, ++number, desk, list, words).number != 0, "rack_open");
+    check(rack_steps(large, large_words, &large_directory, 0, 4 * PRICES + 11).number != 0, "rack_steps");
+}
+
+static void rack_release_2(uint32_t turn) { rack_release(&on_2_pages, turn); }
+
+static void rack_release_40(uint32_t turn) { rack_release(&on_40_pages, turn); }
+
+static void rack_read(uint32_t turn) {
+    rack_answer answer = rack_fetch(large, large_words, &large_directory, turn % PAGES, page_words, WORDS);
+    check(answer.number != 0, "rack_fetch");
+}
+
+static void rack_read_small(uint32_t turn) {
+    rack_answer answer = rack_fetch(small, small_words, &small_directory, turn % 4, page_words, WORDS);
+    check(answer.number != 0, "rack_fetch");
+}
+
+static void rack_read_all(uint32_t turn) {
+    static uint32_t pages[PAGES * WORDS];
+    (void)turn;
+    check(rack_fetch_all(large, large_words, &large_directory, pages, PAGES * WORDS).number != 0, "rack_fetch_all");
+}
+
+static void rack(void) {
+    check(rack_format(large, large_words, 8, 64, &large_directory).number != 0, "rack_format");
+    check(rack_format(small, small_words, 3, 4, &small_directory).number != 0, "rack_format");
 }
 
 /* ---- LMDB */
@@ -115,8 +191,9 @@ static void lmdb_read_all(uint32_t turn) {
     mdb_txn_reset(reading);
 }
 
+static char folder[] = "out/rivals.XXXXXX", file[64];
+
 static void lmdb(void) {
-    char folder[] = "out/rivals.XXXXXX", file[64];
     MDB_txn *txn;
     check(mkdtemp(folder) == NULL, "mkdtemp");
     snprintf(file, sizeof file, "%s/rack", folder);
@@ -130,10 +207,9 @@ static void lmdb(void) {
     check(mdb_txn_commit(txn), "mdb_txn_commit");
     check(mdb_txn_begin(env, NULL, MDB_RDONLY, &reading), "mdb_txn_begin");
     mdb_txn_reset(reading);
-    row("LMDB without sync: release of 40 prices on 2 pages", lmdb_release_2);
-    row("LMDB without sync: release of 40 prices on 40 pages", lmdb_release_40);
-    row("LMDB: one page read", lmdb_read);
-    row("LMDB: all 64 pages read", lmdb_read_all);
+}
+
+static void lmdb_over(void) {
     mdb_txn_abort(reading);
     mdb_env_close(env);
     unlink(file);
@@ -215,10 +291,9 @@ static void sqlite(void) {
     commit = prepared("commit");
     for (int copy = 0; copy < 2; copy++)
         for (int page = 0; page < PAGES; page++) sqlite_put(copy, page);
-    row("SQLite in memory: release of 40 prices on 2 pages", sqlite_release_2);
-    row("SQLite in memory: release of 40 prices on 40 pages", sqlite_release_40);
-    row("SQLite: one page read", sqlite_read);
-    row("SQLite: all 64 pages read", sqlite_read_all);
+}
+
+static void sqlite_over(void) {
     sqlite3_finalize(insert);
     sqlite3_finalize(selecting);
     sqlite3_finalize(selecting_all);
@@ -228,8 +303,18 @@ static void sqlite(void) {
 }
 
 int main(void) {
-    printf("Instead of the rack, in nanoseconds:\n\n| instead | time | spread |\n|---|---|---|\n");
+    rack();
     lmdb();
     sqlite();
+    printf("Instead of the rack, in nanoseconds; \"times\" is the time over that of the rack:\n\n"
+           "| work | rack | spread | LMDB without sync | spread | times | SQLite in memory | spread | times |\n"
+           "|---|---|---|---|---|---|---|---|---|\n");
+    row("release of 40 prices on 2 pages, 8 × 64", rack_release_2, lmdb_release_2, sqlite_release_2);
+    row("release of 40 prices on 40 pages, 8 × 64", rack_release_40, lmdb_release_40, sqlite_release_40);
+    row("one page read, 8 × 64", rack_read, lmdb_read, sqlite_read);
+    row("one page read, rack of 3 × 4", rack_read_small, lmdb_read, sqlite_read);
+    row("all 64 pages read, 8 × 64", rack_read_all, lmdb_read_all, sqlite_read_all);
+    lmdb_over();
+    sqlite_over();
     return 0;
 }
