@@ -4,7 +4,6 @@ ghost use mathlib.Core.Path.{_≡_};
 ghost use Prim.Native.Nat.{_+_, _<_, _≤_};
 ghost use lib.ListN.{length};
 ghost use Rattle.directory.specs.Live.{firstLive, nextLive};
-ghost use Rattle.directory.specs.Directory.{isLive, primaryOf, secondaryOf};
 ghost use Rattle.directory.specs.Directory.{nextLiveOf, backupOf};
 ghost use Rattle.directory.specs.Directory.{markedDead, markedLive, withHomes, withStatus};
 ghost use Rattle.directory.specs.Directory.{formattedMarks, formattedPrimary};
@@ -62,27 +61,6 @@ pub fn next_live_after(marks: &[bool], cards: u32, card: u32) -> u32
 }
 
 impl Directory {
-    pub fn is_live(self, card: u32) -> bool
-        ensures { λ r. ⌜ r ≡ isLive self card ⌝ }
-    {
-        let at = card as usize;
-        if at < 8 { self.live[at] } else { false }
-    }
-
-    pub fn primary_of(self, page: u32) -> u32
-        ensures { λ r. ⌜ r ≡ primaryOf self page ⌝ }
-    {
-        let at = page as usize;
-        if at < 64 { self.primary[at] } else { 0 }
-    }
-
-    pub fn secondary_of(self, page: u32) -> u32
-        ensures { λ r. ⌜ r ≡ secondaryOf self page ⌝ }
-    {
-        let at = page as usize;
-        if at < 64 { self.secondary[at] } else { 0 }
-    }
-
     pub fn next_live(self, card: u32) -> u32
         ensures { λ r. ⌜ r ≡ nextLiveOf self card ⌝ }
     {

@@ -88,7 +88,7 @@ recordWrite backup card r at =
 unfoldable pub storesPrice : ℕ → ℕ → Bool
 storesPrice k steps = ltb steps (2 * k) || (leb (2 * k + 9) steps && ltb steps (4 * k + 9))
 
--- the number of the price that this step stores, of a release of k prices; 0 where it stores another word
+-- the number of the price that this step stores, of a release of k prices; no matter which where it stores none
 abbrev pub priceNumber : ℕ → ℕ → ℕ
 priceNumber k steps = cond (ltb steps (2 * k)) (steps / 2) ((steps - (2 * k + 9)) / 2)
 

@@ -171,7 +171,8 @@ fn step_mark(
     write_word(memory, size, live, backup, record + mark, number);
 }
 
-// The store numbered `at` of the nine between the prices: the eight words of the desk, then the stamp.
+// The store numbered `at` of the nine between the prices: the eight words of the desk, then the
+// stamp.
 fn step_record(
     memory: &mut [u32],
     size: usize,
@@ -196,7 +197,8 @@ fn step_record(
 
 // ---- one step
 
-// One more in word 10.
+// One more in word 10. A release has fewer than 512 prices, so that its steps stay below
+// 4 × 512 + 10.
 fn count_step(memory: &mut [u32], size: usize, card: usize, steps: u32)
     requires { ⌜ (676 ≤ size) × AreaIn (length (now memory)) size card × (steps < 2058) ⌝ }
     ensures { λ _. ⌜ now (memory .exit)

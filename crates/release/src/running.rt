@@ -51,7 +51,9 @@ fn listed_price(labels: &[u32], prices: &[u32], n: usize) -> Price
     }
 }
 
-// Makes so many steps of a release of k prices, no more than it has left; its prices are listed.
+// Makes so many steps of a release of k prices, no more than it has left; its prices are listed. A
+// step that stores a price is made in place, since most steps are such and the call costs more than
+// the store; `make_step` makes the others.
 fn make_listed(
     memory: &mut [u32],
     pages: u32,
