@@ -3,7 +3,9 @@
 // one by one: a directory handed on by value would be copied at each call.
 ghost use mathlib.Core.Path.{_≡_};
 ghost use Prim.Native.Nat.{_*_, _<_, _≤_};
+ghost use mathlib.Core.Bool.{_||_};
 ghost use lib.ListN.{length};
+ghost use lib.Dec.{leb, eqb};
 ghost use Rattle.laws.specs.Search.{someBelow, countBelow};
 ghost use Rattle.memory.specs.Layout.{areaSize};
 ghost use Rattle.memory.specs.Area.{AreaIn};
@@ -12,6 +14,7 @@ ghost use Rattle.directory.specs.Directory.{directoryOf, awaitsCard};
 ghost use Rattle.protocol.specs.Checks.{outsideLimits, badHome, badPage, badStatus, badRelease};
 ghost use Rattle.protocol.specs.Checks.{badCard, unfitRack, firstRefusal, fittingChecks};
 ghost use Rattle.protocol.specs.Checks.{runningChecks, cardChecks, liveCardChecks};
+ghost use Rattle.checks.specs.Homes.{misplacedPage};
 use diff::Verdict;
 use directory::Status;
 
@@ -136,6 +139,66 @@ fn bad_pages(
     false
 }
 
+// Whether the homes of a page are the same, or one of them is no card of the rack.
+fn misplaced(cards: u32, first: u32, second: u32) -> bool
+    ensures { λ r. ⌜ r ≡ eqb first second || (leb cards first || leb cards second) ⌝ }
+{
+    if first == second {
+        return true;
+    }
+    if cards <= first {
+        return true;
+    }
+    cards <= second
+}
+
+// The number of such pages. The loop looks at all of them, though one is enough to refuse: without
+// an exit several pages are compared at once.
+fn count_misplaced(cards: u32, pages: u32, primary: &[u32], secondary: &[u32]) -> u32
+    requires { ⌜ (pages ≤ length (now primary)) × (pages ≤ length (now secondary)) ⌝ }
+    ensures { λ r. ⌜ r
+        ≡ countBelow (misplacedPage cards (now (primary .entry)) (now (secondary .entry))) pages ⌝ }
+{
+    let mut count: u32 = 0;
+    let mut page: usize = 0;
+    while page < pages as usize {
+        let first = primary[page];
+        let second = secondary[page];
+        if misplaced(cards, first, second) {
+            count += 1;
+            page += 1;
+        } else {
+            page += 1;
+        }
+    }
+    count
+}
+
+// Whether a page has bad homes; `count` cards are live. Where all are, the homes' numbers tell.
+fn bad_homes(
+    count: u32,
+    cards: u32,
+    pages: u32,
+    live: &[bool],
+    primary: &[u32],
+    secondary: &[u32],
+    status: Status,
+) -> bool
+    requires { ⌜ (cards ≤ length (now live)) × (count ≡ countBelow (liveAt (now live)) cards) ⌝ }
+    requires { ⌜ (pages ≤ length (now primary)) × (pages ≤ length (now secondary)) ⌝ }
+    ensures { λ r. ⌜ r
+        ≡ someBelow
+        (badPage
+        (directoryOf cards pages (now (live .entry)) (now (primary .entry))
+        (now (secondary .entry)) status))
+        pages ⌝ }
+{
+    if count == cards {
+        return 0 < count_misplaced(cards, pages, primary, secondary);
+    }
+    bad_pages(cards, pages, live, primary, secondary, status)
+}
+
 fn bad_status(cards: u32, live: &[bool], status: Status) -> bool
     requires { ⌜ cards ≤ length (now live) ⌝ }
     ensures { λ r. ⌜ r ≡ badStatus cards (now (live .entry)) status ⌝ }
@@ -215,10 +278,11 @@ fn unfit_rack(
         (now (secondary .entry)) status)
         (now (memory .entry)) ⌝ }
 {
-    if count_live(live, cards) < 2 {
+    let count = count_live(live, cards);
+    if count < 2 {
         return true;
     }
-    if bad_pages(cards, pages, live, primary, secondary, status) {
+    if bad_homes(count, cards, pages, live, primary, secondary, status) {
         return true;
     }
     if bad_status(cards, live, status) {

@@ -1,12 +1,14 @@
 -- Laws of searches and changes over numbers below a bound.
 use Prim.Native.Nat.{ℕ, zero, suc, _+_, _-_, _<_, _≤_}
 use mathlib.Core.Path.{_≡_, refl, sym, _∙_}
+use mathlib.Core.Logic.{_≢_}
 use mathlib.Core.Bool.{Bool, true, false, cond, true≢false}
 use native.Mathlib.Decide.{ℕ-discrete, decLt}
-use native.Mathlib.Nat.{sub-zero}
+use native.Mathlib.Nat.{sub-zero, add-zero}
 use native.Mathlib.Numerals.{add-one}
 use native.Mathlib.Omega.{arith}
-use borrow.Author.Tests.{ltb-false, lt-ltb, le-ltb}
+use borrow.Author.Tests.{ltb-true, ltb-false, lt-ltb, le-ltb}
+use lib.Dec.{ltb}
 use Rattle.laws.specs.Search.{lowestFrom, lowest, someBelow, countBelow, inTurn}
 
 -- ---- one turn of a search from i on, below n
@@ -119,11 +121,11 @@ module _ {test : ℕ → Bool} {n i : ℕ} (far : Passed test n i) where
 -- ---- how many pass
 
 module _ (test : ℕ → Bool) (n : ℕ) where
-  pub count-more : countBelow test (n + 1) ≡ countBelow test n + cond (test n) 1 0
+  count-more : countBelow test (n + 1) ≡ countBelow test n + cond (test n) 1 0
   unfolding countBelow
   count-more = rw add-one
 
-  pub count-bound : countBelow test n ≤ n
+  count-bound : countBelow test n ≤ n
   unfolding countBelow
   count-bound = go n
     where
@@ -134,6 +136,76 @@ module _ (test : ℕ → Bool) (n : ℕ) where
       go : (n : ℕ) → countBelow test n ≤ n
       go zero = omega arith
       go (suc n) = omega (arith, go n, one (test n))
+
+count-hit : (test : ℕ → Bool) (n : ℕ) → test n ≡ true → countBelow test (n + 1) ≡ countBelow test n + 1
+count-hit test n pass = rw pass at (count-more test n)
+
+count-miss : (test : ℕ → Bool) (n : ℕ) → test n ≡ false → countBelow test (n + 1) ≡ countBelow test n
+count-miss test n fail = count-more test n ∙ rw fail (add-zero _)
+
+-- where as many pass as there are, each does
+pub all-count : (test : ℕ → Bool) (n : ℕ) → countBelow test n ≡ n → (i : ℕ) → i < n → test i ≡ true
+unfolding countBelow
+all-count test zero all i below = absurd (omega arith)
+all-count test (suc n) all i below =
+    last (test n) refl all (λ rest other. all-count test n rest i (omega arith))
+  where
+    last : (pass : Bool) → test n ≡ pass → countBelow test n + cond pass 1 0 ≡ suc n
+        → (countBelow test n ≡ n → i ≢ n → test i ≡ true) → test i ≡ true
+    last true pass some rest =
+        elim (ℕ-discrete i n) [
+          | yes same ↦ rw same pass
+          | no other ↦ rest (omega arith) other
+        ]
+    last false fail some rest = absurd (omega (arith, count-bound test n))
+
+none-count : (test : ℕ → Bool) (n : ℕ) → ((i : ℕ) → i < n → test i ≡ false) → countBelow test n ≡ 0
+unfolding countBelow
+none-count test zero fail = refl
+none-count test (suc n) fail = rw (fail n (omega arith), none-count test n (λ i below. fail i (omega arith)))
+
+one-counts : (test : ℕ → Bool) (n i : ℕ) → i < n → test i ≡ true → 0 < countBelow test n
+unfolding countBelow
+one-counts test zero i below pass = absurd (omega arith)
+one-counts test (suc n) i below pass =
+    elim (ℕ-discrete i n) [
+      | yes same ↦ rw (rw same at pass) (omega arith)
+      | no other ↦ omega (arith, one-counts test n i (omega arith) pass)
+    ]
+
+-- whether some number passes, by how many do
+pub some-count : (test : ℕ → Bool) (n : ℕ) → ltb 0 (countBelow test n) ≡ someBelow test n
+some-count test n = go (someBelow test n) refl
+  where
+    go : (some : Bool) → someBelow test n ≡ some → ltb 0 (countBelow test n) ≡ some
+    go true found =
+        let below = ltb-true (lowest test n) n found in
+        let stops = lowest-stops test 0 n in
+        lt-ltb 0 (countBelow test n) (one-counts test n (lowest test n) below (stops .hit (omega arith)))
+    go false missed = le-ltb 0 (countBelow test n) (omega (arith, none-count test n (none-below test n missed)))
+
+-- ---- a loop that counts: it has passed the numbers below i, and so many passed the test
+
+pub record Counted (test : ℕ → Bool) (n i count : ℕ) : Type 0 where
+  pub upto : i ≤ n
+  pub is : count ≡ countBelow test i
+
+pub counted-none : {test : ℕ → Bool} {n : ℕ} → Counted test n 0 0
+unfolding countBelow
+counted-none = record { upto = omega arith; is = refl }
+
+module _ {test : ℕ → Bool} {n i count : ℕ} (far : Counted test n i count) where
+  pub counted-few : count ≤ i
+  counted-few = omega (arith, far .is, count-bound test i)
+
+  pub counted-hit : i < n → test i ≡ true → Counted test n (i + 1) (count + 1)
+  counted-hit below pass = record { upto = omega arith; is = omega (arith, far .is, count-hit test i pass) }
+
+  pub counted-miss : i < n → test i ≡ false → Counted test n (i + 1) count
+  counted-miss below fail = record { upto = omega arith; is = far .is ∙ sym (count-miss test i fail) }
+
+  pub counted-all : n ≤ i → count ≡ countBelow test n
+  counted-all past = let end : i ≡ n = omega (arith, far .upto) in rw end at (far .is)
 
 -- ---- a change in turn
 

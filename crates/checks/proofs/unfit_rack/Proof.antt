@@ -15,18 +15,18 @@ unfolding unfitRack fewLive
 returns-2 c =
     let at-count-live = c .before .before .before in
     rw (← at-count-live .count-live .ensures)
-    (simp (le-ltb _ _ (c .before .before .if1 .left), sym (c .before .bad-pages .ensures) ∙ c .if2 .taken))
+    (simp (le-ltb _ _ (c .before .before .if1 .left), sym (c .before .bad-homes .ensures) ∙ c .if2 .taken))
 
 returns-3 : tie.Need-returns-3
 unfolding unfitRack fewLive
 returns-3 c =
-    let at-bad-pages = c .before .before .before in
-    let test = at-bad-pages .before in
+    let at-bad-homes = c .before .before .before in
+    let test = at-bad-homes .before in
     let at-count-live = test .before in
     rw (← at-count-live .count-live .ensures)
     (simp (
       le-ltb _ _ (test .if1 .left),
-      sym (at-bad-pages .bad-pages .ensures) ∙ c .before .before .if2 .left,
+      sym (at-bad-homes .bad-homes .ensures) ∙ c .before .before .if2 .left,
       sym (c .before .bad-status .ensures) ∙ c .if3 .taken,
     ))
 
@@ -34,13 +34,13 @@ returns-4 : tie.Need-returns-4
 unfolding unfitRack fewLive
 returns-4 c =
     let test = c .before .before .before in
-    let at-bad-pages = test .before in
-    let test-2 = at-bad-pages .before in
+    let at-bad-homes = test .before in
+    let test-2 = at-bad-homes .before in
     let at-count-live = test-2 .before in
     rw (← at-count-live .count-live .ensures)
     (simp (
       le-ltb _ _ (test-2 .if1 .left),
-      sym (at-bad-pages .bad-pages .ensures) ∙ test .if2 .left,
+      sym (at-bad-homes .bad-homes .ensures) ∙ test .if2 .left,
       sym (c .before .before .bad-status .ensures) ∙ c .before .if3 .left,
     )
     (c .bad-cards .ensures))
