@@ -102,6 +102,14 @@ module _ (d : Directory) (backup : ℕ) (m : List ℕ) (c : ℕ) (few : c < 8) (
 
   -- ---- any step
 
+  pub length-step : made ≤ 4 * prices + 10 → length (stepMemory d backup m c) ≡ length m
+  length-step under =
+      elim (decLt made (4 * prices + 10)) [
+        | yes before ↦ step-length before
+        | no last ↦
+            rw (step-closes d backup m c made area refl (omega arith)) (length-close (sizeOf d) m c (omega arith))
+      ]
+
   close-keeps : (x : ℕ) → x ≢ c → SameOwn (sizeOf d) m (close (sizeOf d) m c) x
   close-keeps x other =
       record {

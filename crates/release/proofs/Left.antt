@@ -1,7 +1,8 @@
 -- Several steps of a release: those that it has left fall one by one.
-use Prim.Native.Nat.{ℕ, suc, _+_, _-_, _<_, _≤_, min}
+use Prim.Native.Nat.{ℕ, zero, suc, _+_, _-_, _<_, _≤_, min}
 use mathlib.Core.Path.{_≡_, refl, sym, ap, _∙_}
 use mathlib.Core.List.{List}
+use native.Mathlib.Nat.{sub-zero}
 use native.Mathlib.Omega.{arith}
 use lib.ListN.{length}
 use Rattle.memory.specs.Layout.{areaSize, listStart, listSize}
@@ -13,7 +14,7 @@ use Rattle.protocol.specs.Recovery.{stepTimes}
 use Rattle.protocol.proofs.Shape.{SameOwn, same-own-release, list-kept, steps-kept}
 use Rattle.release.specs.Stepping.{GoodRelease, Counted, StepsLeft, leftOf}
 use Rattle.release.proofs.Prices.{read-counts}
-use Rattle.release.proofs.Kept.{steps-more, step-keeps-own}
+use Rattle.release.proofs.Kept.{steps-more, step-keeps-own, length-step}
 
 -- ---- what stays of a card's own words
 
@@ -66,6 +67,9 @@ module _ {pages : ℕ} {m : List ℕ} {c k left : ℕ} where
   pub counted-left : StepsLeft pages m c k left → 0 < left → Counted pages m c k
   counted-left some more = record { prices = some .prices; few = some .few; under = omega arith }
 
+  pub some-left : {fewer : ℕ} → StepsLeft pages m c k left → fewer ≤ left → StepsLeft pages m c k fewer
+  some-left some within = record { prices = some .prices; few = some .few; counts = omega (arith, some .counts) }
+
   pub all-left : Counted pages m c k → left ≤ leftOf pages m c → StepsLeft pages m c k left
   all-left all some = record { prices = all .prices; few = all .few; counts = omega arith }
 
@@ -113,6 +117,20 @@ module _ {d : Directory} {backup c k : ℕ} {before : List ℕ} {total : ℕ} wh
             ap (λ x. openList (sizeOf d) x c) made ∙ list-after d backup c few m here some again ∙ far .list more;
         rest = rw made (rw first at (far .rest));
       }
+
+  -- several of them
+  pub steps-run : {m : List ℕ} {left : ℕ} (n : ℕ) → c < 8 → AreaIn (length before) (sizeOf d) c
+      → StepsMade d backup c k before total m left → n ≤ left
+      → StepsMade d backup c k before total (stepTimes d backup c n m) (left - n)
+  unfolding stepTimes
+  steps-run {m} {left} zero few area far within = rw sub-zero far
+  steps-run {m} {left} (suc n) few area far within =
+      let here : AreaIn (length m) (sizeOf d) c = rw (far .same) area in
+      let some = far .some (omega arith) in
+      let same = length-step d backup m c few here (omega (arith, some .counts, some .prices)) in
+      let one = steps-one few area far (omega arith) same refl in
+      let rest : left - 1 - n ≡ left - suc n = omega arith in
+      rw rest at (steps-run n few area one (omega arith))
 
   pub steps-all : {m : List ℕ} {left : ℕ} → StepsMade d backup c k before total m left → left ≤ 0
       → m ≡ stepTimes d backup c total before

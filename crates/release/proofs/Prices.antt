@@ -2,13 +2,12 @@
 use Prim.Native.Nat.{ℕ, zero, suc, _+_, _-_, _*_, _/_, _%_, _<_, _≤_}
 use mathlib.Core.Path.{_≡_, refl, sym, ap, _∙_}
 use mathlib.Core.List.{List, [], _∷_, map}
-use mathlib.Core.Bool.{Bool, true, false, _&&_}
+use mathlib.Core.Bool.{Bool, true, false}
 use native.Mathlib.Omega.{arith}
-use borrow.Author.Tests.{lt-ltb, le-ltb, ltb-true, ltb-false, lt-leb, le-leb, leb-true}
+use borrow.Author.Tests.{ltb-true, ltb-false}
 use lib.ListN.{length, getD, List·getD-eq-default}
 use lib.Seq.{sets}
-use lib.Dec.{ltb, leb}
-use Rattle.laws.proofs.Bools.{by-cond, neither, and-first, and-second}
+use lib.Dec.{ltb}
 use Rattle.memory.specs.Layout.{areaSize, listStart, listSize}
 use Rattle.memory.specs.Area.{AreaIn, loadRun}
 use Rattle.memory.proofs.Runs.{length-load-run}
@@ -27,7 +26,7 @@ use Rattle.reader.proofs.Listing.{listed-at, few-prices}
 use Rattle.protocol.specs.Release.{openList, openPrices}
 use Rattle.protocol.proofs.Writes.{noPrice}
 use Rattle.release.specs.Stepping.{GoodRelease, Counted, Listed}
-use Rattle.release.specs.Stepping.{storesPrice, priceNumber, NumberedPrice, listedPrice}
+use Rattle.release.specs.Stepping.{NumberedPrice, listedPrice}
 
 -- what reading the list of a good release finds: as many prices as it says, and they are few
 module _ (pages size : ℕ) (m : List ℕ) (card : ℕ) (sized : size ≡ areaSize pages) (good : GoodRelease pages m card)
@@ -79,34 +78,6 @@ module _ (pages size : ℕ) (m : List ℕ) (card n : ℕ) (sized : size ≡ area
   unfolding openList
   found-nothing is = past-last p (openPrices pages m card) n (sym (rw sized at finds) ∙ is)
 
--- ---- which steps store a price
-
-module _ (k steps : ℕ) where
-  pub stores-before : steps < 2 * k → true ≡ storesPrice k steps
-  unfolding storesPrice
-  stores-before below = rw (lt-ltb _ _ below)
-
-  pub stores-between : 2 * k ≤ steps → steps < 2 * k + 9 → false ≡ storesPrice k steps
-  unfolding storesPrice
-  stores-between past below = rw (le-ltb _ _ past, lt-leb _ _ below)
-
-  pub stores-after : 2 * k + 9 ≤ steps → ltb steps (4 * k + 9) ≡ storesPrice k steps
-  unfolding storesPrice
-  stores-after past = rw (le-ltb steps (2 * k) (omega arith), le-leb _ _ past)
-
-  -- one past the tentative prices stores a committed one
-  pub in-committed : storesPrice k steps ≡ true → 2 * k ≤ steps → (2 * k + 9 ≤ steps) × (steps < 4 * k + 9)
-  unfolding storesPrice
-  in-committed stores below =
-      let both : leb (2 * k + 9) steps && ltb steps (4 * k + 9) ≡ true = rw (le-ltb _ _ below) at stores in
-      let past = leb (2 * k + 9) steps in
-      (leb-true _ _ (and-first past _ both), ltb-true _ _ (and-second past _ both))
-
-  -- one that stores no price comes after the tentative prices
-  pub past-tentative : storesPrice k steps ≡ false → 2 * k ≤ steps
-  unfolding storesPrice
-  past-tentative none = ltb-false _ _ (neither (ltb steps (2 * k)) _ none .0)
-
 -- ---- the price that a step stores
 
 module _ (pages : ℕ) (m : List ℕ) (card : ℕ) where
@@ -119,7 +90,7 @@ module _ (pages : ℕ) (m : List ℕ) (card : ℕ) where
     pub on-page : p .page < pages
     pub in-page : p .word < 32
 
-  price-at : (n : ℕ) (p : Price) → n < length prices → NumberedPrice pages m card n p → PriceAt n p
+  pub price-at : (n : ℕ) (p : Price) → n < length prices → NumberedPrice pages m card n p → PriceAt n p
   price-at n p within numbered =
       let on = price-on-page pages prices n p (prices-on-pages pages (openList (areaSize pages) m card)) within in
       record {
@@ -128,21 +99,7 @@ module _ (pages : ℕ) (m : List ℕ) (card : ℕ) where
         in-page = rw numbered at (on .1);
       }
 
-  module _ (k steps : ℕ) (p : Price) (counted : k ≡ length prices)
-      (due : NumberedPrice pages m card (priceNumber k steps) p) where
-    pub tentative-price : steps < 2 * k → PriceAt (steps / 2) p
-    tentative-price below = price-at (steps / 2) p (omega arith) (rw (lt-ltb _ _ below) at due)
-
-    pub committed-price : 2 * k + 9 ≤ steps → steps < 4 * k + 9 → PriceAt ((steps - (2 * k + 9)) / 2) p
-    committed-price past below =
-        price-at ((steps - (2 * k + 9)) / 2) p (omega arith) (rw (le-ltb steps (2 * k) (omega arith)) at due)
-
 -- ---- a table of prices
-
--- it has a place for each number that a step asks for
-pub number-listed : (k steps : ℕ) {long : ℕ} → k < 512 → steps ≤ 4 * k + 10 → long ≡ 512 → priceNumber k steps < long
-number-listed k steps {long} few most is =
-    by-cond (λ n. n < long) (ltb steps (2 * k)) _ _ (λ below. omega (arith, ltb-true)) (λ past. omega arith)
 
 -- label and price of the same number are a price
 from-label : (p : Price) (label price : ℕ) → p .word < 32 → label ≡ labelOf p → price ≡ priceOf p
@@ -182,3 +139,13 @@ module _ (pages size : ℕ) (m : List ℕ) (card : ℕ) (sized : size ≡ areaSi
         prices-long = long-prices;
         is = λ n. listed-price area big n (ltb n (length ps)) refl;
       }
+
+-- a list that stays keeps its table
+pub listed-kept : {pages c : ℕ} {m m′ labels prices : List ℕ} → Listed pages m c labels prices
+    → openList (areaSize pages) m′ c ≡ openList (areaSize pages) m c → Listed pages m′ c labels prices
+listed-kept table same =
+    record {
+      labels-long = table .labels-long;
+      prices-long = table .prices-long;
+      is = λ n. rw same (table .is n);
+    }

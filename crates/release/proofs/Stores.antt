@@ -1,6 +1,6 @@
 -- The store of each step: the store that the code makes is the one that the definition has at this place.
 use Prim.Native.Nat.{ℕ, _+_, _*_, _/_, _%_, _<_, _≤_}
-use mathlib.Core.Path.{_≡_, sym, _∙_}
+use mathlib.Core.Path.{_≡_, refl, sym, _∙_}
 use mathlib.Core.List.{List}
 use mathlib.Core.Bool.{Bool}
 use native.Mathlib.Nat.{add-zero}
@@ -20,6 +20,8 @@ use Rattle.protocol.specs.Release.{priceWrites, makeWrite, close, stepMemory}
 use Rattle.protocol.proofs.Writes.{noPrice, price-write-at, length-writes, write-tentative, write-desk}
 use Rattle.protocol.proofs.Writes.{write-stamp, write-committed, write-done}
 use Rattle.release.specs.Stepping.{CardIn, HomesIn, homesOf, storeAfter, homeAt, recordWrite}
+use Rattle.release.proofs.Halves.{HalfFrom, tentative, committed}
+use Rattle.release.proofs.Prices.{PriceAt}
 
 -- ---- the desk of the open release: 8 words, from word 12 on
 
@@ -41,7 +43,7 @@ module _ (pages : ℕ) (live : List Bool) (primary secondary : List ℕ) where
       by-cond (λ (home : ℕ → ℕ). CardIn live words (areaSize pages) (home page)) (eqb (number % 2) 0) _ _
       (λ _. homes .secondary-in page below) (λ _. homes .primary-in page below)
 
-  pub price-store : (half : ℕ) (ps : List Price) (number : ℕ) {p : Price} {home : ℕ} → number < 2 * length ps
+  price-store : (half : ℕ) (ps : List Price) (number : ℕ) {p : Price} {home : ℕ} → number < 2 * length ps
       → p ≡ getD ps (number / 2) noPrice → home ≡ homeAt primary secondary number (p .page)
       → writeOf home (pageStart (p .page) + (half + p .word)) (p .price)
       ≡ getD (priceWrites (homesOf pages live primary secondary) half ps) number noWrite
@@ -63,11 +65,6 @@ module _ (d : Directory) (backup : ℕ) (m : List ℕ) (card steps : ℕ) (area 
   eight : length (release .desk) ≡ 8
   eight = length-desk (sizeOf d) m card (omega arith) area
 
-  pub tentative-store : steps < 2 * length prices → getD (priceWrites d tentativeHalf prices) steps noWrite ≡ stored
-  tentative-store below =
-      price-write-at d tentativeHalf prices steps below
-      ∙ sym (write-tentative d backup card release prices eight steps below)
-
   pub record-store : (at : ℕ) → steps ≡ 2 * length prices + at → at < 9 → recordWrite backup card release at ≡ stored
   record-store at is within =
       by-cond (λ (w : Write). w ≡ stored) (ltb at 8) _ _
@@ -75,11 +72,18 @@ module _ (d : Directory) (backup : ℕ) (m : List ℕ) (card steps : ℕ) (area 
       (λ past.
       rw add-zero (sym (write-stamp d backup card release prices eight steps (omega (arith, ltb-false at 8 past)))))
 
-  pub committed-store : (j : ℕ) → steps ≡ 2 * length prices + 9 + j → j < 2 * length prices
-      → getD (priceWrites d committedHalf prices) j noWrite ≡ stored
-  committed-store j at within =
-      price-write-at d committedHalf prices j within
-      ∙ sym (write-committed d backup card release prices eight steps j at within)
+  -- a price in its half
+  half-store : {first half : ℕ} (at : ℕ) → HalfFrom (length prices) first half → steps ≡ first + at
+      → at < 2 * length prices → getD (priceWrites d half prices) at noWrite ≡ stored
+  half-store at (tentative start is) from within =
+      let same : at ≡ steps = omega arith in
+      rw (is, same)
+      (price-write-at d tentativeHalf prices steps (omega arith)
+      ∙ sym (write-tentative d backup card release prices eight steps (omega arith)))
+  half-store at (committed start is) from within =
+      rw is
+      (price-write-at d committedHalf prices at within
+      ∙ sym (write-committed d backup card release prices eight steps at (omega arith) within))
 
   pub done-store : steps ≡ 4 * length prices + 9 → writeOf backup (recordStamp card + 1) (release .number) ≡ stored
   done-store at =
@@ -106,3 +110,20 @@ module _ (d : Directory) (backup : ℕ) (m : List ℕ) (card steps : ℕ) (area 
     step-closes last =
         let long = length-writes d backup card release prices eight in
         rw (← made, long, le-ltb steps (4 * length prices + 10) (omega arith))
+
+-- ---- a price that is due
+
+module _ (pages : ℕ) (live : List Bool) (primary secondary : List ℕ) where
+  -- the store numbered `at` of a half
+  abbrev pub storeOf : ℕ → ℕ → Price → Write
+  storeOf at half p =
+      writeOf (homeAt primary secondary at (p .page)) (pageStart (p .page) + (half + p .word)) (p .price)
+
+  pub price-due : (backup : ℕ) (m : List ℕ) (c steps : ℕ) (p : Price) (at : ℕ) {k first half : ℕ}
+      → AreaIn (length m) (areaSize pages) c → k ≡ length (openPrices pages m c) → HalfFrom k first half
+      → steps ≡ first + at → at < 2 * k → PriceAt pages m c (at / 2) p
+      → storeOf at half p ≡ storeAfter (homesOf pages live primary secondary) backup m c steps
+  price-due backup m c steps p at {half = half} area counted from here within price =
+      price-store pages live primary secondary half (openPrices pages m c) at (omega arith) (price .is) refl
+      ∙ half-store (homesOf pages live primary secondary) backup m c steps area at (rw counted at from) here
+      (omega arith)

@@ -3,10 +3,10 @@
 use Prim.Native.Nat.{ℕ, _*_, _+_, _-_, _/_, _%_, _<_, _≤_}
 use mathlib.Core.Path.{_≡_}
 use mathlib.Core.List.{List}
-use mathlib.Core.Bool.{Bool, cond, _||_, _&&_}
+use mathlib.Core.Bool.{Bool, cond}
 use lib.ListN.{length, getD}
-use lib.Dec.{ltb, leb, eqb}
-use Rattle.memory.specs.Layout.{areaSize, recordStamp, recordDesk}
+use lib.Dec.{ltb, eqb}
+use Rattle.memory.specs.Layout.{areaSize, recordStamp, recordDesk, tentativeHalf, committedHalf}
 use Rattle.memory.specs.Area.{AreaIn}
 use Rattle.directory.specs.declared.Directory.{Directory}
 use Rattle.directory.specs.declared.Status.the-variants.{Running}
@@ -84,21 +84,21 @@ recordWrite backup card r at =
     cond (ltb at 8) (writeOf backup (recordDesk card (r .number) + at) (getD (r .desk) at 0))
     (writeOf backup (recordStamp card + 0) (r .number))
 
--- whether the step after so many stores a price, of a release of k prices
-unfoldable pub storesPrice : ℕ → ℕ → Bool
-storesPrice k steps = ltb steps (2 * k) || (leb (2 * k + 9) steps && ltb steps (4 * k + 9))
+-- how many of the steps after so many store a price, one after the other, of a release of k prices
+unfoldable pub pricesNext : ℕ → ℕ → ℕ
+pricesNext k steps = cond (ltb steps (2 * k)) (2 * k - steps) (cond (ltb steps (2 * k + 9)) 0 (4 * k + 9 - steps))
 
--- the number of the price that this step stores, of a release of k prices; no matter which where it stores none
-abbrev pub priceNumber : ℕ → ℕ → ℕ
-priceNumber k steps = cond (ltb steps (2 * k)) (steps / 2) ((steps - (2 * k + 9)) / 2)
+-- the half of the pages that they go to, by its offset in a page
+unfoldable pub halfNext : ℕ → ℕ → ℕ
+halfNext k steps = cond (ltb steps (2 * k)) tentativeHalf committedHalf
+
+-- the number of the next one among the 2k stores of this half; the price is number / 2
+unfoldable pub numberNext : ℕ → ℕ → ℕ
+numberNext k steps = cond (ltb steps (2 * k)) steps (steps - (2 * k + 9))
 
 -- p is the price of this number of the release open on a card, if it has so many
 abbrev pub NumberedPrice : ℕ → List ℕ → ℕ → ℕ → Price → Type 0
 NumberedPrice pages m card n p = getD (openPrices pages m card) n p ≡ p
-
--- p is the price that the next step stores, if it stores one
-abbrev pub PriceDue : ℕ → List ℕ → ℕ → ℕ → Price → Type 0
-PriceDue pages m card k p = NumberedPrice pages m card (priceNumber k (stepsOf (areaSize pages) m card)) p
 
 -- the price of this number in a table of labels and prices
 abbrev pub listedPrice : List ℕ → List ℕ → ℕ → Price

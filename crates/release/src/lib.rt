@@ -2,7 +2,6 @@
 // that passed its checks; which calls are refused is decided above.
 ghost use mathlib.Core.Path.{_≡_};
 ghost use mathlib.Core.List.{List};
-ghost use mathlib.Core.Bool.{true, false};
 ghost use Prim.Native.Nat.{ℕ, _+_, _*_, _<_, _≤_};
 ghost use lib.ListN.{length, getD};
 ghost use Rattle.memory.specs.Layout.{areaSize, stepsMade, pageStart, recordStamp};
@@ -13,7 +12,7 @@ ghost use Rattle.protocol.specs.Release.{makeWrite, close};
 ghost use Rattle.protocol.specs.Opening.{openMemory};
 ghost use Rattle.release.specs.Stepping.{CardIn, HomesIn, GoodRelease, Counted};
 ghost use Rattle.release.specs.Stepping.{homeAt, afterStore, afterStep, recordWrite};
-ghost use Rattle.release.specs.Stepping.{storesPrice, priceNumber, NumberedPrice, PriceDue};
+ghost use Rattle.release.specs.Stepping.{pricesNext, halfNext, numberNext, NumberedPrice};
 
 mod running;
 
@@ -195,61 +194,55 @@ fn step_record(
     step_mark(memory, size, live, backup, card, 0);
 }
 
-// ---- one step
+// ---- which steps store a price
 
-// One more in word 10. A release has fewer than 512 prices, so that its steps stay below
-// 4 × 512 + 10.
-fn count_step(memory: &mut [u32], size: usize, card: usize, steps: u32)
-    requires { ⌜ (676 ≤ size) × AreaIn (length (now memory)) size card × (steps < 2058) ⌝ }
-    ensures { λ _. ⌜ now (memory .exit)
-        ≡ store size (now (memory .entry)) card stepsMade (steps + 1) ⌝ }
-{
-    memory::store_word(memory, size, card, memory::STEPS_MADE, steps + 1);
-}
-
-// Whether a step stores a price: `steps` are made, of a release of k prices.
-fn stores_price(k: u32, steps: u32) -> bool
+// How many of the next steps store a price, one after the other: `steps` are made, of a release of
+// k prices.
+fn prices_next(k: u32, steps: u32) -> u32
     requires { ⌜ k < 512 ⌝ }
-    ensures { λ r. ⌜ r ≡ storesPrice k steps ⌝ }
+    ensures { λ r. ⌜ r ≡ pricesNext k steps ⌝ }
 {
     if steps < 2 * k {
-        return true;
+        return 2 * k - steps;
     }
     if steps < 2 * k + 9 {
-        return false;
+        return 0;
     }
-    steps < 4 * k + 9
+    if steps < 4 * k + 9 {
+        return 4 * k + 9 - steps;
+    }
+    0
 }
 
-// One step that stores the price that is due: the store, and one more in word 10.
-fn store_price(
-    memory: &mut [u32],
-    pages: u32,
-    live: &[bool],
-    primary: &[u32],
-    secondary: &[u32],
-    card: usize,
-    k: u32,
-    p: Price,
-)
-    requires { ⌜ HomesIn (now live) pages (now primary) (now secondary) (length (now memory)) ⌝ }
-    requires { ⌜ CardIn (now live) (length (now memory)) (areaSize pages) card ⌝ }
-    requires { ⌜ Counted pages (now memory) card k × PriceDue pages (now memory) card k p ⌝ }
-    requires { ⌜ storesPrice k (stepsOf (areaSize pages) (now memory) card) ≡ true ⌝ }
-    ensures { λ _. ⌜ ((backup : ℕ) → now (memory .exit)
-        ≡ afterStep pages (now (live .entry)) (now (primary .entry)) (now (secondary .entry)) backup
-        (now (memory .entry)) card) ⌝ }
+// The half of the pages that they go to, by its offset in a page.
+fn half_next(k: u32, steps: u32) -> usize
+    requires { ⌜ k < 512 ⌝ }
+    ensures { λ r. ⌜ r ≡ halfNext k steps ⌝ }
 {
-    let size = memory::area_size(pages);
-    let steps = memory::load_word(memory, size, card, memory::STEPS_MADE);
+    if steps < 2 * k { 0 } else { 32 }
+}
+
+// The number of the next store among the 2k of this half.
+fn number_next(k: u32, steps: u32) -> u32
+    requires { ⌜ (k < 512) × (0 < pricesNext k steps) ⌝ }
+    ensures { λ r. ⌜ r ≡ numberNext k steps ⌝ }
+{
     if steps < 2 * k {
-        step_price(memory, pages, live, primary, secondary, p, steps, 0);
-        count_step(memory, size, card, steps);
-        return;
+        return steps;
     }
-    let at = steps - (2 * k + 9);
-    step_price(memory, pages, live, primary, secondary, p, at, 32);
-    count_step(memory, size, card, steps);
+    steps - (2 * k + 9)
+}
+
+// ---- one step
+
+// So many more in word 10. A release has fewer than 512 prices, so that its steps stay below
+// 4 × 512 + 10.
+fn count_steps(memory: &mut [u32], size: usize, card: usize, steps: u32, more: u32)
+    requires { ⌜ (676 ≤ size) × AreaIn (length (now memory)) size card × (steps + more ≤ 2058) ⌝ }
+    ensures { λ _. ⌜ now (memory .exit)
+        ≡ store size (now (memory .entry)) card stepsMade (steps + more) ⌝ }
+{
+    memory::store_word(memory, size, card, memory::STEPS_MADE, steps + more);
 }
 
 // The store of a step in the record at the backup: the nine between the prices, or the done mark.
@@ -265,7 +258,7 @@ fn step_word(
     requires { ⌜ CardIn (now live) (length (now memory)) (areaSize pages) card ⌝ }
     requires { ⌜ CardIn (now live) (length (now memory)) (areaSize pages) backup ⌝ }
     requires { ⌜ (pages ≤ 64) × (k ≡ length (openPrices pages (now memory) card)) × (k < 512) ⌝ }
-    requires { ⌜ (steps < 4 * k + 10) × (storesPrice k steps ≡ false) ⌝ }
+    requires { ⌜ (steps < 4 * k + 10) × (pricesNext k steps ≡ 0) ⌝ }
     ensures { λ _. ⌜ ((primary : List ℕ) (secondary : List ℕ) → now (memory .exit)
         ≡ afterStore pages (now (live .entry)) primary secondary backup (now (memory .entry)) card
         steps) ⌝ }
@@ -279,54 +272,31 @@ fn step_word(
     step_mark(memory, size, live, backup, card, 1);
 }
 
-// One step of a release of k prices: one store, and one more in word 10; or the close.
-fn make_step(
+// A step of a release of k prices that stores none: a store in the record, counted, or the close.
+fn other_step(
     memory: &mut [u32],
     pages: u32,
     live: &[bool],
-    primary: &[u32],
-    secondary: &[u32],
     backup: usize,
     card: usize,
     k: u32,
-    p: Price,
+    steps: u32,
 )
-    requires { ⌜ HomesIn (now live) pages (now primary) (now secondary) (length (now memory)) ⌝ }
     requires { ⌜ CardIn (now live) (length (now memory)) (areaSize pages) card ⌝ }
     requires { ⌜ CardIn (now live) (length (now memory)) (areaSize pages) backup ⌝ }
-    requires { ⌜ Counted pages (now memory) card k × PriceDue pages (now memory) card k p ⌝ }
-    ensures { λ _. ⌜ now (memory .exit)
-        ≡ afterStep pages (now (live .entry)) (now (primary .entry)) (now (secondary .entry)) backup
-        (now (memory .entry)) card ⌝ }
+    requires { ⌜ (pages ≤ 64) × Counted pages (now memory) card k ⌝ }
+    requires { ⌜ (steps ≡ stepsOf (areaSize pages) (now memory) card) × (pricesNext k steps ≡ 0) ⌝ }
+    ensures { λ _. ⌜ ((primary : List ℕ) (secondary : List ℕ) → now (memory .exit)
+        ≡ afterStep pages (now (live .entry)) primary secondary backup (now (memory .entry))
+        card) ⌝ }
 {
     let size = memory::area_size(pages);
-    let steps = memory::load_word(memory, size, card, memory::STEPS_MADE);
-    if stores_price(k, steps) {
-        store_price(memory, pages, live, primary, secondary, card, k, p);
-        return;
-    }
     if steps == 4 * k + 10 {
         close_release(memory, size, card);
         return;
     }
     step_word(memory, pages, live, backup, card, k, steps);
-    count_step(memory, size, card, steps);
-}
-
-// ---- the price that is due
-
-// The number of the price that a step stores: `steps` are made, of a release of k prices.
-fn price_number(k: u32, steps: u32) -> u32
-    requires { ⌜ k < 512 ⌝ }
-    ensures { λ r. ⌜ r ≡ priceNumber k steps ⌝ }
-{
-    if steps < 2 * k {
-        return steps / 2;
-    }
-    if steps < 2 * k + 9 {
-        return 0;
-    }
-    (steps - (2 * k + 9)) / 2
+    count_steps(memory, size, card, steps, 1);
 }
 
 // The price of this number of the release open on a card; any, if it has not so many.
@@ -365,6 +335,13 @@ pub fn step_release(
     let size = memory::area_size(pages);
     let k = running::count_prices(memory, size, pages, card);
     let steps = memory::load_word(memory, size, card, memory::STEPS_MADE);
-    let p = find_price(memory, size, pages, card, price_number(k, steps));
-    make_step(memory, pages, live, primary, secondary, backup, card, k, p);
+    if 0 < prices_next(k, steps) {
+        let at = number_next(k, steps);
+        let p = find_price(memory, size, pages, card, at / 2);
+        let half = half_next(k, steps);
+        step_price(memory, pages, live, primary, secondary, p, at, half);
+        count_steps(memory, size, card, steps, 1);
+        return;
+    }
+    other_step(memory, pages, live, backup, card, k, steps);
 }

@@ -1,12 +1,12 @@
 // Several steps of a release.
 ghost use mathlib.Core.Path.{_≡_};
-ghost use Prim.Native.Nat.{_+_, _-_, _*_, _<_, _≤_, min};
+ghost use Prim.Native.Nat.{ℕ, _+_, _-_, _*_, _<_, _≤_, min};
 ghost use lib.ListN.{length};
 ghost use Rattle.memory.specs.Layout.{areaSize};
 ghost use Rattle.memory.specs.Area.{AreaIn};
 ghost use Rattle.protocol.specs.Release.{stepsOf, stepsIn};
 ghost use Rattle.release.specs.Stepping.{CardIn, HomesIn, GoodRelease, Counted, StepsLeft};
-ghost use Rattle.release.specs.Stepping.{Listed, leftOf, listedPrice, afterSteps};
+ghost use Rattle.release.specs.Stepping.{pricesNext, Listed, leftOf, listedPrice, afterSteps};
 use diff::Price;
 use diff::Verdict;
 
@@ -51,9 +51,45 @@ fn listed_price(labels: &[u32], prices: &[u32], n: usize) -> Price
     }
 }
 
-// Makes so many steps of a release of k prices, no more than it has left; its prices are listed. A
-// step that stores a price is made in place, since most steps are such and the call costs more than
-// the store; `make_step` makes the others.
+// Makes so many steps that store a price, one after the other, and counts them once: word 10 keeps
+// its old number while the prices are stored, and nobody looks at it before the call ends.
+fn store_prices(
+    memory: &mut [u32],
+    pages: u32,
+    live: &[bool],
+    primary: &[u32],
+    secondary: &[u32],
+    card: usize,
+    k: u32,
+    steps: u32,
+    count: u32,
+    labels: &[u32],
+    prices: &[u32],
+)
+    requires { ⌜ HomesIn (now live) pages (now primary) (now secondary) (length (now memory)) ⌝ }
+    requires { ⌜ CardIn (now live) (length (now memory)) (areaSize pages) card ⌝ }
+    requires { ⌜ StepsLeft pages (now memory) card k count ⌝ }
+    requires { ⌜ (steps ≡ stepsOf (areaSize pages) (now memory) card) × (0 < count)
+        × (count ≤ pricesNext k steps) ⌝ }
+    requires { ⌜ Listed pages (now memory) card (now labels) (now prices) ⌝ }
+    ensures { λ _. ⌜ ((backup : ℕ) → now (memory .exit)
+        ≡ afterSteps pages (now (live .entry)) (now (primary .entry)) (now (secondary .entry))
+        backup card count (now (memory .entry))) ⌝ }
+{
+    let size = memory::area_size(pages);
+    let half = crate::half_next(k, steps);
+    let first = crate::number_next(k, steps);
+    let mut made: u32 = 0;
+    while made < count {
+        let at = first + made;
+        let p = listed_price(labels, prices, (at / 2) as usize);
+        crate::step_price(memory, pages, live, primary, secondary, p, at, half);
+        made += 1;
+    }
+    crate::count_steps(memory, size, card, steps, count);
+}
+
+// Makes so many steps of a release of k prices, no more than it has left; its prices are listed.
 fn make_listed(
     memory: &mut [u32],
     pages: u32,
@@ -80,13 +116,24 @@ fn make_listed(
     let mut left = steps;
     while 0 < left {
         let made = memory::load_word(memory, size, card, memory::STEPS_MADE);
-        let n = crate::price_number(k, made) as usize;
-        let p = listed_price(labels, prices, n);
-        if crate::stores_price(k, made) {
-            crate::store_price(memory, pages, live, primary, secondary, card, k, p);
-            left -= 1;
+        let run = smaller(left, crate::prices_next(k, made));
+        if 0 < run {
+            store_prices(
+                memory,
+                pages,
+                live,
+                primary,
+                secondary,
+                card,
+                k,
+                made,
+                run,
+                labels,
+                prices,
+            );
+            left -= run;
         } else {
-            crate::make_step(memory, pages, live, primary, secondary, backup, card, k, p);
+            crate::other_step(memory, pages, live, backup, card, k, made);
             left -= 1;
         }
     }

@@ -1,7 +1,12 @@
--- Rests on what `count_prices`, the load of the steps and `find_price` ensure.
+-- Rests on `price-due`: the price found by its number is the one that the step stores, and on `step-counted`.
+use Prim.Native.Nat.{_/_}
 use native.Mathlib.Omega.{arith}
 use borrow.Author.Needs.{needs}
 use Rattle.protocol.specs.Release.{stepsOf}
+use Rattle.release.specs.Stepping.{homesOf}
+use Rattle.release.proofs.Halves.{next-price, half-bounds}
+use Rattle.release.proofs.Prices.{price-at}
+use Rattle.release.proofs.Stores.{price-due, step-counted}
 use Rattle.release.proofs.step_release.Statement.{statement}
 use Rattle.release.proofs.step_release.Tie as tie
 
@@ -18,33 +23,120 @@ load-word-requires c κs =
     let start = sized .before .before .before .before .before in
     rw (sized .area-size .ensures) (start .pre .1 .0 .area, omega arith)
 
-price-number-requires : tie.Need-price-number-requires
-price-number-requires c κs =
-    let counting = c .before .before .before in
-    counting .count-prices .ensures .few
+prices-next-requires : tie.Need-prices-next-requires
+prices-next-requires c κs = c .before .before .count-prices .ensures .few
+
+number-next-requires : tie.Need-number-next-requires
+number-next-requires c κs =
+    let nexts = c .before in
+    let counting = nexts .before .before .before in
+    (counting .count-prices .ensures .few, omega (arith, nexts .prices-next .ensures))
 
 find-price-requires : tie.Need-find-price-requires
 find-price-requires c κs =
-    let sized = c .before .before .before .before .before .before in
+    let sized = c .before .before .before .before .before .before .before .before in
     let start = sized .before .before .before .before .before in
     let size = sized .area-size .ensures in
     (size, rw size (start .pre .1 .0 .area))
 
-make-step-requires : tie.Need-make-step-requires
+half-next-requires : tie.Need-half-next-requires
+half-next-requires c κs = c .before .before .before .before .before .before .before .count-prices .ensures .few
+
+step-price-requires : tie.Need-step-price-requires
+step-price-requires c κs =
+    let found = c .before .before in
+    let numbering = found .before .before in
+    let nexts = numbering .before .before in
+    let counting = nexts .before .before .before in
+    let start = counting .before .before .before .before .before .before .before in
+    let a = start .args in
+    let counted = counting .count-prices .ensures in
+    let k = counting .count-prices .result in
+    let next = next-price k (nexts .before .load-word .result) (omega (arith, nexts .prices-next .ensures)) in
+    let bounds = half-bounds (next .half) in
+    let price =
+    price-at (a .pages) (a .memory .now) (a .card) (numbering .number-next .result / 2) (found .find-price .result)
+    (omega (arith, next .rest, numbering .number-next .ensures, counted .prices)) (found .find-price .ensures)
+    in
+    (start .pre .0, (price .on-page, price .in-page, omega (arith, bounds .1, c .before .half-next .ensures)))
+
+count-steps-requires : tie.Need-count-steps-requires
 unfolding stepsOf
-make-step-requires c κs =
-    let loaded = c .before .before .before .before in
+count-steps-requires c κs =
+    let loaded = c .before .before .before .before .before .before .before .before .before .before .before in
+    let counting = loaded .before .before in
+    let sized = counting .before .before in
+    let start = sized .before .before .before .before .before in
+    let counted = counting .count-prices .ensures in
+    let made = rw (sized .area-size .ensures) at (loaded .load-word .ensures) in
+    let area = start .pre .1 .0 .area in
+    rw (sized .area-size .ensures) (omega arith, omega arith, omega (arith, counted .under, counted .few))
+
+returns : tie.Need-returns
+unfolding stepsOf
+returns c =
+    let stored = c .before .before .before .before .before .before in
+    let halving = stored .before .before in
+    let found = halving .before in
+    let numbering = found .before .before in
+    let nexts = numbering .before .before in
+    let loaded = nexts .before in
+    let counting = loaded .before .before in
+    let sized = counting .before .before in
+    let start = sized .before .before .before .before .before in
+    let a = start .args in
+    let m = a .memory .now in
+    let area = start .pre .1 .0 .area in
+    let size = sized .area-size .ensures in
+    let counted = counting .count-prices .ensures in
+    let steps = loaded .load-word .result in
+    let made = rw size at (loaded .load-word .ensures) in
+    let at = numbering .number-next .result in
+    let number = numbering .number-next .ensures in
+    let next = next-price (counting .count-prices .result) steps (omega (arith, nexts .prices-next .ensures)) in
+    let p = found .find-price .result in
+    let price =
+    price-at (a .pages) m (a .card) (at / 2) p (omega (arith, next .rest, number, counted .prices))
+    (found .find-price .ensures)
+    in
+    let due =
+    price-due (a .pages) (a .live .now) (a .primary .now) (a .secondary .now) (a .backup) m (a .card) steps p at
+    {first = next .first} {half = halving .half-next .result} area (counted .prices)
+    (rw (halving .half-next .ensures) (next .half)) (omega (arith, next .at, number))
+    (omega (arith, next .rest, number)) price
+    in
+    let d = homesOf (a .pages) (a .live .now) (a .primary .now) (a .secondary .now) in
+    let first = half-bounds (next .half) .0 in
+    step-counted d (a .backup) m (a .card) steps area made
+    (omega (arith, next .at, next .rest, number, counted .prices, first)) due
+    (rw (size, stored .step-price .ensures) at (c .before .before .count-steps .ensures))
+
+other-step-requires : tie.Need-other-step-requires
+unfolding stepsOf
+other-step-requires c κs =
+    let nexts = c .before .before in
+    let loaded = nexts .before in
     let counting = loaded .before .before in
     let sized = counting .before .before in
     let start = sized .before .before .before .before .before in
     let pre = start .pre in
-    let counted = counting .count-prices .ensures in
-    let made = rw (sized .area-size .ensures) at (loaded .load-word .ensures) in
-    let due = rw (c .before .before .price-number .ensures, made) at (c .before .find-price .ensures) in
-    (pre .0, (pre .1 .0, (pre .1 .1 .0, (counted, due))))
+    let made = rw (sized .area-size .ensures) at (loaded .load-word .ensures) in (
+      pre .1 .0,
+      (
+        pre .1 .1 .0,
+        (
+          (pre .0 .few, counting .count-prices .ensures),
+          (made, omega (arith, nexts .prices-next .ensures)),
+        ),
+      ),
+    )
+
+returns-2 : tie.Need-returns-2
+returns-2 c = c .before .before .other-step .ensures _ _
 
 pub step-release-spec : {M : Type 1} → statement M
 step-release-spec =
     tie.close
-    (tie.spec (λ c κs. search needs) count-prices-requires load-word-requires price-number-requires
-    find-price-requires make-step-requires (λ c. search needs) (λ c. search needs))
+    (tie.spec (λ c κs. search needs) count-prices-requires load-word-requires prices-next-requires
+    number-next-requires find-price-requires half-next-requires step-price-requires count-steps-requires
+    (λ c. search needs) returns other-step-requires (λ c. search needs) returns-2)

@@ -1,11 +1,9 @@
 -- Rests on the stores in the record: `record-store` and `done-store`.
-use Prim.Native.Nat.{_+_, _-_, _*_}
-use mathlib.Core.Path.{_∙_}
+use Prim.Native.Nat.{_+_, _-_, _*_, _≤_}
 use native.Mathlib.Omega.{arith}
 use borrow.Author.Needs.{needs}
-use borrow.Author.Tests.{ltb-false}
 use Rattle.release.specs.Stepping.{homesOf}
-use Rattle.release.proofs.Prices.{past-tentative, stores-after}
+use Rattle.release.proofs.Halves.{past-tentative, prices-after}
 use Rattle.release.proofs.Stores.{record-store, done-store}
 use Rattle.release.proofs.step_word.Statement.{statement}
 use Rattle.release.proofs.step_word.Tie as tie
@@ -48,8 +46,8 @@ returns-2 c primary secondary =
     let start = sized .before .before .before in
     let a = start .args in
     let pre = start .pre in
-    let after = stores-after (a .k) (a .steps) (test .if1 .left) in
-    let past = ltb-false (a .steps) (4 * a .k + 9) (after ∙ pre .1 .1 .1 .1) in
+    let none = prices-after (a .k) (a .steps) (test .if1 .left) in
+    let past : 4 * a .k + 9 ≤ a .steps = omega (arith, none, pre .1 .1 .1 .1) in
     let d = homesOf (a .pages) (a .live .now) primary secondary in
     rw (← done-store d (a .backup) (a .memory .now) (a .card) (a .steps) (pre .0 .area) (omega arith))
     (rw (sized .area-size .ensures) at (c .before .before .step-mark .ensures))
