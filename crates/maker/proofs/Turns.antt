@@ -1,24 +1,25 @@
 -- One turn of a loop over the labels: what one label brings to the changes, to a run and to the words of the diff.
 use Prim.Native.Nat.{ℕ, suc, _+_, _*_, _/_, _%_, _≤_, _<_}
-use mathlib.Core.Path.{_≡_, refl}
+use mathlib.Core.Path.{_≡_, refl, _∙_}
 use mathlib.Core.Logic.{_≢_}
 use mathlib.Core.List.{List, [], _∷_, _++_}
 use mathlib.Core.Bool.{Bool, true, false}
 use native.Mathlib.Omega.{arith}
 use native.Mathlib.Nat.{zero-add}
 use native.Mathlib.Numerals.{add-one}
-use lib.ListN.{length, set, drop, getD, drop-of-length-le, length-drop, length-append}
-use lib.Seq.{drop-cons, sets}
-use Rattle.laws.proofs.Lists.{sets-append}
+use lib.ListN.{length, set, take, drop, getD, drop-of-length-le, length-drop, length-append}
+use lib.Seq.{drop-cons, sets, take-append-seam}
+use Rattle.laws.proofs.Lists.{sets-append, sets-front}
 use Rattle.diff.specs.Format.{pageWord, runWord, endWord}
 use Rattle.diff.specs.declared.Price.{Price}
 use Rattle.diff.specs.Prices.{labelOf}
 use Rattle.diff.specs.Making.{follows, runLength, madeDiff}
+use Rattle.diff.specs.OnlyDiff.{Differs}
 use Rattle.diff.proofs.Encoding.{Ascending, none, more, follows-page, follows-word}
 use Rattle.diff.proofs.Encoding.{run-goes-on, run-stops, run-last, follows-yes, header-page, header-run, header-none}
 use Rattle.diff.proofs.Encoding.{encode-none, encode-price}
 use Rattle.diff.proofs.Making.{changes-same, changes-differ, changes-none, changes-ascend, label-at}
-use Rattle.maker.specs.AtLabel.{Lent, changesOn, workingPrice, runAt, headerAt, bodyOn}
+use Rattle.maker.specs.AtLabel.{Lent, NoChange, changesOn, workingPrice, runAt, headerAt, bodyOn}
 
 -- ---- the changes
 
@@ -46,6 +47,22 @@ module _ {working twins : List ℕ} (lent : Lent working twins) (label : ℕ) wh
   changes-on-ascend within =
       changes-ascend (length working) (drop label working) (drop label twins) label
       (simp length-drop (omega arith)) (simp length-drop (omega arith))
+
+-- ---- labels that do not differ
+
+pub no-change-yet : {working : List ℕ} (twins : List ℕ) (label : ℕ) → label ≤ length working
+    → NoChange working twins label label
+no-change-yet twins label within = record { after = omega arith; within = within; same = refl }
+
+pub no-change-more : {working twins : List ℕ} {from mid to : ℕ} → NoChange working twins from mid
+    → NoChange working twins mid to → NoChange working twins from to
+no-change-more before rest =
+    record { after = omega arith; within = rest .within; same = before .same ∙ rest .same }
+
+pub no-change-one : {working twins : List ℕ} → Lent working twins → (label : ℕ) → label < length working
+    → getD working label 0 ≡ getD twins label 0 → NoChange working twins label (label + 1)
+no-change-one lent label within equal =
+    record { after = omega arith; within = omega arith; same = changes-on-same lent label within equal }
 
 -- ---- the run of a label that differs
 
@@ -106,44 +123,47 @@ module _ (working twins : List ℕ) (next label : ℕ) where
 
 -- ---- the words of the diff
 
-module _ {working twins : List ℕ} (lent : Lent working twins) where
-  pub body-on-end : (next label : ℕ) → length working ≤ label → bodyOn working twins next label ≡ []
-  body-on-end next label end = rw (changes-on-end working twins label end) (encode-none next)
+-- the diff has one word more, the end word
+pub length-made : (working twins : List ℕ) → length (madeDiff working twins) ≡ length (bodyOn working twins 0) + 1
+unfolding madeDiff
+length-made working twins = simp length-append
 
-  -- the diff has one word more, the end word
-  pub length-made : length (madeDiff working twins) ≡ length (bodyOn working twins 0 0) + 1
-  unfolding madeDiff
-  length-made = simp length-append
+-- which is stored last
+pub end-stored : (working twins start list : List ℕ) (at : ℕ) → at ≡ length (bodyOn working twins 0)
+    → list ≡ sets start 0 (bodyOn working twins 0)
+    → set list at (endWord at) ≡ sets start 0 (madeDiff working twins)
+unfolding madeDiff
+end-stored working twins start list at whole stored = rw (sets-append, zero-add, whole, stored)
 
-  -- which is stored last
-  pub end-stored : (start buffer : List ℕ) (at : ℕ) → at ≡ length (bodyOn working twins 0 0)
-      → buffer ≡ sets start 0 (bodyOn working twins 0 0)
-      → set buffer at (endWord at) ≡ sets start 0 (madeDiff working twins)
-  unfolding madeDiff
-  end-stored start buffer at whole stored = rw (sets-append, zero-add, whole, stored)
+-- and is whole in as many words of the list
+pub made-taken : (made start : List ℕ) {list : List ℕ} {words : ℕ} → length made ≡ words → words ≤ length start
+    → list ≡ sets start 0 made → take words list ≡ made
+made-taken made start counted fits stored =
+    rw (stored, ← counted, sets-front made start (omega arith)) (take-append-seam made _)
 
-module _ {working twins : List ℕ} (lent : Lent working twins) (next label : ℕ) (within : label < length working) where
-  pub body-on-same : getD working label 0 ≡ getD twins label 0
-      → bodyOn working twins next label ≡ bodyOn working twins next (label + 1)
-  body-on-same same = rw (changes-on-same lent label within same)
+-- the labels that do not differ bring nothing
+module _ {working twins : List ℕ} {next label : ℕ} (skipped : NoChange working twins next label) where
+  pub body-on-end : length working ≤ label → bodyOn working twins next ≡ []
+  body-on-end end = rw (skipped .same, changes-on-end working twins label end) (encode-none next)
 
-  body-on-differ : getD working label 0 ≢ getD twins label 0
-      → bodyOn working twins next label
-      ≡ headerAt working twins next label ++ getD working label 0 ∷ bodyOn working twins (label + 1) (label + 1)
-  body-on-differ differ =
-      rw (changes-on-differ lent label within differ)
-      (rw label-at at (encode-price next (workingPrice working label) (changesOn working twins (label + 1)) _ refl))
+  module _ (lent : Lent working twins) (within : label < length working) (differ : Differs working twins label) where
+    body-on-differ :
+        bodyOn working twins next
+        ≡ headerAt working twins next label ++ getD working label 0 ∷ bodyOn working twins (label + 1)
+    body-on-differ =
+        rw (skipped .same, changes-on-differ lent label within differ)
+        (rw label-at at (encode-price next (workingPrice working label) (changesOn working twins (label + 1)) _ refl))
 
-  pub length-body-on : {words : ℕ} → words ≡ length (headerAt working twins next label)
-      → getD working label 0 ≢ getD twins label 0
-      → length (bodyOn working twins next label) ≡ words + 1 + length (bodyOn working twins (label + 1) (label + 1))
-  length-body-on counted differ = rw (counted, body-on-differ differ, length-append) (omega arith)
+    pub length-body-on :
+        length (bodyOn working twins next)
+        ≡ length (headerAt working twins next label) + 1 + length (bodyOn working twins (label + 1))
+    length-body-on = rw (body-on-differ, length-append) (omega arith)
 
-  -- a label's words are stored, and those of the labels after it are still to be stored behind them
-  pub body-on-stored : (buffer : List ℕ) (at : ℕ) → getD working label 0 ≢ getD twins label 0
-      → let after = at + length (headerAt working twins next label) in
-      sets (set (sets buffer at (headerAt working twins next label)) after (getD working label 0)) (after + 1)
-      (bodyOn working twins (label + 1) (label + 1))
-      ≡ sets buffer at (bodyOn working twins next label)
-  body-on-stored buffer at differ =
-      rw (body-on-differ differ, sets-append, add-one (at + length (headerAt working twins next label)))
+    -- a label's words are stored, and those of the labels after it are still to be stored behind them
+    pub body-on-stored : (list : List ℕ) (at : ℕ)
+        → let after = at + length (headerAt working twins next label) in
+        sets (set (sets list at (headerAt working twins next label)) after (getD working label 0)) (after + 1)
+        (bodyOn working twins (label + 1))
+        ≡ sets list at (bodyOn working twins next)
+    body-on-stored list at =
+        rw (body-on-differ, sets-append, add-one (at + length (headerAt working twins next label)))

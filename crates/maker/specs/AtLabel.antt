@@ -16,6 +16,12 @@ pub record Lent (working twins : List ℕ) : Type 0 where
 abbrev pub changesOn : List ℕ → List ℕ → ℕ → List Price
 changesOn working twins label = changesFrom label (drop label working) (drop label twins)
 
+-- no label from `from` on, and before `to`, differs
+pub record NoChange (working twins : List ℕ) (from to : ℕ) : Type 0 where
+  pub after : from ≤ to
+  pub within : to ≤ length working
+  pub same : changesOn working twins from ≡ changesOn working twins to
+
 -- a label's price on the working pages
 abbrev pub workingPrice : List ℕ → ℕ → Price
 workingPrice working label = priceAt label (getD working label 0)
@@ -28,6 +34,6 @@ runAt working twins label = runLength (workingPrice working label) (changesOn wo
 abbrev pub headerAt : List ℕ → List ℕ → ℕ → ℕ → List ℕ
 headerAt working twins next label = header next (workingPrice working label) (runAt working twins label)
 
--- the words that the labels from one on bring, the end word not among them
-abbrev pub bodyOn : List ℕ → List ℕ → ℕ → ℕ → List ℕ
-bodyOn working twins next label = encodeFrom next (changesOn working twins label)
+-- the words that the labels from `next` on bring, the end word not among them
+abbrev pub bodyOn : List ℕ → List ℕ → ℕ → List ℕ
+bodyOn working twins next = encodeFrom next (changesOn working twins next)

@@ -1,46 +1,76 @@
 // The list maker: the diff between working pages and their twins, written into a lent buffer.
 ghost use mathlib.Core.Path.{_≡_};
-ghost use Prim.Native.Nat.{ℕ, _+_, _%_, _<_, _≤_};
-ghost use mathlib.Core.List.{List};
+ghost use mathlib.Core.Bool.{true};
+ghost use Prim.Native.Nat.{_+_, _%_, _<_, _≤_};
 ghost use lib.ListN.{length};
 ghost use lib.Seq.{sets};
 ghost use Rattle.answer.specs.Outcome.{answerOf};
 ghost use Rattle.diff.specs.Format.{runWord};
 ghost use Rattle.diff.specs.Making.{madeDiff, lentPages, makeDiff, bufferAfter};
-ghost use Rattle.maker.specs.AtLabel.{Lent, runAt, headerAt};
+ghost use Rattle.diff.specs.OnlyDiff.{Differs};
+ghost use Rattle.maker.specs.AtLabel.{Lent, NoChange, runAt, headerAt};
 use answer::Answer;
 
-// How many words stand before the price of a label that differs, whatever the pages hold. `next` is
-// one more than the label named last, 0 before the first.
-fn header_length(next: usize, label: usize) -> usize
-    ensures short { λ r. ⌜ r ≤ 2 ⌝ }
-    ensures counted { λ r. ⌜ ((working twins : List ℕ)
-        → r ≡ length (headerAt working twins next label)) ⌝ }
-{
-    if next <= label / 32 * 32 {
-        return 2;
-    }
-    if next == label { 0 } else { 1 }
-}
-
-// The number of words of the diff, its end word among them.
-fn count_words(working: &[u32], twins: &[u32]) -> usize
+// Whether the eight words from a label on are equal to their twins. The loop has no other end than
+// the eighth, so that the compiler compares several words at a time.
+fn same_eight(working: &[u32], twins: &[u32], label: usize) -> bool
     requires { ⌜ Lent (now working) (now twins) ⌝ }
-    ensures { λ r. ⌜ r ≡ length (madeDiff (now (working .entry)) (now (twins .entry))) ⌝ }
+    requires { ⌜ label + 8 ≤ length (now working) ⌝ }
+    ensures { λ r. ⌜ (r ≡ true
+        → NoChange (now (working .entry)) (now (twins .entry)) label (label + 8)) ⌝ }
 {
-    let mut next: usize = 0;
-    let mut words: usize = 0;
-    let mut label: usize = 0;
-    while label < working.len() {
-        if working[label] == twins[label] {
-            label += 1;
+    let mut same = true;
+    let mut i: usize = 0;
+    while i < 8 {
+        if working[label + i] == twins[label + i] {
+            i += 1;
         } else {
-            words += header_length(next, label) + 1;
-            label += 1;
-            next = label;
+            same = false;
+            i += 1;
         }
     }
-    words + 1
+    same
+}
+
+// Where a walk over the labels stops that takes eight at a time, as long as none of them differs.
+fn skip_same(working: &[u32], twins: &[u32], from: usize) -> usize
+    requires { ⌜ Lent (now working) (now twins) ⌝ }
+    requires { ⌜ from ≤ length (now working) ⌝ }
+    ensures { λ r. ⌜ NoChange (now (working .entry)) (now (twins .entry)) from r ⌝ }
+{
+    let mut label = from;
+    while label + 8 <= working.len() {
+        if same_eight(working, twins, label) {
+            label += 8;
+        } else {
+            return label;
+        }
+    }
+    label
+}
+
+// The first label from one on that differs, or the number of labels if none does. That one itself
+// is looked at first, since it goes on with a run where the label before it differs.
+fn next_change(working: &[u32], twins: &[u32], from: usize) -> usize
+    requires { ⌜ Lent (now working) (now twins) ⌝ }
+    requires { ⌜ from ≤ length (now working) ⌝ }
+    ensures none_between { λ r. ⌜ NoChange (now (working .entry)) (now (twins .entry)) from r ⌝ }
+    ensures differs { λ r. ⌜ (r < length (now (working .entry))
+        → Differs (now (working .entry)) (now (twins .entry)) r) ⌝ }
+{
+    if from < working.len() {
+        if working[from] != twins[from] {
+            return from;
+        }
+    }
+    let mut label = skip_same(working, twins, from);
+    while label < working.len() {
+        if working[label] != twins[label] {
+            return label;
+        }
+        label += 1;
+    }
+    label
 }
 
 // How many words, a label that differs first, differ one after the other on its page.
@@ -76,61 +106,65 @@ fn run_word(working: &[u32], twins: &[u32], label: usize) -> u32
 }
 
 // Writes what stands before the price of a label that differs, from `at` on, and says where it
-// stopped: there is room for the price.
+// stopped. `next` is one more than the label named last, 0 before the first.
 fn write_header(
     working: &[u32],
     twins: &[u32],
     next: usize,
     label: usize,
-    buffer: &mut [u32],
+    list: &mut [u32],
     at: usize,
 ) -> usize
     requires { ⌜ Lent (now working) (now twins) ⌝ }
     requires { ⌜ label < length (now working) ⌝ }
-    requires { ⌜ at + length (headerAt (now working) (now twins) next label)
-        < length (now buffer) ⌝ }
-    ensures room { λ r. ⌜ r < length (now (buffer .entry)) ⌝ }
+    requires { ⌜ at + 2 ≤ length (now list) ⌝ }
+    ensures short { λ r. ⌜ r ≤ at + 2 ⌝ }
     ensures stopped { λ r. ⌜ r
         ≡ at + length (headerAt (now (working .entry)) (now (twins .entry)) next label) ⌝ }
-    ensures written { λ _. ⌜ now (buffer .exit)
-        ≡ sets (now (buffer .entry)) at
+    ensures written { λ _. ⌜ now (list .exit)
+        ≡ sets (now (list .entry)) at
         (headerAt (now (working .entry)) (now (twins .entry)) next label) ⌝ }
 {
     if next <= label / 32 * 32 {
-        buffer[at] = 0x10000000 + (label / 32) as u32;
-        buffer[at + 1] = run_word(working, twins, label);
+        list[at] = 0x10000000 + (label / 32) as u32;
+        list[at + 1] = run_word(working, twins, label);
         return at + 2;
     }
     if next == label {
         return at;
     }
-    buffer[at] = run_word(working, twins, label);
+    list[at] = run_word(working, twins, label);
     at + 1
 }
 
-// Writes the diff into a buffer that has room for it.
-fn write_diff(working: &[u32], twins: &[u32], buffer: &mut [u32])
+// Writes the diff into a list and gives its length, or 513 if it has over 512 words. The list has
+// room for three words of a label after 510 others, and for the end word.
+fn write_diff(working: &[u32], twins: &[u32], list: &mut [u32]) -> usize
     requires { ⌜ Lent (now working) (now twins) ⌝ }
-    requires { ⌜ length (madeDiff (now working) (now twins)) ≤ length (now buffer) ⌝ }
-    requires { ⌜ length (madeDiff (now working) (now twins)) ≤ 512 ⌝ }
-    ensures { λ _. ⌜ now (buffer .exit)
-        ≡ sets (now (buffer .entry)) 0 (madeDiff (now (working .entry)) (now (twins .entry))) ⌝ }
+    requires { ⌜ length (now list) ≡ 514 ⌝ }
+    ensures over { λ r. ⌜ (512 < r
+        → 512 < length (madeDiff (now (working .entry)) (now (twins .entry)))) ⌝ }
+    ensures counted { λ r. ⌜ (r ≤ 512
+        → r ≡ length (madeDiff (now (working .entry)) (now (twins .entry)))) ⌝ }
+    ensures written { λ r. ⌜ (r ≤ 512
+        → now (list .exit)
+        ≡ sets (now (list .entry)) 0 (madeDiff (now (working .entry)) (now (twins .entry)))) ⌝ }
 {
     let mut next: usize = 0;
-    let mut at: usize = 0;
-    let mut label: usize = 0;
+    let mut words: usize = 0;
+    let mut label = next_change(working, twins, 0);
     while label < working.len() {
-        if working[label] == twins[label] {
-            label += 1;
-        } else {
-            at = write_header(working, twins, next, label, buffer, at);
-            buffer[at] = working[label];
-            at += 1;
-            label += 1;
-            next = label;
+        if 510 < words {
+            return 513;
         }
+        words = write_header(working, twins, next, label, list, words);
+        list[words] = working[label];
+        words += 1;
+        next = label + 1;
+        label = next_change(working, twins, next);
     }
-    buffer[at] = 0xF0000000 + at as u32;
+    list[words] = 0xF0000000 + words as u32;
+    words + 1
 }
 
 // Whether a list is made of so many words of working pages and so many of their twins.
@@ -148,7 +182,7 @@ fn lent_pages(working: usize, twins: usize) -> bool
 }
 
 // Makes the diff from the twins to the working pages: gives its length, or refusal 1 or 17. The
-// words of the buffer past it are kept, and all of them if it is refused.
+// words of the buffer past it are kept, and all of them if it is refused: the diff is written aside.
 pub fn make(working: &[u32], twins: &[u32], buffer: &mut [u32]) -> Answer
     ensures answer { λ r. ⌜ r
         ≡ answerOf
@@ -157,14 +191,15 @@ pub fn make(working: &[u32], twins: &[u32], buffer: &mut [u32]) -> Answer
         ≡ bufferAfter (now (working .entry)) (now (twins .entry)) (now (buffer .entry)) ⌝ }
 {
     if lent_pages(working.len(), twins.len()) {
-        let words = count_words(working, twins);
+        let mut list = [0u32; 514];
+        let words = write_diff(working, twins, &mut list);
         if 512 < words {
             return Answer::Refused(answer::WRONG_BUFFER, 0);
         }
         if buffer.len() < words {
             return Answer::Refused(answer::WRONG_BUFFER, 0);
         }
-        write_diff(working, twins, buffer);
+        memory::copy_words(&list[..words], &mut buffer[..words]);
         return Answer::Given(words as u64);
     }
     Answer::Refused(answer::LIMITS, 0)

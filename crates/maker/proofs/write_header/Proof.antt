@@ -9,18 +9,6 @@ use Rattle.maker.proofs.Turns.{header-at-page, header-at-run, header-at
 use Rattle.maker.proofs.write_header.Statement.{statement}
 use Rattle.maker.proofs.write_header.Tie as tie
 
-slice-write-buffer : tie.Need-slice-write-buffer
-slice-write-buffer c =
-    let args = c .before .before .before .before .args in
-    let page = header-at-page (now (args .working)) (now (args .twins)) _ _ (c .if1 .taken) in
-    omega (arith, ap length page)
-
-slice-write-buffer-2 : tie.Need-slice-write-buffer-2
-slice-write-buffer-2 c =
-    let args = c .before .before .before .before .before .args in
-    let page = header-at-page (now (args .working)) (now (args .twins)) _ _ (c .before .if1 .taken) in
-    simp length-set (omega (arith, ap length page))
-
 returns : tie.Need-returns
 returns c =
     let args = c .before .before .before .before .before .args in
@@ -33,13 +21,6 @@ returns-2 c =
     let none = header-at-none (now (args .working)) (now (args .twins)) _ _ (c .before .if1 .left) (c .if2 .taken) in
     (search needs, (omega (arith, ap length none), rw none))
 
-slice-write-buffer-3 : tie.Need-slice-write-buffer-3
-slice-write-buffer-3 c =
-    let args = c .before .before .before .before .before .before .args in
-    let named = c .before .before .if1 .left in
-    let run = header-at-run (now (args .working)) (now (args .twins)) _ _ named (c .before .if2 .left) in
-    omega (arith, ap length run)
-
 returns-3 : tie.Need-returns-3
 returns-3 c =
     let args = c .before .before .before .before .before .before .args in
@@ -50,7 +31,7 @@ returns-3 c =
 pub write-header-spec : {M : Type 1} → statement M
 write-header-spec =
     tie.close
-    (tie.spec (λ c. search needs) (λ c. search needs) (λ c. search needs) (λ c. search needs) slice-write-buffer
-    (λ c κs. search needs) (λ c. search needs) (λ c. search needs) slice-write-buffer-2 (λ c. search needs)
-    (λ c. search needs) returns returns-2 (λ c κs. search needs) (λ c. search needs) slice-write-buffer-3
-    (λ c. search needs) (λ c. search needs) returns-3)
+    (tie.spec (λ c. search needs) (λ c. search needs) (λ c. search needs) (λ c. search needs) (λ c. search needs)
+    (λ c κs. search needs) (λ c. search needs) (λ c. search needs) (λ c. simp length-set (search needs))
+    (λ c. search needs) (λ c. search needs) returns returns-2 (λ c κs. search needs) (λ c. search needs)
+    (λ c. search needs) (λ c. search needs) (λ c. search needs) returns-3)

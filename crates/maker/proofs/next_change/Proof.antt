@@ -1,0 +1,40 @@
+-- `maker::next_change` meets its contract. The loop's invariant: no label passed differs.
+use Prim.Native.Nat.{_-_}
+use native.Mathlib.Omega.{arith}
+use borrow.Author.Needs.{needs}
+use lib.ListN.{length}
+use Rattle.maker.specs.AtLabel.{NoChange}
+use Rattle.maker.proofs.Turns.{no-change-yet, no-change-more, no-change-one}
+use Rattle.maker.proofs.next_change.Statement.{statement}
+use Rattle.maker.proofs.next_change.Tie as tie
+
+abbrev Inv-loop : tie.InvT-loop
+Inv-loop working twins from label₀ label = NoChange working twins from label
+
+abbrev μ-loop : tie.MeasureT-loop
+μ-loop working twins from label₀ label = length working - label
+
+returns : tie.Need-returns Inv-loop μ-loop
+returns c = (no-change-yet _ _ (omega arith), λ within. c .if2 .taken)
+
+loop-holds : tie.Need-loop-holds Inv-loop μ-loop
+loop-holds c = c .skip-same .ensures
+
+returns-2 : tie.Need-returns-2 Inv-loop μ-loop
+returns-2 c = (c .before .before .before .before .loop .inv, λ within. c .if3 .taken)
+
+loop-again : tie.Need-loop-again Inv-loop μ-loop
+loop-again c =
+    let turn = c .before .before .before in
+    let lent = turn .before .before .before .before .before .before .pre .0 in
+    no-change-more (turn .before .loop .inv) (no-change-one lent _ (turn .loop-test .taken) (c .if3 .left))
+
+returns-3 : tie.Need-returns-3 Inv-loop μ-loop
+returns-3 c = (c .before .loop .inv, λ within. absurd (omega arith))
+
+pub next-change-spec : {M : Type 1} → statement M
+next-change-spec =
+    tie.close
+    (tie.spec Inv-loop μ-loop (λ c. search needs) (λ c. search needs) (λ c. search needs) (λ c. search needs) returns
+    (λ c κs. search needs) loop-holds (λ c. search needs) (λ c. search needs) (λ c. search needs) (λ c. search needs)
+    returns-2 (λ c. search needs) (λ c. search needs) loop-again returns-3)

@@ -1,0 +1,33 @@
+-- `maker::skip_same` meets its contract. The loop's invariant: no label passed differs.
+use Prim.Native.Nat.{_-_}
+use native.Mathlib.Omega.{arith}
+use borrow.Author.Needs.{needs}
+use lib.ListN.{length}
+use Rattle.maker.specs.AtLabel.{NoChange}
+use Rattle.maker.proofs.Turns.{no-change-yet, no-change-more}
+use Rattle.maker.proofs.skip_same.Statement.{statement}
+use Rattle.maker.proofs.skip_same.Tie as tie
+
+abbrev Inv-loop : tie.InvT-loop
+Inv-loop working twins from label₀ label = NoChange working twins from label
+
+abbrev μ-loop : tie.MeasureT-loop
+μ-loop working twins from label₀ label = length working - label
+
+loop-holds : tie.Need-loop-holds Inv-loop μ-loop
+loop-holds c = no-change-yet _ _ (omega arith)
+
+loop-again : tie.Need-loop-again Inv-loop μ-loop
+loop-again c = no-change-more (c .before .before .before .loop .inv) (c .before .same-eight .ensures (c .if1 .taken))
+
+returns : tie.Need-returns Inv-loop μ-loop
+returns c = c .before .before .before .loop .inv
+
+returns-2 : tie.Need-returns-2 Inv-loop μ-loop
+returns-2 c = c .before .loop .inv
+
+pub skip-same-spec : {M : Type 1} → statement M
+skip-same-spec =
+    tie.close
+    (tie.spec Inv-loop μ-loop loop-holds (λ c. search needs) (λ c κs. search needs) (λ c. search needs)
+    (λ c. search needs) loop-again returns returns-2)
