@@ -1,5 +1,6 @@
 -- `maker::write_header` meets its contract: its tests tell the three kinds of header apart.
-use mathlib.Core.Path.{ap}
+use mathlib.Core.Path.{_≡_, ap}
+use mathlib.Core.Logic.{_≢_}
 use native.Mathlib.Omega.{arith}
 use native.Mathlib.Numerals.{add-one}
 use borrow.Author.Needs.{needs}
@@ -18,14 +19,16 @@ returns c =
 returns-2 : tie.Need-returns-2
 returns-2 c =
     let args = c .before .before .before .before .before .args in
-    let none = header-at-none (now (args .working)) (now (args .twins)) _ _ (c .before .if1 .left) (c .if2 .taken) in
+    let on : args .next ≡ args .label = omega arith in
+    let none = header-at-none (now (args .working)) (now (args .twins)) _ _ (c .before .if1 .left) on in
     (search needs, (omega (arith, ap length none), rw none))
 
 returns-3 : tie.Need-returns-3
 returns-3 c =
     let args = c .before .before .before .before .before .before .args in
     let named = c .before .before .if1 .left in
-    let run = header-at-run (now (args .working)) (now (args .twins)) _ _ named (c .before .if2 .left) in
+    let apart : args .next ≢ args .label = λ same. omega arith in
+    let run = header-at-run (now (args .working)) (now (args .twins)) _ _ named apart in
     (omega (arith, ap length run), (rw run, rw (run, c .run-word2 .ensures)))
 
 pub write-header-spec : {M : Type 1} → statement M
