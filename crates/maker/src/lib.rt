@@ -152,8 +152,11 @@ fn write_diff(working: &[u32], twins: &[u32], list: &mut [u32]) -> usize
 {
     let mut next: usize = 0;
     let mut words: usize = 0;
-    let mut label = next_change(working, twins, 0);
-    while label < working.len() {
+    loop {
+        let label = next_change(working, twins, next);
+        if working.len() <= label {
+            break;
+        }
         if 510 < words {
             return 513;
         }
@@ -161,7 +164,6 @@ fn write_diff(working: &[u32], twins: &[u32], list: &mut [u32]) -> usize
         list[words] = working[label];
         words += 1;
         next = label + 1;
-        label = next_change(working, twins, next);
     }
     list[words] = 0xF0000000 + words as u32;
     words + 1
