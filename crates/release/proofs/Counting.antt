@@ -8,16 +8,16 @@ use native.Mathlib.Nat.{add-zero, sub-zero}
 use native.Mathlib.Omega.{arith}
 use lib.ListN.{length}
 use Rattle.laws.proofs.Bools.{by-cond}
-use Rattle.memory.specs.Layout.{areaSize, stepsMade, pageStart}
+use Rattle.memory.specs.Layout.{areaSize, stepsMade}
 use Rattle.memory.specs.Area.{AreaIn, store}
 use Rattle.memory.proofs.Words.{length-store, load-store-same, store-loaded, store-twice, store-swap}
 use Rattle.directory.specs.declared.Directory.{Directory}
 use Rattle.directory.specs.Live.{liveAt}
 use Rattle.diff.specs.declared.Price.{Price}
-use Rattle.protocol.specs.Release.{sizeOf, openPrices, stepsOf, Write, writeOf, makeWrite, stepMemory}
+use Rattle.protocol.specs.Release.{sizeOf, openPrices, stepsOf, Write, makeWrite, stepMemory}
 use Rattle.protocol.specs.Recovery.{stepTimes}
 use Rattle.protocol.proofs.Stepped.{length-make-write}
-use Rattle.release.specs.Stepping.{StepsLeft, homesOf, storeAfter, homeAt, NumberedPrice}
+use Rattle.release.specs.Stepping.{StepsLeft, homesOf, storeAfter, NumberedPrice}
 use Rattle.release.proofs.Halves.{HalfFrom, half-bounds}
 use Rattle.release.proofs.Prices.{price-at}
 use Rattle.release.proofs.Stores.{storeOf, price-due, step-counted}

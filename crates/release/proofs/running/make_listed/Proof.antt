@@ -1,9 +1,8 @@
 -- Rests on `StepsMade`: what is left of the steps gives what all of them give; the list stays, and so does its table.
-use mathlib.Core.Path.{_≡_}
 use native.Mathlib.Omega.{arith}
 use borrow.Author.Needs.{needs}
 use Rattle.protocol.specs.Release.{stepsOf}
-use Rattle.release.specs.Stepping.{homesOf, pricesNext}
+use Rattle.release.specs.Stepping.{homesOf}
 use Rattle.release.proofs.Callers.{homes-kept, card-kept}
 use Rattle.release.proofs.Prices.{listed-kept}
 use Rattle.release.proofs.Left.{StepsMade, counted-left, some-left, steps-none, steps-one, steps-run, steps-all}
