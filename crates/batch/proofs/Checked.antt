@@ -23,7 +23,7 @@ use Rattle.protocol.proofs.Accepting.{Runs, StepPassed}
 use Rattle.protocol.proofs.Shape.{SameOwn, SameRelease, same-own-release, list-kept, is-open-kept, steps-kept}
 use Rattle.protocol.proofs.Stepped.{close-word-9, close-not-open}
 use Rattle.release.specs.Stepping.{GoodRelease, leftOf}
-use Rattle.release.proofs.Stores.{length-desk, step-closes}
+use Rattle.release.proofs.Stores.{length-desk, step-closed}
 use Rattle.release.proofs.Kept.{steps-more, step-keeps-own, step-keeps-others}
 use Rattle.release.proofs.Left.{counted}
 use Rattle.rack.proofs.Fitting.{fitting}
@@ -133,7 +133,7 @@ module _ (d : Directory) (m : List ℕ) (c : ℕ) (passed : StepPassed d m c) wh
   unfolding badCard
   next-shut last =
       let eight = length-desk (sizeOf d) m c (omega arith) area in
-      let closes = step-closes d (backupOf d c) m c _ area refl (omega (arith, all-prices, good .under)) in
+      let closes = step-closed d (backupOf d c) m c _ area refl (omega (arith, all-prices, good .under)) in
       let zero : badCard (d .live) (d .pages) next c ≡ false
       = rw (closes, passed .live, close-word-9 (sizeOf d) m c (omega arith) eight area)
       in

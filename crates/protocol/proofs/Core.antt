@@ -10,7 +10,7 @@ use native.Mathlib.Omega.{arith}
 use native.Mathlib.Decide.{ℕ-discrete}
 use lib.ListN.{length}
 use Rattle.memory.specs.Layout.{areaSize, releaseOpen}
-use Rattle.memory.specs.Area.{load}
+use Rattle.memory.specs.Area.{AreaIn, load}
 use Rattle.directory.specs.declared.Directory.{Directory}
 use Rattle.directory.specs.Directory.{isLive}
 use Rattle.diff.specs.declared.Verdict.the-variants.{Good}
@@ -20,8 +20,7 @@ use Rattle.protocol.specs.Release.{Release, sizeOf, ownRelease, openList
 use Rattle.protocol.specs.Release.{countsAt, stepsIn}
 use Rattle.protocol.specs.Book.{Opened, none, opened, listPrices, Book, update}
 use Rattle.protocol.proofs.Shape.{Shape, SameOwn, SameRelease, shape-kept, own-kept, open-kept, list-kept}
-use Rattle.protocol.proofs.Shape.{steps-kept}
-use Rattle.protocol.proofs.Shape.{same-own-release}
+use Rattle.protocol.proofs.Shape.{area-of-live, steps-kept, same-own-release}
 use Rattle.protocol.proofs.Over.{written}
 use Rattle.protocol.proofs.Stepped.{StandsIn, stepWrite, load-step, steps-step, step-keeps}
 use Rattle.protocol.proofs.Stepped.{step-keeps-other, step-keeps-record}
@@ -99,6 +98,9 @@ module _ (d : Directory) (backup : ℕ → ℕ) (old : ℕ → ℕ → ℕ) (T C
   few : c < 8
   few = omega (arith, core .shape .below c live, core .shape .few-cards)
 
+  area : AreaIn (length m) (sizeOf d) c
+  area = area-of-live (core .shape) c live
+
   standing : OpenStands (d .pages) m c r list s
   standing = rw is at (core .standing c live)
 
@@ -120,17 +122,18 @@ module _ (d : Directory) (backup : ℕ → ℕ) (old : ℕ → ℕ → ℕ) (T C
     wrote : (h o : ℕ) → isLive d h ≡ true → o < sizeOf d → 20 ≤ o
         → load (sizeOf d) m′ h o ≡ written (stepWrite d (backup c) c r (listPrices list) s) h o (load (sizeOf d) m h o)
     wrote h o up inside above =
-        load-step (core .shape) (backup c) c live (standing .stands) before h o up inside (λ _ e. omega arith)
+        load-step d (backup c) m c area (standing .stands) few before h o up (area-of-live (core .shape) h up) inside
+        (λ _ e. omega arith)
 
     kept : SameRelease (sizeOf d) m m′ c
-    kept = step-keeps (core .shape) (backup c) c live (standing .stands) before
+    kept = step-keeps d (backup c) m c area (standing .stands) few before
 
-    kept-other : (x : ℕ) → isLive d x ≡ true → x ≢ c → SameOwn (sizeOf d) m m′ x
-    kept-other x up other = step-keeps-other (core .shape) (backup c) c live (standing .stands) before x up other
+    kept-other : (x : ℕ) → x ≢ c → SameOwn (sizeOf d) m m′ x
+    kept-other = step-keeps-other d (backup c) m c area (standing .stands) few before
 
-    kept-record : (x h o : ℕ) → x < 8 → x ≢ c → isLive d h ≡ true → 20 + 18 * x ≤ o → o < 38 + 18 * x
+    kept-record : (x h o : ℕ) → x < 8 → x ≢ c → 20 + 18 * x ≤ o → o < 38 + 18 * x
         → load (sizeOf d) m′ h o ≡ load (sizeOf d) m h o
-    kept-record = step-keeps-record (core .shape) (backup c) c live (standing .stands) before
+    kept-record = step-keeps-record d (backup c) m c area (standing .stands) few before
 
     own-stands : Standing (d .pages) m′ c R′
     own-stands =
@@ -139,7 +142,7 @@ module _ (d : Directory) (backup : ℕ → ℕ) (old : ℕ → ℕ → ℕ) (T C
           stands = record {
             release = open-kept (sizeOf d) m m′ c kept ∙ standing .stands .release;
             prices = rw (list-kept (sizeOf d) m m′ c kept) (standing .stands .prices);
-            steps = steps-step (core .shape) (backup c) c live (standing .stands) before;
+            steps = steps-step d (backup c) m c area (standing .stands) few before;
           };
           words = standing .words;
           reads = rw (list-kept (sizeOf d) m m′ c kept) (standing .reads);
@@ -164,7 +167,7 @@ module _ (d : Directory) (backup : ℕ → ℕ) (old : ℕ → ℕ → ℕ) (T C
           shape = shape-kept (core .shape) m′ (kept .same-length);
           standing = update-each (b .release) c R′ (λ x R. isLive d x ≡ true → Standing (d .pages) m′ x R)
               (λ _. own-stands)
-              (λ x other up. standing-kept (d .pages) m m′ x (b .release x) (kept-other x up other)
+              (λ x other up. standing-kept (d .pages) m m′ x (b .release x) (kept-other x other)
               (core .standing x up));
           gone = update-each (b .release) c R′ (λ x R. isLive d x ≡ false → R ≡ none)
               (λ dead. absurd (true≢false (sym live ∙ dead))) (λ x other. core .gone x);
@@ -179,7 +182,7 @@ module _ (d : Directory) (backup : ℕ → ℕ) (old : ℕ → ℕ → ℕ) (T C
           owns = update-each (b .release) c R′ (λ x R. isLive d x ≡ true → Own R (ownRelease (sizeOf d) m′ x) (last x))
               (λ _. rw (own-kept (sizeOf d) m m′ c kept) (rw is at (core .owns c live)))
               (λ x other up. rw (
-                own-kept (sizeOf d) m m′ x (same-own-release (sizeOf d) m m′ x (kept-other x up other)),
+                own-kept (sizeOf d) m m′ x (same-own-release (sizeOf d) m m′ x (kept-other x other)),
                 others x other,
               ) (core .owns x up));
           tentative = λ t.
@@ -200,12 +203,11 @@ module _ (d : Directory) (backup : ℕ → ℕ) (old : ℕ → ℕ → ℕ) (T C
               (rw is at (core .held c live up)))
               (λ x other lives up. rw (others x other)
               (held-kept x (b .release x) (b .last x) (load (sizeOf d) m (backup x)) (load (sizeOf d) m′ (backup x))
-              (λ o above below. kept-record x (backup x) o (small x lives) other up above below)
+              (λ o above below. kept-record x (backup x) o (small x lives) other above below)
               (core .held x lives up)));
           dead = λ g h o gone few′ up above below.
               kept-record g h o (omega (arith, core .shape .few-cards))
-              (λ e. true≢false (sym live ∙ ap (isLive d) (sym e) ∙ gone))
-              up above below
+              (λ e. true≢false (sym live ∙ ap (isLive d) (sym e) ∙ gone)) above below
               ∙ core .dead g h o gone few′ up above below;
         }
       where

@@ -147,7 +147,7 @@ module _ (d : Directory) (backup : ℕ → ℕ) (old : ℕ → ℕ → ℕ) (T C
         | yes before ↦ write-step before
         | no late ↦
             let past : s ≡ 4 * length (listPrices list) + 10 = omega arith in
-            rw (step-closes (core .shape) (backup c) c live (standing .stands) past)
+            rw (step-closes d (backup c) m c (area-of-live (core .shape) c live) (standing .stands) past)
             (subst (Core d backup old T C (close (sizeOf d) m c)) (sym (step-book-closes b c r list s (omega arith)))
             (close-core past))
       ]

@@ -32,7 +32,7 @@ use Rattle.protocol.proofs.Writes.{noPrice, length-writes, Phase, phase
 use Rattle.protocol.proofs.Writes.{to-committed, to-done, to-close}
 use Rattle.protocol.proofs.Writes.{write-tentative, write-desk, write-stamp, write-committed, write-done}
 use Rattle.protocol.proofs.Over.{written, written-here, written-other-card, written-other-offset}
-use Rattle.protocol.proofs.Shape.{Shape, SameOwn, SameRelease, area-of-live}
+use Rattle.protocol.proofs.Shape.{SameOwn, SameRelease}
 
 -- ---- one write
 
@@ -68,6 +68,16 @@ module _ (marks : List Bool) (size : ℕ) (m : List ℕ) (w : Write) where
       go true up same = stored same (ℕ-discrete (w .offset) o)
       go false dead (yes same) = absurd (true≢false (sym live ∙ ap (liveAt marks) (sym same) ∙ dead))
       go false dead (no away) = sym (written-other-card w h o (load size m h o) away)
+
+  -- a word of any card at another offset
+  make-write-other : (x o : ℕ) → w .offset < size → o < size → w .offset ≢ o
+      → load size (makeWrite marks size m w) x o ≡ load size m x o
+  unfolding makeWrite
+  make-write-other x o inside inside′ other = go (liveAt marks (w .card))
+    where
+      go : (up : Bool) → load size (cond up (store size m (w .card) (w .offset) (w .value)) m) x o ≡ load size m x o
+      go true = load-store-other-offset size m (w .card) (w .offset) (w .value) x o inside inside′ (λ e. other (sym e))
+      go false = refl
 
 -- ---- the writes of a release stand in its areas' records and pages
 
@@ -117,19 +127,14 @@ pub record StandsIn (pages : ℕ) (m : List ℕ) (c : ℕ) (r : Release) (ps : L
 abbrev pub stepWrite : Directory → ℕ → ℕ → Release → List Price → ℕ → Write
 stepWrite d backup c r ps s = getD (releaseWrites d backup c r ps) s noWrite
 
-module _ {d : Directory} {m : List ℕ} (shape : Shape d m) (backup c : ℕ) (live : isLive d c ≡ true) {r : Release}
+module _ (d : Directory) (backup : ℕ) (m : List ℕ) (c : ℕ) (area : AreaIn (length m) (sizeOf d) c) {r : Release}
     {ps : List Price} {s : ℕ} (stands : StandsIn (d .pages) m c r ps s) where
-  pub eight : length (r .desk) ≡ 8
+  eight : length (r .desk) ≡ 8
   unfolding openRelease
-  eight =
-      rw (← (stands .release))
-      (length-load-run (sizeOf d) m c releaseDesk deskSize (area-of-live shape c live) (omega arith))
+  eight = rw (← (stands .release)) (length-load-run (sizeOf d) m c releaseDesk deskSize area (omega arith))
 
   on-pages : OnPages (d .pages) ps
   on-pages = rw (← (stands .prices)) (prices-on-pages (d .pages) _)
-
-  few : c < 8
-  few = omega (arith, shape .below c live, shape .few-cards)
 
   count : length (releaseWrites d backup c r ps) ≡ 4 * length ps + 10
   count = length-writes d backup c r ps eight
@@ -149,70 +154,70 @@ module _ {d : Directory} {m : List ℕ} (shape : Shape d m) (backup c : ℕ) (li
       rw (stands .release, stands .prices, stands .steps, count)
       (rw (le-ltb s (4 * length ps + 10) (omega arith)))
 
-  module _ (before : s < 4 * length ps + 10) where
-    pub write-in : StepOffset (d .pages) c (stepWrite d backup c r ps s .offset)
+  module _ (few : c < 8) (before : s < 4 * length ps + 10) where
+    abbrev w : Write
+    w = stepWrite d backup c r ps s
+
+    write-in : StepOffset (d .pages) c (w .offset)
     write-in = write-offset d backup c r ps eight few on-pages s before
 
     pub length-step : length (stepMemory d backup m c) ≡ length m
-    length-step = rw (step-writes before)
-        (length-store _ _ _ _ _ ∙ length-make-write (d .live) (sizeOf d) m (stepWrite d backup c r ps s))
+    length-step = rw (step-writes before) (length-store _ _ _ _ _ ∙ length-make-write (d .live) (sizeOf d) m w)
 
-    -- a word of a live card, but for the steps
-    pub load-step : (h o : ℕ) → isLive d h ≡ true → o < (sizeOf d) → (h ≡ c → o ≢ stepsMade)
-        → load (sizeOf d) (stepMemory d backup m c) h o ≡ written (stepWrite d backup c r ps s) h o
-        (load (sizeOf d) m h o)
-    load-step h o up inside other =
+    pub steps-step : stepsOf (sizeOf d) (stepMemory d backup m c) c ≡ suc s
+    unfolding stepsOf
+    steps-step =
         rw (step-writes before)
-        (load-store-elsewhere (sizeOf d) _ c stepsMade (s + 1) h o apart
-        ∙ load-make-write (d .live) (sizeOf d) m (stepWrite d backup c r ps s) h o up (area-of-live shape h up) inside
-        (write-in .inside))
+        (load-store-same (sizeOf d) _ c stepsMade (s + 1) (rw length-make-write area) (omega arith) ∙ add-one s)
+
+    -- beside the steps, the write alone tells
+    beside-steps : (h o : ℕ) → o < sizeOf d → (h ≡ c → o ≢ stepsMade)
+        → load (sizeOf d) (stepMemory d backup m c) h o ≡ load (sizeOf d) (makeWrite (d .live) (sizeOf d) m w) h o
+    beside-steps h o inside other =
+        rw (step-writes before) (load-store-elsewhere (sizeOf d) _ c stepsMade (s + 1) h o apart)
       where
         apart : indexOf (sizeOf d) h o ≢ indexOf (sizeOf d) c stepsMade
         apart e =
             other (index-same-card (sizeOf d) h o c stepsMade inside (omega arith) e)
             (index-same-offset (sizeOf d) h o c stepsMade inside (omega arith) e)
 
-    pub steps-step : stepsOf (sizeOf d) (stepMemory d backup m c) c ≡ suc s
-    unfolding stepsOf
-    steps-step =
-        rw (step-writes before)
-        (load-store-same (sizeOf d) _ c stepsMade (s + 1)
-        (rw length-make-write (area-of-live shape c live)) (omega arith)
-        ∙ add-one s)
+    -- a word of a live card, but for the steps
+    pub load-step : (h o : ℕ) → isLive d h ≡ true → AreaIn (length m) (sizeOf d) h → o < sizeOf d
+        → (h ≡ c → o ≢ stepsMade)
+        → load (sizeOf d) (stepMemory d backup m c) h o ≡ written w h o (load (sizeOf d) m h o)
+    load-step h o up area′ inside other =
+        beside-steps h o inside other
+        ∙ load-make-write (d .live) (sizeOf d) m w h o up area′ inside (write-in .inside)
+
+    -- one that is at another offset than the write
+    unwritten : (x o : ℕ) → o < sizeOf d → (x ≡ c → o ≢ stepsMade) → w .offset ≢ o
+        → load (sizeOf d) (stepMemory d backup m c) x o ≡ load (sizeOf d) m x o
+    unwritten x o inside other apart =
+        beside-steps x o inside other ∙ make-write-other (d .live) (sizeOf d) m w x o (write-in .inside) inside apart
 
     -- what a card's own words say stays, but for the steps of c
-    own-word : (x o : ℕ) → isLive d x ≡ true → (x ≡ c → o ≢ stepsMade) → (o < 20) ⊎ ((164 ≤ o) × (o < 676))
+    own-word : (x o : ℕ) → (x ≡ c → o ≢ stepsMade) → (o < 20) ⊎ ((164 ≤ o) × (o < 676))
         → load (sizeOf d) (stepMemory d backup m c) x o ≡ load (sizeOf d) m x o
-    own-word x o up other place =
-        load-step x o up (fits place) other
-        ∙ written-other-offset (stepWrite d backup c r ps s) x o (load (sizeOf d) m x o)
-        (apart place (write-in .place))
+    own-word x o other place = unwritten x o (fits place) other (apart place (write-in .place))
       where
         fits : (o < 20) ⊎ ((164 ≤ o) × (o < 676)) → o < sizeOf d
         fits (inl low) = omega arith
         fits (inr list) = omega arith
 
         apart : (o < 20) ⊎ ((164 ≤ o) × (o < 676))
-            → ((20 + 18 * c ≤ stepWrite d backup c r ps s .offset)
-            × (stepWrite d backup c r ps s .offset < 38 + 18 * c))
-            ⊎ (676 ≤ stepWrite d backup c r ps s .offset)
-            → stepWrite d backup c r ps s .offset ≢ o
+            → ((20 + 18 * c ≤ w .offset) × (w .offset < 38 + 18 * c)) ⊎ (676 ≤ w .offset) → w .offset ≢ o
         apart (inl low) (inl records) e = omega arith
         apart (inl low) (inr page) e = omega arith
         apart (inr list) (inl records) e = omega (arith, few)
         apart (inr list) (inr page) e = omega arith
 
     -- the record of another card
-    pub step-keeps-record : (x h o : ℕ) → x < 8 → x ≢ c → isLive d h ≡ true → 20 + 18 * x ≤ o → o < 38 + 18 * x
+    pub step-keeps-record : (x h o : ℕ) → x < 8 → x ≢ c → 20 + 18 * x ≤ o → o < 38 + 18 * x
         → load (sizeOf d) (stepMemory d backup m c) h o ≡ load (sizeOf d) m h o
-    step-keeps-record x h o small other up above under =
-        load-step h o up (omega arith) (λ _ e. omega arith)
-        ∙ written-other-offset (stepWrite d backup c r ps s) h o (load (sizeOf d) m h o) (apart (write-in .place))
+    step-keeps-record x h o small other above under =
+        unwritten h o (omega arith) (λ _ e. omega arith) (apart (write-in .place))
       where
-        apart : ((20 + 18 * c ≤ stepWrite d backup c r ps s .offset)
-            × (stepWrite d backup c r ps s .offset < 38 + 18 * c))
-            ⊎ (676 ≤ stepWrite d backup c r ps s .offset)
-            → stepWrite d backup c r ps s .offset ≢ o
+        apart : ((20 + 18 * c ≤ w .offset) × (w .offset < 38 + 18 * c)) ⊎ (676 ≤ w .offset) → w .offset ≢ o
         apart (inl records) e = omega arith
         apart (inr page) e = omega arith
 
@@ -220,16 +225,16 @@ module _ {d : Directory} {m : List ℕ} (shape : Shape d m) (backup c : ℕ) (li
     step-keeps =
         record {
           same-length = length-step;
-          low = λ o small other. own-word c o live (λ _. other) (inl small);
-          list = λ o above under. own-word c o live (λ _. omega arith) (inr (above, under));
+          low = λ o small other. own-word c o (λ _. other) (inl small);
+          list = λ o above under. own-word c o (λ _. omega arith) (inr (above, under));
         }
 
-    pub step-keeps-other : (x : ℕ) → isLive d x ≡ true → x ≢ c → SameOwn (sizeOf d) m (stepMemory d backup m c) x
-    step-keeps-other x up other =
+    pub step-keeps-other : (x : ℕ) → x ≢ c → SameOwn (sizeOf d) m (stepMemory d backup m c) x
+    step-keeps-other x other =
         record {
           same-length = length-step;
-          low = λ o small. own-word x o up (λ same. absurd (other same)) (inl small);
-          list = λ o above under. own-word x o up (λ same. absurd (other same)) (inr (above, under));
+          low = λ o small. own-word x o (λ same. absurd (other same)) (inl small);
+          list = λ o above under. own-word x o (λ same. absurd (other same)) (inr (above, under));
         }
 
 -- ---- the close

@@ -14,7 +14,7 @@ use Rattle.protocol.specs.Recovery.{stepTimes}
 use Rattle.protocol.proofs.Shape.{SameOwn, same-own-release, list-kept, steps-kept}
 use Rattle.release.specs.Stepping.{GoodRelease, Counted, StepsLeft, leftOf}
 use Rattle.release.proofs.Prices.{read-counts}
-use Rattle.release.proofs.Kept.{steps-more, step-keeps-own, length-step}
+use Rattle.release.proofs.Kept.{steps-more, step-keeps-own, step-length}
 
 -- ---- what stays of a card's own words
 
@@ -127,7 +127,7 @@ module _ {d : Directory} {backup c k : ℕ} {before : List ℕ} {total : ℕ} wh
   steps-run {m} {left} (suc n) few area far within =
       let here : AreaIn (length m) (sizeOf d) c = rw (far .same) area in
       let some = far .some (omega arith) in
-      let same = length-step d backup m c few here (omega (arith, some .counts, some .prices)) in
+      let same = step-length d backup m c few here (omega (arith, some .counts, some .prices)) in
       let one = steps-one few area far (omega arith) same refl in
       let rest : left - 1 - n ≡ left - suc n = omega arith in
       rw rest at (steps-run n few area one (omega arith))

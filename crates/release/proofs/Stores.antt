@@ -5,7 +5,7 @@ use mathlib.Core.List.{List}
 use mathlib.Core.Bool.{Bool}
 use native.Mathlib.Nat.{add-zero}
 use native.Mathlib.Omega.{arith}
-use borrow.Author.Tests.{lt-ltb, le-ltb, ltb-true, ltb-false}
+use borrow.Author.Tests.{ltb-true, ltb-false}
 use lib.ListN.{length, getD}
 use lib.Dec.{ltb, eqb}
 use Rattle.laws.proofs.Bools.{by-cond}
@@ -17,8 +17,9 @@ use Rattle.directory.specs.declared.Directory.{Directory}
 use Rattle.diff.specs.declared.Price.{Price}
 use Rattle.protocol.specs.Release.{sizeOf, Release, openRelease, openPrices, stepsOf, Write, writeOf, noWrite}
 use Rattle.protocol.specs.Release.{priceWrites, makeWrite, close, stepMemory}
-use Rattle.protocol.proofs.Writes.{noPrice, price-write-at, length-writes, write-tentative, write-desk}
+use Rattle.protocol.proofs.Writes.{noPrice, price-write-at, write-tentative, write-desk}
 use Rattle.protocol.proofs.Writes.{write-stamp, write-committed, write-done}
+use Rattle.protocol.proofs.Stepped.{StandsIn, step-writes, step-closes}
 use Rattle.release.specs.Stepping.{CardIn, HomesIn, homesOf, storeAfter, homeAt, recordWrite}
 use Rattle.release.proofs.Halves.{HalfFrom, tentative, committed}
 use Rattle.release.proofs.Prices.{PriceAt}
@@ -51,6 +52,11 @@ module _ (pages : ℕ) (live : List Bool) (primary secondary : List ℕ) where
       rw (at-home, is) (sym (price-write-at (homesOf pages live primary secondary) half ps number within))
 
 -- ---- the store of each step, and the step
+
+-- the release as it stands in its card's area
+pub stands-here : (d : Directory) (m : List ℕ) (card : ℕ) {steps : ℕ} → steps ≡ stepsOf (sizeOf d) m card
+    → StandsIn (d .pages) m card (openRelease (sizeOf d) m card) (openPrices (d .pages) m card) steps
+stands-here d m card made = record { release = refl; prices = refl; steps = sym made }
 
 module _ (d : Directory) (backup : ℕ) (m : List ℕ) (card steps : ℕ) (area : AreaIn (length m) (sizeOf d) card) where
   abbrev release : Release
@@ -91,25 +97,14 @@ module _ (d : Directory) (backup : ℕ) (m : List ℕ) (card steps : ℕ) (area 
       rw mark (sym (write-done d backup card release prices eight steps at))
 
   module _ (made : steps ≡ stepsOf (sizeOf d) m card) where
-    pub step-stores : steps < 4 * length prices + 10
-        → stepMemory d backup m card
-        ≡ store (sizeOf d) (makeWrite (d .live) (sizeOf d) m stored) card stepsMade (steps + 1)
-    unfolding stepMemory
-    step-stores below =
-        let long = length-writes d backup card release prices eight in
-        rw (← made, long, lt-ltb steps (4 * length prices + 10) below)
-
     -- the store that is due, counted
     pub step-counted : {w : Write} {next : List ℕ} → steps < 4 * length prices + 10 → w ≡ stored
         → next ≡ store (sizeOf d) (makeWrite (d .live) (sizeOf d) m w) card stepsMade (steps + 1)
         → next ≡ stepMemory d backup m card
-    step-counted below is e = (rw is at e) ∙ sym (step-stores below)
+    step-counted below is e = (rw is at e) ∙ sym (step-writes d backup m card area (stands-here d m card made) below)
 
-    pub step-closes : steps ≡ 4 * length prices + 10 → stepMemory d backup m card ≡ close (sizeOf d) m card
-    unfolding stepMemory
-    step-closes last =
-        let long = length-writes d backup card release prices eight in
-        rw (← made, long, le-ltb steps (4 * length prices + 10) (omega arith))
+    pub step-closed : steps ≡ 4 * length prices + 10 → stepMemory d backup m card ≡ close (sizeOf d) m card
+    step-closed = step-closes d backup m card area (stands-here d m card made)
 
 -- ---- a price that is due
 

@@ -1,9 +1,9 @@
--- Rests on `step-counted` and `step-closes`: a step is the close once 4k + 10 are made, else a store that is counted.
+-- Rests on `step-counted` and `step-closed`: a step is the close once 4k + 10 are made, else a store that is counted.
 use mathlib.Core.Path.{refl, sym, _∙_}
 use native.Mathlib.Omega.{arith}
 use borrow.Author.Needs.{needs}
 use Rattle.release.specs.Stepping.{homesOf}
-use Rattle.release.proofs.Stores.{step-counted, step-closes}
+use Rattle.release.proofs.Stores.{step-counted, step-closed}
 use Rattle.release.proofs.other_step.Statement.{statement}
 use Rattle.release.proofs.other_step.Tie as tie
 
@@ -29,7 +29,7 @@ returns c primary secondary =
     let counted = pre .1 .1 .0 .1 in
     let d = homesOf (a .pages) (a .live .now) primary secondary in
     (rw (sized .area-size .ensures) at (c .before .before .close-release .ensures))
-    ∙ sym (step-closes d (a .backup) (a .memory .now) (a .card) (a .steps) (pre .0 .area) (pre .1 .1 .1 .0)
+    ∙ sym (step-closed d (a .backup) (a .memory .now) (a .card) (a .steps) (pre .0 .area) (pre .1 .1 .1 .0)
     (omega (arith, counted .prices)))
 
 step-word-requires : tie.Need-step-word-requires
