@@ -1,6 +1,6 @@
 -- Recovery: each part looks at that of the directory which it is lent.
 use Prim.Native.Nat.{ℕ}
-use mathlib.Core.Path.{_≡_, refl, ap}
+use mathlib.Core.Path.{_≡_, refl, sym, ap, _∙_}
 use mathlib.Core.List.{List}
 use mathlib.Core.Bool.{Bool, true}
 use lib.ListN.{set}
@@ -11,8 +11,8 @@ use Rattle.protocol.specs.Release.{Release, sizeOf}
 use Rattle.protocol.specs.Record.{writeOwnRecord}
 use Rattle.protocol.specs.Recovery.{restoreHome, restorePage, restorePages, lostHome, keptHome, newHome}
 use Rattle.protocol.specs.Recovery.{copyToNewHome, copyToNewHomes, writeFailed, writeRecords}
-use Rattle.protocol.specs.Recovery.{closeReleases, failedRelease, restoredMemory, recoveredMemory}
-use Rattle.release.proofs.Callers.{homes}
+use Rattle.protocol.specs.Recovery.{runToClose, closeReleases, failedRelease, restoredMemory, recoveredMemory}
+use Rattle.release.proofs.Callers.{homes, times-by-homes}
 use Rattle.recovery.specs.Rack.{marksOf, rackOf, backedBy}
 use Rattle.recovery.specs.Closing.{recoveredClosed}
 use Rattle.recovery.proofs.Turns.{in-turn-same}
@@ -54,7 +54,36 @@ module _ (d : Directory) where
     unfolding writeRecords
     records-by-marks r m = ap (inTurn _ (d .cards)) (in-turn-same _ _ (same-failed r) (d .cards) m)
 
+    same-run : (c : ℕ) (m : List ℕ) → runToClose rack f c m ≡ runToClose d f c m
+    unfolding runToClose
+    same-run c m = rw (← times-by-homes rack, times-by-homes d)
+
+    same-closed : (m : List ℕ) → closeReleases rack f m ≡ closeReleases d f m
+    unfolding closeReleases
+    same-closed m = in-turn-same _ _ same-run (d .cards) m
+
     -- what is done once the releases are closed is the rest of the recovery
     pub recovered-by-parts : (m : List ℕ) → recoveredClosed d f (closeReleases d f m) ≡ recoveredMemory d f m
     unfolding recoveredClosed recoveredMemory restoredMemory failedRelease
     recovered-by-parts m = refl
+
+module _ (d : Directory) (f : ℕ) where
+  pub same-records : (r : Release) (m : List ℕ)
+      → writeRecords (marksOf (d .cards) (d .pages) (d .live)) f r m ≡ writeRecords d f r m
+  same-records r m = sym (records-by-marks (marksOf (d .cards) (d .pages) (d .live)) f r m) ∙ records-by-marks d f r m
+
+  -- ---- the whole looks at all of the directory but the status
+
+  pub failed-by-rack : (m : List ℕ) → failedRelease (rack d) f m ≡ failedRelease d f m
+  unfolding failedRelease
+  failed-by-rack m = rw (same-closed d f m)
+
+  same-restored : (m : List ℕ) → restoredMemory (rack d) f m ≡ restoredMemory d f m
+  unfolding restoredMemory
+  same-restored m = rw (same-closed d f m) (sym (same-pages (rack d) _ _) ∙ same-pages d _ _)
+
+pub memory-by-rack : (d : Directory) (f : ℕ) (m : List ℕ) → recoveredMemory (rack d) f m ≡ recoveredMemory d f m
+unfolding recoveredMemory
+memory-by-rack d f m =
+    rw (failed-by-rack d f m, same-restored d f m, same-copies d f)
+    (sym (same-records (rack d) f _ _) ∙ same-records d f _ _)

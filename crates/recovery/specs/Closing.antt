@@ -2,7 +2,8 @@
 use Prim.Native.Nat.{ℕ, _<_}
 use mathlib.Core.Path.{_≡_}
 use mathlib.Core.List.{List}
-use mathlib.Core.Bool.{true}
+use mathlib.Core.Bool.{Bool, true}
+use Rattle.memory.specs.Layout.{areaSize}
 use Rattle.directory.specs.declared.Directory.{Directory}
 use Rattle.directory.specs.Directory.{nextLiveOf}
 use Rattle.protocol.specs.Release.{Release, sizeOf, isOpen}
@@ -11,15 +12,19 @@ use Rattle.protocol.specs.Recovery.{restorePages, copyToNewHomes, writeRecords}
 use Rattle.release.specs.Stepping.{GoodRelease}
 
 -- all open releases are good
-pub record ReleasesIn (d : Directory) (m : List ℕ) : Type 0 where
-  pub good : (c : ℕ) → c < d .cards → isOpen (d .live) (sizeOf d) m c ≡ true → GoodRelease (d .pages) m c
+pub record ReleasesIn (live : List Bool) (cards pages : ℕ) (m : List ℕ) : Type 0 where
+  pub good : (c : ℕ) → c < cards → isOpen live (areaSize pages) m c ≡ true → GoodRelease pages m c
 
 -- what a card's record tells, at the next live after it
 abbrev pub recordOf : Directory → ℕ → List ℕ → Release
 recordOf d f m = recordedRelease (sizeOf d) m (nextLiveOf d f) f
 
+-- the pages restored, and copied to their new homes
+abbrev pub restoredCopies : Directory → ℕ → Bool → List ℕ → List ℕ
+restoredCopies d f forward m = copyToNewHomes d f (restorePages d forward m)
+
 -- the memory after recovery, from one whose releases are closed
 unfoldable pub recoveredClosed : Directory → ℕ → List ℕ → List ℕ
 recoveredClosed d f closed =
     writeRecords d f (recordOf d f closed)
-    (copyToNewHomes d f (restorePages d (underWay (sizeOf d) closed (nextLiveOf d f) f) closed))
+    (restoredCopies d f (underWay (sizeOf d) closed (nextLiveOf d f) f) closed)

@@ -3,13 +3,13 @@ ghost use mathlib.Core.Path.{_≡_};
 ghost use mathlib.Core.Bool.{true};
 ghost use Prim.Native.Nat.{_<_};
 ghost use lib.ListN.{length};
-ghost use Rattle.protocol.specs.Release.{sizeOf, isOpen};
+ghost use Rattle.protocol.specs.Release.{isOpen};
 ghost use Rattle.memory.specs.Layout.{areaSize};
 ghost use Rattle.protocol.specs.Recovery.{backupBefore, stepTimes, runToClose, closeReleases};
 ghost use Rattle.release.specs.Stepping.{CardIn, HomesIn, GoodRelease, homesOf, leftOf};
 ghost use Rattle.recovery.specs.Closing.{ReleasesIn};
-ghost use Rattle.recovery.specs.Rack.{RackIn};
-use directory::Directory;
+ghost use Rattle.recovery.specs.Rack.{RackIn, marksOf, rackOf};
+use crate::records;
 
 // Makes all the steps that the release open on a card has left.
 fn run_release(
@@ -43,49 +43,60 @@ fn run_release(
 }
 
 // The backup of a card from before the failure.
-fn backup_before(directory: Directory, failed: u32, card: u32) -> u32
-    ensures { λ r. ⌜ r ≡ backupBefore directory failed card ⌝ }
+fn backup_before(live: [bool; 8], cards: u32, failed: u32, card: u32) -> u32
+    requires { ⌜ failed < 8 ⌝ }
+    ensures { λ r. ⌜ r ≡ backupBefore (marksOf cards 0 live) failed card ⌝ }
 {
-    let before = directory.mark_live(failed);
-    before.next_live(card)
+    let before = records::marked(live, failed);
+    directory::next_live_after(&before, cards, card)
 }
 
 // Runs the release that is open on a card, if one is, to its close.
-fn run_to_close(memory: &mut [u32], directory: Directory, failed: u32, card: u32)
-    requires { ⌜ RackIn (directory .live) (directory .cards) (directory .pages)
-        (length (now memory)) ⌝ }
-    requires { ⌜ HomesIn (directory .live) (directory .pages) (directory .primary)
-        (directory .secondary) (length (now memory)) ⌝ }
-    requires { ⌜ (failed < 8) × (card < directory .cards) ⌝ }
-    requires { ⌜ (isOpen (directory .live) (sizeOf directory) (now memory) card ≡ true
-        → GoodRelease (directory .pages) (now memory) card) ⌝ }
+fn run_to_close(
+    memory: &mut [u32],
+    cards: u32,
+    pages: u32,
+    live: [bool; 8],
+    primary: &[u32],
+    secondary: &[u32],
+    failed: u32,
+    card: u32,
+)
+    requires { ⌜ RackIn live cards pages (length (now memory)) ⌝ }
+    requires { ⌜ HomesIn live pages (now primary) (now secondary) (length (now memory)) ⌝ }
+    requires { ⌜ (failed < 8) × (card < cards) ⌝ }
+    requires { ⌜ (isOpen live (areaSize pages) (now memory) card ≡ true
+        → GoodRelease pages (now memory) card) ⌝ }
     ensures { λ _. ⌜ now (memory .exit)
-        ≡ runToClose directory failed card (now (memory .entry)) ⌝ }
+        ≡ runToClose (rackOf cards pages live (now (primary .entry)) (now (secondary .entry)))
+        failed card (now (memory .entry)) ⌝ }
 {
-    let pages = directory.pages;
-    let live = directory.live;
     let at = card as usize;
     if conflict::is_open(memory, memory::area_size(pages), &live, at) {
-        let primary = directory.primary;
-        let secondary = directory.secondary;
-        let backup = backup_before(directory, failed, card) as usize;
-        run_release(memory, pages, &live, &primary, &secondary, backup, at);
+        let backup = backup_before(live, cards, failed, card) as usize;
+        run_release(memory, pages, &live, primary, secondary, backup, at);
     }
 }
 
 // Runs every open release to its close.
-pub(crate) fn close_releases(memory: &mut [u32], directory: Directory, failed: u32)
-    requires { ⌜ RackIn (directory .live) (directory .cards) (directory .pages)
-        (length (now memory)) ⌝ }
-    requires { ⌜ HomesIn (directory .live) (directory .pages) (directory .primary)
-        (directory .secondary) (length (now memory)) ⌝ }
+pub(crate) fn close_releases(
+    memory: &mut [u32],
+    cards: u32,
+    pages: u32,
+    live: [bool; 8],
+    primary: &[u32],
+    secondary: &[u32],
+    failed: u32,
+)
+    requires { ⌜ RackIn live cards pages (length (now memory)) ⌝ }
+    requires { ⌜ HomesIn live pages (now primary) (now secondary) (length (now memory)) ⌝ }
     requires { ⌜ failed < 8 ⌝ }
-    requires { ⌜ ReleasesIn directory (now memory) ⌝ }
+    requires { ⌜ ReleasesIn live cards pages (now memory) ⌝ }
     ensures { λ _. ⌜ now (memory .exit)
-        ≡ closeReleases directory failed (now (memory .entry)) ⌝ }
+        ≡ closeReleases (rackOf cards pages live (now (primary .entry)) (now (secondary .entry)))
+        failed (now (memory .entry)) ⌝ }
 {
-    let cards = directory.cards;
     for card in 0..cards {
-        run_to_close(memory, directory, failed, card);
+        run_to_close(memory, cards, pages, live, primary, secondary, failed, card);
     }
 }

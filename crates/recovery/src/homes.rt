@@ -1,11 +1,11 @@
 // Pages that lost a home: the home that each keeps, and its copies and homes from then on.
 ghost use mathlib.Core.Path.{_≡_};
-ghost use Prim.Native.Nat.{_<_, _≤_};
+ghost use Prim.Native.Nat.{_<_};
 ghost use lib.ListN.{length};
-ghost use Rattle.laws.specs.Search.{inTurn};
+ghost use Rattle.memory.specs.Layout.{areaSize};
 ghost use Rattle.protocol.specs.Recovery.{lostHome, keptHome, copyToNewHome, copyToNewHomes};
-ghost use Rattle.protocol.specs.Recovery.{moveHome};
-ghost use Rattle.release.specs.Stepping.{HomesIn};
+ghost use Rattle.protocol.specs.Recovery.{moveHome, recoveredDirectory};
+ghost use Rattle.release.specs.Stepping.{CardIn, HomesIn};
 ghost use Rattle.recovery.specs.Rack.{RackIn, SomeLive, pagesOf, rackOf};
 
 // Whether a home of the page failed.
@@ -32,25 +32,33 @@ fn kept_home(primary: &[u32], secondary: &[u32], failed: u32, page: usize) -> u3
     primary[page]
 }
 
-// Copies both copies of a page that lost a home to its new one.
-fn copy_to_new_home(
+// A page that lost a home gets both copies at its new one, and its homes from then on.
+fn move_home(
     memory: &mut [u32],
     cards: u32,
     pages: u32,
     live: &[bool],
-    primary: &[u32],
-    secondary: &[u32],
+    primary: &mut [u32],
+    secondary: &mut [u32],
     failed: u32,
     page: usize,
 )
     requires { ⌜ RackIn (now live) cards pages (length (now memory)) ⌝ }
-    requires { ⌜ HomesIn (now live) pages (now primary) (now secondary) (length (now memory)) ⌝ }
     requires { ⌜ SomeLive (now live) cards ⌝ }
-    requires { ⌜ page < pages ⌝ }
-    ensures { λ _. ⌜ now (memory .exit)
+    requires { ⌜ (page < length (now primary)) × (page < length (now secondary)) × (page < pages) ⌝ }
+    requires { ⌜ CardIn (now live) (length (now memory)) (areaSize pages)
+        (keptHome (pagesOf (now primary) (now secondary)) failed page) ⌝ }
+    ensures memory { λ _. ⌜ now (memory .exit)
         ≡ copyToNewHome
         (rackOf cards pages (now (live .entry)) (now (primary .entry)) (now (secondary .entry)))
         failed page (now (memory .entry)) ⌝ }
+    ensures homes { λ _. ⌜ rackOf cards pages (now (live .entry)) (now (primary .exit))
+        (now (secondary .exit))
+        ≡ moveHome
+        (rackOf cards pages (now (live .entry)) (now (primary .entry)) (now (secondary .entry)))
+        failed page
+        (rackOf cards pages (now (live .entry)) (now (primary .entry))
+        (now (secondary .entry))) ⌝ }
 {
     if lost_home(primary, secondary, failed, page) {
         let kept = kept_home(primary, secondary, failed, page);
@@ -58,29 +66,37 @@ fn copy_to_new_home(
         let start = memory::PAGES_START + 64 * page;
         let size = memory::area_size(pages);
         memory::copy_page(memory, size, kept as usize, next as usize, start);
+        primary[page] = kept;
+        secondary[page] = next;
     }
 }
 
-// The same for every page.
-pub(crate) fn copy_to_new_homes(
+// The same for every page. Homes are looked up where the new ones are stored: a page's own stand
+// there until its turn.
+pub(crate) fn move_homes(
     memory: &mut [u32],
     cards: u32,
     pages: u32,
     live: &[bool],
-    primary: &[u32],
-    secondary: &[u32],
+    primary: &mut [u32],
+    secondary: &mut [u32],
     failed: u32,
 )
     requires { ⌜ RackIn (now live) cards pages (length (now memory)) ⌝ }
     requires { ⌜ HomesIn (now live) pages (now primary) (now secondary) (length (now memory)) ⌝ }
     requires { ⌜ SomeLive (now live) cards ⌝ }
-    ensures { λ _. ⌜ now (memory .exit)
+    ensures memory { λ _. ⌜ now (memory .exit)
         ≡ copyToNewHomes
         (rackOf cards pages (now (live .entry)) (now (primary .entry)) (now (secondary .entry)))
         failed (now (memory .entry)) ⌝ }
+    ensures homes { λ _. ⌜ rackOf cards pages (now (live .entry)) (now (primary .exit))
+        (now (secondary .exit))
+        ≡ recoveredDirectory
+        (rackOf cards pages (now (live .entry)) (now (primary .entry)) (now (secondary .entry)))
+        failed ⌝ }
 {
     for page in 0..pages {
-        copy_to_new_home(
+        move_home(
             memory,
             cards,
             pages,
@@ -90,38 +106,5 @@ pub(crate) fn copy_to_new_homes(
             failed,
             page as usize,
         );
-    }
-}
-
-// Every page that lost a home gets its new homes, which are stored to `primaries` and `secondaries`.
-pub(crate) fn move_homes(
-    cards: u32,
-    pages: u32,
-    live: &[bool],
-    primary: &[u32],
-    secondary: &[u32],
-    failed: u32,
-    primaries: &mut [u32],
-    secondaries: &mut [u32],
-)
-    requires { ⌜ (pages ≤ length (now primary)) × (pages ≤ length (now secondary)) ⌝ }
-    requires { ⌜ (pages ≤ length (now primaries)) × (pages ≤ length (now secondaries)) ⌝ }
-    ensures { λ _. ⌜ rackOf cards pages (now (live .entry)) (now (primaries .exit))
-        (now (secondaries .exit))
-        ≡ inTurn
-        (moveHome
-        (rackOf cards pages (now (live .entry)) (now (primary .entry)) (now (secondary .entry)))
-        failed)
-        pages
-        (rackOf cards pages (now (live .entry)) (now (primaries .entry))
-        (now (secondaries .entry))) ⌝ }
-{
-    for page in 0..pages {
-        let at = page as usize;
-        if lost_home(primary, secondary, failed, at) {
-            let kept = kept_home(primary, secondary, failed, at);
-            primaries[at] = kept;
-            secondaries[at] = directory::next_live_after(live, cards, kept);
-        }
     }
 }

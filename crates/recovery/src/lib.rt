@@ -1,14 +1,13 @@
 // Recovery of a failed card, and a dead card that joins again: what they write in the memory of a
 // rack that passed its checks; which calls are refused is decided above.
 ghost use mathlib.Core.Path.{_≡_};
-ghost use Prim.Native.Nat.{_<_, _≤_};
+ghost use Prim.Native.Nat.{_<_};
 ghost use lib.ListN.{length};
-ghost use Rattle.protocol.specs.Recovery.{restorePages, copyToNewHomes, recoveredDirectory};
-ghost use Rattle.protocol.specs.Recovery.{failedRelease, recoveredMemory};
+ghost use Rattle.protocol.specs.Recovery.{failedRelease, recoveredMemory, recoveredDirectory};
 ghost use Rattle.protocol.specs.Join.{joinedMemory};
 ghost use Rattle.release.specs.Stepping.{HomesIn};
-ghost use Rattle.recovery.specs.Closing.{ReleasesIn, recordOf, recoveredClosed};
-ghost use Rattle.recovery.specs.Rack.{RackIn, SomeLive};
+ghost use Rattle.recovery.specs.Closing.{ReleasesIn, recordOf, recoveredClosed, restoredCopies};
+ghost use Rattle.recovery.specs.Rack.{RackIn, SomeLive, marksOf, rackOf};
 
 mod closing;
 mod homes;
@@ -16,128 +15,128 @@ mod joining;
 mod records;
 mod restoring;
 
-use directory::Directory;
-use directory::Status;
 pub use records::load_record;
 pub use records::write_record;
 
-// Rolls all pages forward or back, and gives those that lost a home their copies at the new one.
-fn restore_copies(memory: &mut [u32], directory: Directory, failed: u32, forward: bool)
-    requires { ⌜ RackIn (directory .live) (directory .cards) (directory .pages)
-        (length (now memory)) ⌝ }
-    requires { ⌜ HomesIn (directory .live) (directory .pages) (directory .primary)
-        (directory .secondary) (length (now memory)) ⌝ }
-    requires { ⌜ SomeLive (directory .live) (directory .cards) ⌝ }
-    ensures { λ _. ⌜ now (memory .exit)
-        ≡ copyToNewHomes directory failed
-        (restorePages directory forward (now (memory .entry))) ⌝ }
+// Rolls all pages forward or back, and gives those that lost a home their copies at the new one, and
+// their homes from then on.
+fn restore_copies(
+    memory: &mut [u32],
+    cards: u32,
+    pages: u32,
+    live: &[bool],
+    primary: &mut [u32],
+    secondary: &mut [u32],
+    failed: u32,
+    forward: bool,
+)
+    requires { ⌜ RackIn (now live) cards pages (length (now memory)) ⌝ }
+    requires { ⌜ HomesIn (now live) pages (now primary) (now secondary) (length (now memory)) ⌝ }
+    requires { ⌜ SomeLive (now live) cards ⌝ }
+    ensures memory { λ _. ⌜ now (memory .exit)
+        ≡ restoredCopies
+        (rackOf cards pages (now (live .entry)) (now (primary .entry)) (now (secondary .entry)))
+        failed forward (now (memory .entry)) ⌝ }
+    ensures homes { λ _. ⌜ rackOf cards pages (now (live .entry)) (now (primary .exit))
+        (now (secondary .exit))
+        ≡ recoveredDirectory
+        (rackOf cards pages (now (live .entry)) (now (primary .entry)) (now (secondary .entry)))
+        failed ⌝ }
 {
-    let cards = directory.cards;
-    let pages = directory.pages;
-    let live = directory.live;
-    let primary = directory.primary;
-    let secondary = directory.secondary;
-    restoring::restore_pages(memory, pages, &live, &primary, &secondary, forward);
-    homes::copy_to_new_homes(memory, cards, pages, &live, &primary, &secondary, failed);
+    restoring::restore_pages(memory, pages, live, primary, secondary, forward);
+    homes::move_homes(memory, cards, pages, live, primary, secondary, failed);
 }
 
 // Recovers a rack whose releases are closed: reads the failed card's record, restores the copies
 // and writes the records. Gives the release that the record tells.
-fn recover_closed(memory: &mut [u32], directory: Directory, failed: u32, desk: &mut [u32]) -> u32
-    requires { ⌜ RackIn (directory .live) (directory .cards) (directory .pages)
-        (length (now memory)) ⌝ }
-    requires { ⌜ HomesIn (directory .live) (directory .pages) (directory .primary)
-        (directory .secondary) (length (now memory)) ⌝ }
-    requires { ⌜ SomeLive (directory .live) (directory .cards) ⌝ }
+fn recover_closed(
+    memory: &mut [u32],
+    cards: u32,
+    pages: u32,
+    live: [bool; 8],
+    primary: &mut [u32],
+    secondary: &mut [u32],
+    failed: u32,
+    desk: &mut [u32],
+) -> u32
+    requires { ⌜ RackIn live cards pages (length (now memory)) ⌝ }
+    requires { ⌜ HomesIn live pages (now primary) (now secondary) (length (now memory)) ⌝ }
+    requires { ⌜ SomeLive live cards ⌝ }
     requires { ⌜ (failed < 8) × (length (now desk) ≡ 8) ⌝ }
-    ensures number { λ r. ⌜ r ≡ recordOf directory failed (now (memory .entry)) .number ⌝ }
+    ensures number { λ r. ⌜ r
+        ≡ recordOf (marksOf cards pages live) failed (now (memory .entry)) .number ⌝ }
     ensures desk { λ _. ⌜ now (desk .exit)
-        ≡ recordOf directory failed (now (memory .entry)) .desk ⌝ }
+        ≡ recordOf (marksOf cards pages live) failed (now (memory .entry)) .desk ⌝ }
     ensures memory { λ _. ⌜ now (memory .exit)
-        ≡ recoveredClosed directory failed (now (memory .entry)) ⌝ }
+        ≡ recoveredClosed (rackOf cards pages live (now (primary .entry)) (now (secondary .entry)))
+        failed (now (memory .entry)) ⌝ }
+    ensures homes { λ _. ⌜ rackOf cards pages live (now (primary .exit)) (now (secondary .exit))
+        ≡ recoveredDirectory
+        (rackOf cards pages live (now (primary .entry)) (now (secondary .entry))) failed ⌝ }
 {
-    let size = memory::area_size(directory.pages);
+    let size = memory::area_size(pages);
     let at = failed as usize;
-    let holder = directory.next_live(failed) as usize;
+    let holder = directory::next_live_after(&live, cards, failed) as usize;
     let number = records::load_record(memory, size, holder, at, desk);
     let forward = records::under_way(memory, size, holder, at);
-    restore_copies(memory, directory, failed, forward);
-    records::write_records(memory, directory, failed, number, desk);
+    restore_copies(
+        memory,
+        cards,
+        pages,
+        &live,
+        primary,
+        secondary,
+        failed,
+        forward,
+    );
+    records::write_records(memory, cards, pages, live, failed, number, desk);
     number
 }
 
 // Recovers a failed card: closes the open releases, restores the copies and writes the records.
-// Gives the failed card's stamp, and its desk.
+// Gives the failed card's stamp, and its desk, and stores the new homes where the old ones stood.
 pub fn recover_memory(
     memory: &mut [u32],
-    directory: Directory,
+    cards: u32,
+    pages: u32,
+    live: [bool; 8],
+    primary: &mut [u32],
+    secondary: &mut [u32],
     failed: u32,
     desk: &mut [u32],
 ) -> u32
-    requires { ⌜ RackIn (directory .live) (directory .cards) (directory .pages)
-        (length (now memory)) ⌝ }
-    requires { ⌜ HomesIn (directory .live) (directory .pages) (directory .primary)
-        (directory .secondary) (length (now memory)) ⌝ }
-    requires { ⌜ SomeLive (directory .live) (directory .cards) ⌝ }
+    requires { ⌜ RackIn live cards pages (length (now memory)) ⌝ }
+    requires { ⌜ HomesIn live pages (now primary) (now secondary) (length (now memory)) ⌝ }
+    requires { ⌜ SomeLive live cards ⌝ }
     requires { ⌜ (failed < 8) × (length (now desk) ≡ 8) ⌝ }
-    requires { ⌜ ReleasesIn directory (now memory) ⌝ }
-    ensures number { λ r. ⌜ r ≡ failedRelease directory failed (now (memory .entry)) .number ⌝ }
+    requires { ⌜ ReleasesIn live cards pages (now memory) ⌝ }
+    ensures number { λ r. ⌜ r
+        ≡ failedRelease (rackOf cards pages live (now (primary .entry)) (now (secondary .entry)))
+        failed (now (memory .entry)) .number ⌝ }
     ensures desk { λ _. ⌜ now (desk .exit)
-        ≡ failedRelease directory failed (now (memory .entry)) .desk ⌝ }
+        ≡ failedRelease (rackOf cards pages live (now (primary .entry)) (now (secondary .entry)))
+        failed (now (memory .entry)) .desk ⌝ }
     ensures memory { λ _. ⌜ now (memory .exit)
-        ≡ recoveredMemory directory failed (now (memory .entry)) ⌝ }
+        ≡ recoveredMemory (rackOf cards pages live (now (primary .entry)) (now (secondary .entry)))
+        failed (now (memory .entry)) ⌝ }
+    ensures homes { λ _. ⌜ rackOf cards pages live (now (primary .exit)) (now (secondary .exit))
+        ≡ recoveredDirectory
+        (rackOf cards pages live (now (primary .entry)) (now (secondary .entry))) failed ⌝ }
 {
-    closing::close_releases(memory, directory, failed);
-    recover_closed(memory, directory, failed, desk)
-}
-
-// Every page that lost a home gets its new homes, and the rack is running.
-pub fn recovered_directory(directory: Directory, failed: u32) -> Directory
-    requires { ⌜ directory .pages ≤ 64 ⌝ }
-    ensures { λ r. ⌜ r ≡ recoveredDirectory directory failed ⌝ }
-{
-    let cards = directory.cards;
-    let pages = directory.pages;
-    let live = directory.live;
-    let primary = directory.primary;
-    let secondary = directory.secondary;
-    let mut primaries = directory.primary;
-    let mut secondaries = directory.secondary;
-    homes::move_homes(
-        cards,
-        pages,
-        &live,
-        &primary,
-        &secondary,
-        failed,
-        &mut primaries,
-        &mut secondaries,
-    );
-    Directory {
-        cards,
-        pages,
-        live,
-        primary: primaries,
-        secondary: secondaries,
-        status: Status::Running,
-    }
+    closing::close_releases(memory, cards, pages, live, primary, secondary, failed);
+    recover_closed(memory, cards, pages, live, primary, secondary, failed, desk)
 }
 
 // Makes a dead card's area what it must be once the card is live: its own stamp and desk, and the
 // records that it then holds.
-pub fn join_memory(memory: &mut [u32], directory: Directory, joining: u32)
-    requires { ⌜ RackIn (directory .live) (directory .cards) (directory .pages)
-        (length (now memory)) ⌝ }
-    requires { ⌜ SomeLive (directory .live) (directory .cards) ⌝ }
-    requires { ⌜ joining < directory .cards ⌝ }
+pub fn join_memory(memory: &mut [u32], cards: u32, pages: u32, live: [bool; 8], joining: u32)
+    requires { ⌜ RackIn live cards pages (length (now memory)) ⌝ }
+    requires { ⌜ SomeLive live cards ⌝ }
+    requires { ⌜ joining < cards ⌝ }
     ensures { λ _. ⌜ now (memory .exit)
-        ≡ joinedMemory directory joining (now (memory .entry)) ⌝ }
+        ≡ joinedMemory (marksOf cards pages live) joining (now (memory .entry)) ⌝ }
 {
-    let cards = directory.cards;
-    let pages = directory.pages;
-    let live = directory.live;
-    let joined = directory.mark_live(joining);
-    let marks = joined.live;
+    let marks = records::marked(live, joining);
     joining::reset_area(memory, cards, pages, &live, joining);
     joining::copy_dead_records(memory, cards, pages, &live, joining);
     records::write_own_records(memory, cards, pages, &live, &marks, &marks, joining);

@@ -1,8 +1,9 @@
 // Records on backups: read, and written from a release that a record tells, or from a card's own
 // stamp and desk.
 ghost use mathlib.Core.Path.{_≡_};
+ghost use mathlib.Core.Bool.{true};
 ghost use Prim.Native.Nat.{_<_, _≤_};
-ghost use lib.ListN.{length};
+ghost use lib.ListN.{length, set};
 ghost use Rattle.memory.specs.Area.{AreaIn};
 ghost use Rattle.protocol.specs.Release.{releaseOf, ownRelease};
 ghost use Rattle.laws.specs.Search.{inTurn};
@@ -12,7 +13,17 @@ ghost use Rattle.protocol.specs.Record.{recordedRelease, underWay, settledRecor
 ghost use Rattle.protocol.specs.Record.{writeOwnRecord};
 ghost use Rattle.protocol.specs.Recovery.{writeRecords};
 ghost use Rattle.recovery.specs.Rack.{RackIn, Covers, marksOf, backedBy, storeFailed};
-use directory::Directory;
+
+// Marks with one card more, as before its failure or after its join. Eight marks are one word, and
+// go by value.
+pub(crate) fn marked(live: [bool; 8], card: u32) -> [bool; 8]
+    requires { ⌜ card < 8 ⌝ }
+    ensures { λ r. ⌜ r ≡ set live card true ⌝ }
+{
+    let mut marks = live;
+    marks[card as usize] = true;
+    marks
+}
 
 // Reads the release that the record of a card on its holder tells: its number, and its desk by the
 // number's evenness.
@@ -193,23 +204,20 @@ pub(crate) fn write_own_records(
 // backup it was on their new backups.
 pub(crate) fn write_records(
     memory: &mut [u32],
-    directory: Directory,
+    cards: u32,
+    pages: u32,
+    live: [bool; 8],
     failed: u32,
     number: u32,
     desk: &[u32],
 )
-    requires { ⌜ RackIn (directory .live) (directory .cards) (directory .pages)
-        (length (now memory)) ⌝ }
+    requires { ⌜ RackIn live cards pages (length (now memory)) ⌝ }
     requires { ⌜ (failed < 8) × (length (now desk) ≡ 8) ⌝ }
     ensures { λ _. ⌜ now (memory .exit)
-        ≡ writeRecords directory failed (releaseOf number (now (desk .entry)))
+        ≡ writeRecords (marksOf cards pages live) failed (releaseOf number (now (desk .entry)))
         (now (memory .entry)) ⌝ }
 {
-    let cards = directory.cards;
-    let pages = directory.pages;
-    let live = directory.live;
-    let marked = directory.mark_live(failed);
-    let before = marked.live;
+    let before = marked(live, failed);
     let words = settled_record(number, desk);
     write_failed_records(memory, cards, pages, &live, failed as usize, &words);
     write_own_records(memory, cards, pages, &live, &before, &live, failed);

@@ -1,25 +1,20 @@
--- The homes of one page moved, as of one of the pages that are taken in turn. The directory's status stays out of it.
-use Prim.Native.Nat.{ℕ, zero, suc, _+_}
-use mathlib.Core.Path.{_≡_, refl, ap, _∙_}
+-- Homes moved page by page, in the arrays where they stand: a page's own are there until its turn.
+use Prim.Native.Nat.{ℕ, zero, suc, _+_, _<_, _≤_}
+use mathlib.Core.Path.{_≡_, refl, sym, ap, _∙_}
+use mathlib.Core.List.{List}
 use mathlib.Core.Bool.{Bool, true, false, cond}
+use native.Mathlib.Omega.{arith}
+use lib.ListN.{length, getD}
+use lib.Seq.{getD-set-other}
 use Rattle.laws.specs.Search.{inTurn}
-use Rattle.laws.proofs.Search.{in-turn-more}
+use Rattle.laws.proofs.Bools.{by-cond}
+use Rattle.laws.proofs.Search.{in-turn-none, in-turn-more}
 use Rattle.directory.specs.declared.Directory.{Directory}
 use Rattle.directory.specs.declared.Status.the-variants.{Running}
-use Rattle.directory.specs.Directory.{withHomes, withStatus}
-use Rattle.protocol.specs.Recovery.{lostHome, keptHome, newHome, moveHome}
-use Rattle.recovery.specs.Rack.{rackOf}
-
-module _ (d : Directory) (f : ℕ) (start : Directory) (i : ℕ) {moved : Directory}
-    (made : moved ≡ inTurn (moveHome d f) i start) where
-  pub move-lost : lostHome d f i ≡ true
-      → withHomes moved i (keptHome d f i) (newHome d f i) ≡ inTurn (moveHome d f) (i + 1) start
-  unfolding moveHome
-  move-lost lost = rw (in-turn-more, lost, made)
-
-  pub move-none : lostHome d f i ≡ false → moved ≡ inTurn (moveHome d f) (i + 1) start
-  unfolding moveHome
-  move-none none = rw (in-turn-more, none, made)
+use Rattle.directory.specs.Directory.{primaryOf, secondaryOf, withStatus}
+use Rattle.protocol.specs.Recovery.{lostHome, keptHome, newHome, copyToNewHome, moveHome, recoveredDirectory}
+use Rattle.recovery.specs.Rack.{pagesOf, rackOf}
+use Rattle.recovery.proofs.Turns.{Turned, turn-none, turn-more}
 
 -- ---- the status stays out of it
 
@@ -38,7 +33,86 @@ module _ (d : Directory) (f : ℕ) where
   unfolding moveHome lostHome keptHome newHome
   same-move i moved = choose (lostHome d f i) _ _
 
-  pub same-moves : (n : ℕ) → inTurn (moveHome rack f) n rack ≡ withStatus (inTurn (moveHome d f) n d) Running
+  same-moves : (n : ℕ) → inTurn (moveHome rack f) n rack ≡ withStatus (inTurn (moveHome d f) n d) Running
   unfolding inTurn
   same-moves zero = refl
   same-moves (suc n) = ap (moveHome rack f n) (same-moves n) ∙ same-move n _
+
+  pub all-moved : inTurn (moveHome rack f) (d .pages) rack ≡ recoveredDirectory d f
+  unfolding recoveredDirectory
+  all-moved = same-moves (d .pages)
+
+-- ---- one page after the other
+
+-- the homes of one page are the same
+abbrev SameHomes : Directory → Directory → ℕ → Type 0
+SameHomes d e page = (primaryOf d page ≡ primaryOf e page) × (secondaryOf d page ≡ secondaryOf e page)
+
+unmoved : (d : Directory) (f n x : ℕ) → n ≤ x → SameHomes (inTurn (moveHome d f) n d) d x
+unfolding inTurn moveHome
+unmoved d f zero x past = (refl, refl)
+unmoved d f (suc n) x past =
+    let moved = inTurn (moveHome d f) n d in
+    let before = unmoved d f n x (omega arith) in
+    by-cond (λ (next : Directory). SameHomes next d x) (lostHome d f n) _ _
+    (λ _. (
+      getD-set-other (moved .primary) n x (keptHome d f n) 0 (λ e. omega arith) ∙ before .0,
+      getD-set-other (moved .secondary) n x (newHome d f n) 0 (λ e. omega arith) ∙ before .1,
+    ))
+    (λ _. before)
+
+-- a rack with other homes
+abbrev withArrays : Directory → List ℕ → List ℕ → Directory
+withArrays d primary secondary = rackOf (d .cards) (d .pages) (d .live) primary secondary
+
+-- the pages below i are moved
+pub record Moved (d : Directory) (f : ℕ) (before : List ℕ) (i : ℕ) (m primary secondary : List ℕ) : Type 0 where
+  pub copied : Turned (copyToNewHome d f) (d .pages) before i m
+  pub homes : withArrays d primary secondary ≡ inTurn (moveHome d f) i d
+  pub primaries : length primary ≡ length (d .primary)
+  pub secondaries : length secondary ≡ length (d .secondary)
+
+pub moved-none : (d : Directory) (f : ℕ) (before : List ℕ) → withArrays d (d .primary) (d .secondary) ≡ d
+    → Moved d f before 0 before (d .primary) (d .secondary)
+moved-none d f before runs =
+    record {
+      copied = turn-none;
+      homes = runs ∙ sym (in-turn-none (moveHome d f) d);
+      primaries = refl;
+      secondaries = refl;
+    }
+
+module _ {d : Directory} {f : ℕ} {before : List ℕ} {i : ℕ} {m primary secondary : List ℕ}
+    (far : Moved d f before i m primary secondary) where
+  same-homes : SameHomes (withArrays d primary secondary) d i
+  same-homes =
+      let stand = unmoved d f i i (omega arith) in (
+        ap (λ (e : Directory). primaryOf e i) (far .homes) ∙ stand .0,
+        ap (λ (e : Directory). secondaryOf e i) (far .homes) ∙ stand .1,
+      )
+
+  pub same-kept : keptHome (pagesOf primary secondary) f i ≡ keptHome (pagesOf (d .primary) (d .secondary)) f i
+  unfolding keptHome
+  same-kept = rw (same-homes .0, same-homes .1)
+
+  same-copy : copyToNewHome (withArrays d primary secondary) f i m ≡ copyToNewHome d f i m
+  unfolding copyToNewHome lostHome keptHome newHome
+  same-copy = rw (same-homes .0, same-homes .1)
+
+  same-turn : (e : Directory) → moveHome (withArrays d primary secondary) f i e ≡ moveHome d f i e
+  unfolding moveHome lostHome keptHome newHome
+  same-turn e = rw (same-homes .0, same-homes .1)
+
+  pub moved-more : {next primary′ secondary′ : List ℕ} → i < d .pages → length next ≡ length m
+      → length primary′ ≡ length primary → length secondary′ ≡ length secondary
+      → next ≡ copyToNewHome (withArrays d primary secondary) f i m
+      → withArrays d primary′ secondary′
+      ≡ moveHome (withArrays d primary secondary) f i (withArrays d primary secondary)
+      → Moved d f before (i + 1) next primary′ secondary′
+  moved-more below long first second copied moved =
+      record {
+        copied = turn-more (far .copied) below long (copied ∙ same-copy);
+        homes = moved ∙ same-turn _ ∙ rw (in-turn-more (moveHome d f) i d, far .homes);
+        primaries = first ∙ far .primaries;
+        secondaries = second ∙ far .secondaries;
+      }

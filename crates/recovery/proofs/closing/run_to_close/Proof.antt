@@ -2,6 +2,7 @@
 use mathlib.Core.Path.{sym, _∙_}
 use native.Mathlib.Omega.{arith}
 use Rattle.memory.proofs.Index.{area-in}
+use Rattle.recovery.specs.Rack.{rackOf}
 use Rattle.recovery.proofs.Kept.{rack-card}
 use Rattle.recovery.proofs.closing.Releases.{run-opened, run-shut, backup-in}
 use borrow.Author.Needs.{needs}
@@ -10,43 +11,45 @@ use Rattle.recovery.proofs.closing.run_to_close.Tie as tie
 
 is-open-requires : tie.Need-is-open-requires
 is-open-requires c κs =
-    let pre = c .before .before .before .before .before .pre in
+    let pre = c .before .before .before .before .before .before .pre in
     rw (c .before .area-size .ensures)
     ((omega arith, area-in _ (pre .1 .1 .0 .1) (pre .0 .whole)), rack-card (pre .0) (pre .1 .1 .0 .1) .marked)
 
 run-release-requires : tie.Need-run-release-requires
 run-release-requires c κs =
-    let test = c .before .before .before .before .before .before .before in
+    let told = c .before .before in
+    let test = told .before in
     let size = test .before .before .before in
-    let start = size .before .before .before .before in
+    let start = size .before .before .before .before .before in
     let a = start .args in
     let pre = start .pre in
+    let rack = rackOf (a .cards) (a .pages) (a .t4) (a .primary .now) (a .secondary .now) in
     let opened = (rw (size .area-size .ensures) at (sym (test .before .is-open .ensures))) ∙ test .if1 .taken in
-    let backup = backup-in (a .directory) (a .failed) (a .card) (a .memory .now) (pre .0) (pre .1 .1 .0 .0)
-    (pre .1 .1 .0 .1) opened in
-    let is = c .before .before .before .before .backup-before .ensures in
-    (pre .1 .0, (rack-card (pre .0) (pre .1 .1 .0 .1), (rw is backup, pre .1 .1 .1 opened)))
+    let backup = backup-in rack (a .failed) (a .card) (a .memory .now) (pre .0) (pre .1 .1 .0 .0) (pre .1 .1 .0 .1)
+    opened in
+    (pre .1 .0, (rack-card (pre .0) (pre .1 .1 .0 .1), (rw (told .backup-before .ensures) backup, pre .1 .1 .1 opened)))
 
 returns : tie.Need-returns
 returns c =
-    let run = c .before .before in
-    let test = c .before .before .before .before .before .before .before .before .before .before in
+    let told = c .before .before .before .before .before in
+    let test = told .before in
     let size = test .before .before .before in
-    let a = size .before .before .before .before .args in
+    let a = size .before .before .before .before .before .args in
+    let rack = rackOf (a .cards) (a .pages) (a .t4) (a .primary .now) (a .secondary .now) in
     let opened = (rw (size .area-size .ensures) at (sym (test .before .is-open .ensures))) ∙ test .if1 .taken in
-    (rw (run .before .before .before .before .before .backup-before .ensures) at (run .run-release .ensures))
-    ∙ run-opened (a .directory) (a .failed) (a .card) (a .memory .now) opened
+    (rw (told .backup-before .ensures) at (c .before .before .run-release .ensures))
+    ∙ run-opened rack (a .failed) (a .card) (a .memory .now) opened
 
 returns-2 : tie.Need-returns-2
 returns-2 c =
     let size = c .before .before .before in
-    let a = size .before .before .before .before .args in
+    let a = size .before .before .before .before .before .args in
+    let rack = rackOf (a .cards) (a .pages) (a .t4) (a .primary .now) (a .secondary .now) in
     let shut = (rw (size .area-size .ensures) at (sym (c .before .is-open .ensures))) ∙ c .if1 .left in
-    run-shut (a .directory) (a .failed) (a .card) (a .memory .now) shut
+    run-shut rack (a .failed) (a .card) (a .memory .now) shut
 
 pub run-to-close-spec : {M : Type 1} → statement M
 run-to-close-spec =
     tie.close
     (tie.spec (λ c κs. search needs) (λ c. search needs) is-open-requires (λ c κs. search needs) (λ c. search needs)
-    (λ c. search needs) (λ c. search needs) (λ c. search needs) run-release-requires (λ c. search needs) returns
-    (λ c. search needs) returns-2)
+    (λ c. search needs) run-release-requires (λ c. search needs) returns (λ c. search needs) returns-2)

@@ -1,8 +1,9 @@
--- Rests on `records-by-marks`: the records by the marks before and after the failure are those of the directory.
+-- Rests on `records-by-marks`: the records by the marks before and after the failure are those of the rack.
 use mathlib.Core.Path.{_∙_}
 use Rattle.protocol.specs.Release.{releaseOf}
 use Rattle.protocol.specs.Record.{writeRecord}
 use Rattle.protocol.specs.Recovery.{writeFailed}
+use Rattle.recovery.specs.Rack.{marksOf}
 use Rattle.recovery.proofs.Kept.{rack-kept}
 use Rattle.recovery.proofs.Recovering.{records-by-marks}
 use borrow.Author.Needs.{needs}
@@ -11,20 +12,20 @@ use Rattle.recovery.proofs.records.write_records.Tie as tie
 
 write-own-records-requires : tie.Need-write-own-records-requires
 write-own-records-requires c κs =
-    let failed = c .before .before .before .before .before in
-    let pre = failed .before .before .before .before .before .before .before .before .before .before .before .pre in
-    (rack-kept (pre .0) (failed .memory .given), record { live-too = λ x up. up })
+    let pre = c .before .before .before .before .before .before .before .before .before .before .before .before .before .before .pre in
+    (rack-kept (pre .0) (c .before .before .before .before .before .memory .given), record { live-too = λ x up. up })
 
 returns : tie.Need-returns
 unfolding writeFailed writeRecord
 returns c =
     let failed = c .before .before .before .before .before .before .before .before .before in
     let settled = failed .before .before .before .before in
-    let marked = settled .before .before in
-    let a = marked .before .before .before .before .args in
+    let marks = settled .before in
+    let a = marks .before .before .before .args in
     let stored = rw (settled .settled-record .ensures) at (failed .write-failed-records .ensures) in
-    (rw (stored, marked .mark-live .ensures) at (c .before .before .write-own-records .ensures))
-    ∙ records-by-marks (a .directory) (a .failed) (releaseOf (a .number) (a .desk .now)) (a .memory .now)
+    (rw (stored, marks .marked .ensures) at (c .before .before .write-own-records .ensures))
+    ∙ records-by-marks (marksOf (a .cards) (a .pages) (a .t4)) (a .failed) (releaseOf (a .number) (a .desk .now))
+    (a .memory .now)
 
 pub write-records-spec : {M : Type 1} → statement M
 write-records-spec =
