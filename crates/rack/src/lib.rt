@@ -5,7 +5,9 @@ ghost use mathlib.Core.List.{[]};
 ghost use Prim.Native.Nat.{_*_, _<_, _≤_};
 ghost use lib.ListN.{length};
 ghost use Rattle.answer.specs.Outcome.{answerOf};
-ghost use Rattle.memory.specs.Layout.{areaSize};
+ghost use Rattle.answer.specs.declared.Answer.the-variants.{Refused};
+ghost use Rattle.memory.specs.Layout.{areaSize, deskSize};
+ghost use Rattle.memory.specs.Area.{zeros};
 ghost use Rattle.directory.specs.declared.Status.the-variants.{Running};
 ghost use Rattle.directory.specs.Live.{nextLive};
 ghost use Rattle.directory.specs.Directory.{directoryOf};
@@ -238,6 +240,41 @@ fn awaited_card(status: Status) -> u32
     }
 }
 
+// What a recovery hands back that is refused.
+fn refused_recovery(directory: Directory, number: u32) -> DeskReply
+    ensures answer { λ r. ⌜ r .answer ≡ Refused number 0 ⌝ }
+    ensures directory { λ r. ⌜ r .directory ≡ directory ⌝ }
+    ensures desk { λ r. ⌜ r .desk ≡ zeros deskSize ⌝ }
+{
+    let answer = Answer::Refused(number, 0);
+    let desk = [0u32; 8];
+    DeskReply {
+        directory,
+        answer,
+        desk,
+    }
+}
+
+// The directory of a running rack, by its parts.
+fn running_rack(
+    cards: u32,
+    pages: u32,
+    live: [bool; 8],
+    primary: [u32; 64],
+    secondary: [u32; 64],
+) -> Directory
+    ensures { λ r. ⌜ r ≡ directoryOf cards pages live primary secondary Running ⌝ }
+{
+    Directory {
+        cards,
+        pages,
+        live,
+        primary,
+        secondary,
+        status: Status::Running,
+    }
+}
+
 // Recovers the card that failed, and answers its stamp and desk: open releases are run to their
 // close, pages get two live homes again, and records their places.
 pub fn recover_card(memory: &mut [u32], directory: Directory) -> DeskReply
@@ -252,22 +289,26 @@ pub fn recover_card(memory: &mut [u32], directory: Directory) -> DeskReply
     let cards = directory.cards;
     let pages = directory.pages;
     let live = directory.live;
-    let primary = directory.primary;
-    let secondary = directory.secondary;
+    let mut primary = directory.primary;
+    let mut secondary = directory.secondary;
     let status = directory.status;
     let first = refusals::recovery(memory, cards, pages, &live, &primary, &secondary, status);
-    let mut desk = [0u32; 8];
     if first != 0 {
-        let answer = Answer::Refused(first, 0);
-        return DeskReply {
-            directory,
-            answer,
-            desk,
-        };
+        return refused_recovery(directory, first);
     }
     let failed = awaited_card(status);
-    let number = recovery::recover_memory(memory, directory, failed, &mut desk);
-    let recovered = recovery::recovered_directory(directory, failed);
+    let mut desk = [0u32; 8];
+    let number = recovery::recover_memory(
+        memory,
+        cards,
+        pages,
+        live,
+        &mut primary,
+        &mut secondary,
+        failed,
+        &mut desk,
+    );
+    let recovered = running_rack(cards, pages, live, primary, secondary);
     let answer = Answer::Given(number as u64);
     DeskReply {
         directory: recovered,
@@ -305,7 +346,7 @@ pub fn join_card(memory: &mut [u32], directory: Directory, card: u32) -> Reply
     if first.number != 0 {
         return Reply { directory, answer };
     }
-    recovery::join_memory(memory, directory, card);
+    recovery::join_memory(memory, cards, pages, live, card);
     let joined = directory.mark_live(card);
     Reply {
         directory: joined,

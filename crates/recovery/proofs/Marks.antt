@@ -1,6 +1,6 @@
 -- Marks with one card more: a live card is live by them too, and a card that joins is the backup of those before it.
 use Prim.Native.Nat.{ℕ, _<_}
-use mathlib.Core.Path.{_≡_, refl, ap, _∙_}
+use mathlib.Core.Path.{_≡_, refl, sym, ap, _∙_}
 use mathlib.Core.List.{List}
 use mathlib.Core.Bool.{Bool, true, false, cond}
 use native.Mathlib.Decide.{ℕ-discrete}
@@ -60,3 +60,7 @@ module _ (d : Directory) (x : ℕ) where
   unfolding joinedMemory resetArea
   joined-by-marks m =
       in-turn-same _ _ same-holder (d .cards) _ ∙ ap (inTurn _ (d .cards)) (in-turn-same _ _ same-record (d .cards) _)
+
+pub same-joined : (d : Directory) (x : ℕ) (m : List ℕ)
+    → joinedMemory (marksOf (d .cards) (d .pages) (d .live)) x m ≡ joinedMemory d x m
+same-joined d x m = sym (joined-by-marks (marksOf (d .cards) (d .pages) (d .live)) x m) ∙ joined-by-marks d x m

@@ -11,11 +11,13 @@ use Rattle.protocol.specs.Release.{Release, sizeOf}
 use Rattle.protocol.specs.Record.{writeOwnRecord}
 use Rattle.protocol.specs.Recovery.{restoreHome, restorePage, restorePages, lostHome, keptHome, newHome}
 use Rattle.protocol.specs.Recovery.{copyToNewHome, copyToNewHomes, writeFailed, writeRecords}
-use Rattle.protocol.specs.Recovery.{runToClose, closeReleases, failedRelease, restoredMemory, recoveredMemory}
+use Rattle.protocol.specs.Recovery.{runToClose, closeReleases, failedRelease, restoredMemory}
+use Rattle.protocol.specs.Recovery.{recoveredMemory, recoveredDirectory}
 use Rattle.release.proofs.Callers.{homes, times-by-homes}
 use Rattle.recovery.specs.Rack.{marksOf, rackOf, backedBy}
 use Rattle.recovery.specs.Closing.{recoveredClosed}
 use Rattle.recovery.proofs.Turns.{in-turn-same}
+use Rattle.recovery.proofs.homes.Moves.{all-moved}
 
 module _ (d : Directory) where
   same-page : (forward : Bool) (page : ℕ) (m : List ℕ)
@@ -87,3 +89,6 @@ unfolding recoveredMemory
 memory-by-rack d f m =
     rw (failed-by-rack d f m, same-restored d f m, same-copies d f)
     (sym (same-records (rack d) f _ _) ∙ same-records d f _ _)
+
+pub directory-by-rack : (d : Directory) (f : ℕ) → recoveredDirectory (rack d) f ≡ recoveredDirectory d f
+directory-by-rack d f = sym (all-moved (rack d) f) ∙ all-moved d f

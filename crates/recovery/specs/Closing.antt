@@ -19,12 +19,8 @@ pub record ReleasesIn (live : List Bool) (cards pages : ℕ) (m : List ℕ) : Ty
 abbrev pub recordOf : Directory → ℕ → List ℕ → Release
 recordOf d f m = recordedRelease (sizeOf d) m (nextLiveOf d f) f
 
--- the pages restored, and copied to their new homes
-abbrev pub restoredCopies : Directory → ℕ → Bool → List ℕ → List ℕ
-restoredCopies d f forward m = copyToNewHomes d f (restorePages d forward m)
-
 -- the memory after recovery, from one whose releases are closed
 unfoldable pub recoveredClosed : Directory → ℕ → List ℕ → List ℕ
 recoveredClosed d f closed =
     writeRecords d f (recordOf d f closed)
-    (restoredCopies d f (underWay (sizeOf d) closed (nextLiveOf d f) f) closed)
+    (copyToNewHomes d f (restorePages d (underWay (sizeOf d) closed (nextLiveOf d f) f) closed))

@@ -6,7 +6,7 @@ ghost use lib.ListN.{length};
 ghost use Rattle.protocol.specs.Recovery.{failedRelease, recoveredMemory, recoveredDirectory};
 ghost use Rattle.protocol.specs.Join.{joinedMemory};
 ghost use Rattle.release.specs.Stepping.{HomesIn};
-ghost use Rattle.recovery.specs.Closing.{ReleasesIn, recordOf, recoveredClosed, restoredCopies};
+ghost use Rattle.recovery.specs.Closing.{ReleasesIn, recordOf, recoveredClosed};
 ghost use Rattle.recovery.specs.Rack.{RackIn, SomeLive, marksOf, rackOf};
 
 mod closing;
@@ -18,37 +18,9 @@ mod restoring;
 pub use records::load_record;
 pub use records::write_record;
 
-// Rolls all pages forward or back, and gives those that lost a home their copies at the new one, and
-// their homes from then on.
-fn restore_copies(
-    memory: &mut [u32],
-    cards: u32,
-    pages: u32,
-    live: &[bool],
-    primary: &mut [u32],
-    secondary: &mut [u32],
-    failed: u32,
-    forward: bool,
-)
-    requires { ⌜ RackIn (now live) cards pages (length (now memory)) ⌝ }
-    requires { ⌜ HomesIn (now live) pages (now primary) (now secondary) (length (now memory)) ⌝ }
-    requires { ⌜ SomeLive (now live) cards ⌝ }
-    ensures memory { λ _. ⌜ now (memory .exit)
-        ≡ restoredCopies
-        (rackOf cards pages (now (live .entry)) (now (primary .entry)) (now (secondary .entry)))
-        failed forward (now (memory .entry)) ⌝ }
-    ensures homes { λ _. ⌜ rackOf cards pages (now (live .entry)) (now (primary .exit))
-        (now (secondary .exit))
-        ≡ recoveredDirectory
-        (rackOf cards pages (now (live .entry)) (now (primary .entry)) (now (secondary .entry)))
-        failed ⌝ }
-{
-    restoring::restore_pages(memory, pages, live, primary, secondary, forward);
-    homes::move_homes(memory, cards, pages, live, primary, secondary, failed);
-}
-
-// Recovers a rack whose releases are closed: reads the failed card's record, restores the copies
-// and writes the records. Gives the release that the record tells.
+// Recovers a rack whose releases are closed: reads the failed card's record, rolls all pages forward
+// or back, gives those that lost a home their new ones, and writes the records. Gives the release
+// that the record tells.
 fn recover_closed(
     memory: &mut [u32],
     cards: u32,
@@ -79,16 +51,8 @@ fn recover_closed(
     let holder = directory::next_live_after(&live, cards, failed) as usize;
     let number = records::load_record(memory, size, holder, at, desk);
     let forward = records::under_way(memory, size, holder, at);
-    restore_copies(
-        memory,
-        cards,
-        pages,
-        &live,
-        primary,
-        secondary,
-        failed,
-        forward,
-    );
+    restoring::restore_pages(memory, pages, &live, primary, secondary, forward);
+    homes::move_homes(memory, cards, pages, &live, primary, secondary, failed);
     records::write_records(memory, cards, pages, live, failed, number, desk);
     number
 }

@@ -1,7 +1,8 @@
 -- Rests on its checks: an accepted join finds a dead card, and no release open.
-use mathlib.Core.Path.{_≡_, refl}
+use mathlib.Core.Path.{_≡_, refl, _∙_}
 use borrow.Author.Needs.{needs, length-unmapped}
 use lib.ListN.{length}
+use Rattle.recovery.proofs.Marks.{same-joined}
 use Rattle.rack.proofs.Fitting.{fitting, rack-in}
 use Rattle.rack.proofs.Results.{join-facts, join-refused, join-accepted}
 use Rattle.rack.proofs.join_card.Statement.{statement}
@@ -41,7 +42,7 @@ returns-2 c =
     let d = a .directory in
     let m = a .memory .now in
     rw (join-accepted d m (a .card) (first .join .ensures) (test .if1 .left))
-    (answered .answer-of .ensures, (c .mark-live .ensures, joining .join-memory .ensures))
+    (answered .answer-of .ensures, (c .mark-live .ensures, joining .join-memory .ensures ∙ same-joined d (a .card) m))
 
 pub join-card-spec : {M : Type 1} → statement M
 join-card-spec =

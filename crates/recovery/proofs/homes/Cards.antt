@@ -1,16 +1,19 @@
 -- Homes of a page: the one that it keeps is a card, and so is the next live card after it.
-use Prim.Native.Nat.{ℕ, _<_}
+use Prim.Native.Nat.{ℕ, _<_, _≤_}
 use mathlib.Core.List.{List}
 use mathlib.Core.Bool.{Bool}
+use native.Mathlib.Omega.{arith}
 use lib.ListN.{getD}
 use lib.Dec.{eqb}
 use Rattle.laws.proofs.Bools.{by-cond}
 use Rattle.memory.specs.Layout.{areaSize}
+use Rattle.memory.specs.Area.{AreaIn}
+use Rattle.memory.proofs.Index.{area-in}
 use Rattle.directory.specs.Live.{nextLive}
 use Rattle.directory.proofs.Live.{next-live-below}
 use Rattle.protocol.specs.Recovery.{keptHome}
 use Rattle.release.specs.Stepping.{CardIn, HomesIn}
-use Rattle.recovery.specs.Rack.{SomeLive, pagesOf}
+use Rattle.recovery.specs.Rack.{RackIn, SomeLive, pagesOf}
 
 pub kept-in : {live : List Bool} {pages words : ℕ} {primary secondary : List ℕ} (failed : ℕ) {page : ℕ}
     → HomesIn live pages primary secondary words → page < pages
@@ -23,3 +26,8 @@ kept-in {live} {pages} {words} {primary} failed {page} homes below =
 
 pub next-below : {live : List Bool} {cards : ℕ} → SomeLive live cards → (c : ℕ) → nextLive live cards c < cards
 next-below {live} {cards} some c = next-live-below live cards c (some .card) (some .below) (some .up)
+
+-- so a record is read there
+pub next-in : {live : List Bool} {cards pages words : ℕ} → RackIn live cards pages words → SomeLive live cards
+    → (c : ℕ) → (676 ≤ areaSize pages) × AreaIn words (areaSize pages) (nextLive live cards c)
+next-in rack some c = (omega arith, area-in _ (next-below some c) (rack .whole))

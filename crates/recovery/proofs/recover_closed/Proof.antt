@@ -1,12 +1,11 @@
 -- Rests on what its parts ensure, each of them a part of the definition.
 use mathlib.Core.Path.{_∙_}
-use native.Mathlib.Omega.{arith}
-use Rattle.memory.proofs.Index.{area-in}
+use Rattle.release.proofs.Callers.{homes-kept}
 use Rattle.recovery.specs.Closing.{recoveredClosed}
 use Rattle.recovery.specs.Rack.{rackOf}
 use Rattle.recovery.proofs.Kept.{rack-kept}
-use Rattle.recovery.proofs.Recovering.{same-records}
-use Rattle.recovery.proofs.homes.Cards.{next-below}
+use Rattle.recovery.proofs.Recovering.{same-pages, same-records}
+use Rattle.recovery.proofs.homes.Cards.{next-in}
 use borrow.Author.Needs.{needs}
 use Rattle.recovery.proofs.recover_closed.Statement.{statement}
 use Rattle.recovery.proofs.recover_closed.Tie as tie
@@ -17,9 +16,8 @@ load-record-requires c κs =
     let size = next .before .before in
     let start = size .before .before .before .before .before in
     let pre = start .pre in
-    let below = next-below (pre .1 .1 .0) (start .args .failed) in
     rw (size .area-size .ensures, next .next-live-after .ensures)
-    ((omega arith, area-in _ below (pre .0 .whole)), pre .1 .1 .1)
+    (next-in (pre .0) (pre .1 .1 .0) (start .args .failed), pre .1 .1 .1)
 
 under-way-requires : tie.Need-under-way-requires
 under-way-requires c κs =
@@ -27,20 +25,27 @@ under-way-requires c κs =
     let size = next .before .before in
     let start = size .before .before .before .before .before in
     let pre = start .pre in
-    let below = next-below (pre .1 .1 .0) (start .args .failed) in
     rw (size .area-size .ensures, next .next-live-after .ensures)
-    ((omega arith, area-in _ below (pre .0 .whole)), pre .1 .1 .1 .0)
+    (next-in (pre .0) (pre .1 .1 .0) (start .args .failed), pre .1 .1 .1 .0)
+
+move-homes-requires : tie.Need-move-homes-requires
+move-homes-requires c κs =
+    let pre = c .before .before .before .before .before .before .before .before .before .before .before .before .before .before .before .before .before .before .before .before .before .before .before .before .before .pre in
+    let same = c .before .before .before .before .before .memory .given in
+    (rack-kept (pre .0) same, (homes-kept (pre .1 .0) same, pre .1 .1 .0))
 
 write-records-requires : tie.Need-write-records-requires
 write-records-requires c κs =
-    let pre = c .before .before .before .before .before .before .before .before .before .before .before .before .before .before .before .before .before .before .before .before .before .before .before .before .before .before .before .pre in
-    (rack-kept (pre .0) (c .before .before .before .before .before .before .before .memory .given), (pre .1 .1 .1 .0, c .before .before .before .before .before .before .before .before .before .before .before .before .before .before .before .before .desk .given ∙ pre .1 .1 .1 .1))
+    let pre = c .before .before .before .before .before .before .before .before .before .before .before .before .before .before .before .before .before .before .before .before .before .before .before .before .before .before .before .before .before .before .before .before .before .before .pre in
+    let same = c .before .before .before .before .before .before .before .memory2 .given ∙ c .before .before .before .before .before .before .before .before .before .before .before .before .before .before .memory .given in
+    (rack-kept (pre .0) same, (pre .1 .1 .1 .0, c .before .before .before .before .before .before .before .before .before .before .before .before .before .before .before .before .before .before .before .before .before .before .before .desk .given ∙ pre .1 .1 .1 .1))
 
 returns : tie.Need-returns
 unfolding recoveredClosed
 returns c =
-    let copies = c .before .before .before .before .before .before .before .before .before .before .before in
-    let way = copies .before .before .before .before .before in
+    let moved = c .before .before .before .before .before .before .before .before .before .before .before .move-homes .ensures in
+    let restored = c .before .before .before .before .before .before .before .before .before .before .before .before .before .before .before .before .before .before in
+    let way = restored .before .before .before .before .before in
     let read = way .before .before .before .before in
     let next = read .before .before .before in
     let size = next .before .before in
@@ -48,13 +53,14 @@ returns c =
     let rack = rackOf (a .cards) (a .pages) (a .t4) (a .primary .now) (a .secondary .now) in
     let told = rw (size .area-size .ensures, next .next-live-after .ensures) at (read .load-record .ensures) in
     let forward = rw (size .area-size .ensures, next .next-live-after .ensures) at (way .under-way .ensures) in
-    let restored = copies .restore-copies .ensures in
-    let written = rw (restored .0, forward, told .0, told .1) at (c .before .before .write-records .ensures) in
-    (told .0, (told .1, (written ∙ same-records rack (a .failed) _ _, restored .1)))
+    let pages = restored .restore-pages .ensures ∙ same-pages rack _ (a .memory .now) in
+    let written = rw (moved .0, pages, forward, told .0, told .1) at (c .before .before .write-records .ensures) in
+    (told .0, (told .1, (written ∙ same-records rack (a .failed) _ _, moved .1)))
 
 pub recover-closed-spec : {M : Type 1} → statement M
 recover-closed-spec =
     tie.close
     (tie.spec (λ c κs. search needs) (λ c. search needs) (λ c κs. search needs) (λ c. search needs)
-    load-record-requires under-way-requires (λ c. search needs) (λ c κs. search needs) write-records-requires
-    (λ c. search needs) (λ c. search needs) (λ c. search needs) (λ c. search needs) returns)
+    load-record-requires under-way-requires (λ c. search needs) (λ c κs. search needs) (λ c. search needs)
+    move-homes-requires write-records-requires (λ c. search needs) (λ c. search needs) (λ c. search needs)
+    (λ c. search needs) returns)

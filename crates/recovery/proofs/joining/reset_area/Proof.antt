@@ -2,7 +2,7 @@
 use native.Mathlib.Omega.{arith}
 use Rattle.memory.proofs.Index.{area-in}
 use Rattle.protocol.specs.Join.{resetArea}
-use Rattle.recovery.proofs.homes.Cards.{next-below}
+use Rattle.recovery.proofs.homes.Cards.{next-in}
 use Rattle.recovery.proofs.records.Stores.{own-stores}
 use borrow.Author.Needs.{needs}
 use Rattle.recovery.proofs.joining.reset_area.Statement.{statement}
@@ -13,9 +13,8 @@ load-record-requires c κs =
     let next = c .before .before in
     let start = next .before .before .before .before in
     let pre = start .pre in
-    let below = next-below (pre .1 .0) (start .args .card) in
     rw (next .before .area-size .ensures, next .next-live-after .ensures)
-    ((omega arith, area-in _ below (pre .0 .whole)), (omega arith, search needs))
+    (next-in (pre .0) (pre .1 .0) (start .args .card), (omega arith, search needs))
 
 clear-run-requires : tie.Need-clear-run-requires
 clear-run-requires c κs =
