@@ -195,6 +195,27 @@ pub fn fetch_page(memory: &[u32], directory: Directory, page: u32, buffer: &mut 
     Reply { directory, answer }
 }
 
+// The directory of a rack, by its parts.
+fn rack_of(
+    cards: u32,
+    pages: u32,
+    live: [bool; 8],
+    primary: [u32; 64],
+    secondary: [u32; 64],
+    status: Status,
+) -> Directory
+    ensures { λ r. ⌜ r ≡ directoryOf cards pages live primary secondary status ⌝ }
+{
+    Directory {
+        cards,
+        pages,
+        live,
+        primary,
+        secondary,
+        status,
+    }
+}
+
 // Marks a card dead; its recovery is awaited.
 pub fn fail_card(memory: &[u32], directory: Directory, card: u32) -> Reply
     ensures answer { λ r. ⌜ r .answer
@@ -223,7 +244,9 @@ pub fn fail_card(memory: &[u32], directory: Directory, card: u32) -> Reply
         return Reply { directory, answer };
     }
     let dead = directory.mark_dead(card);
-    let failed = dead.set_status(Status::Awaiting(card));
+    let marks = dead.live;
+    let awaiting = Status::Awaiting(card);
+    let failed = rack_of(cards, pages, marks, primary, secondary, awaiting);
     Reply {
         directory: failed,
         answer,
@@ -252,26 +275,6 @@ fn refused_recovery(directory: Directory, number: u32) -> DeskReply
         directory,
         answer,
         desk,
-    }
-}
-
-// The directory of a running rack, by its parts.
-fn running_rack(
-    cards: u32,
-    pages: u32,
-    live: [bool; 8],
-    primary: [u32; 64],
-    secondary: [u32; 64],
-) -> Directory
-    ensures { λ r. ⌜ r ≡ directoryOf cards pages live primary secondary Running ⌝ }
-{
-    Directory {
-        cards,
-        pages,
-        live,
-        primary,
-        secondary,
-        status: Status::Running,
     }
 }
 
@@ -308,7 +311,7 @@ pub fn recover_card(memory: &mut [u32], directory: Directory) -> DeskReply
         failed,
         &mut desk,
     );
-    let recovered = running_rack(cards, pages, live, primary, secondary);
+    let recovered = rack_of(cards, pages, live, primary, secondary, Status::Running);
     let answer = Answer::Given(number as u64);
     DeskReply {
         directory: recovered,

@@ -9,22 +9,21 @@ returns : tie.Need-returns
 returns c =
     let answered = c .before .before in
     let first = answered .before in
-    let start = first .before .before .before .before .before .before .before .before in
-    let a = start .args in
+    let a = first .before .before .before .before .before .before .before .before .args in
     let d = a .directory in
     let m = a .memory .now in
     rw (failure-refused d m (a .card) (first .failure .ensures) (c .if1 .taken)) (answered .answer-of .ensures, refl)
 
 returns-2 : tie.Need-returns-2
 returns-2 c =
-    let test = c .before .before in
+    let dead = c .before .before in
+    let test = dead .before in
     let answered = test .before .before in
     let first = answered .before in
-    let start = first .before .before .before .before .before .before .before .before in
-    let a = start .args in
+    let a = first .before .before .before .before .before .before .before .before .args in
     let d = a .directory in
     let m = a .memory .now in
-    let failed = rw (c .before .mark-dead .ensures) at (c .set-status .ensures) in
+    let failed = rw (dead .mark-dead .ensures) at (c .rack-of .ensures) in
     rw (failure-accepted d m (a .card) (first .failure .ensures) (test .if1 .left))
     (answered .answer-of .ensures, failed)
 

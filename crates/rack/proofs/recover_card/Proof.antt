@@ -53,7 +53,7 @@ returns-2 c =
     let told = rw (failed-by-rack d _ m) at (done .0) in
     let desk = rw (failed-by-rack d _ m) at (done .1 .0) in
     rw (recovery-accepted d m (first .recovery .ensures) (test .if1 .left))
-    (rw told, (c .running-rack .ensures ∙ done .1 .1 .1 ∙ directory-by-rack d _, (desk, done .1 .1 .0 ∙ memory-by-rack d _ m)))
+    (rw told, (c .rack-of .ensures ∙ done .1 .1 .1 ∙ directory-by-rack d _, (desk, done .1 .1 .0 ∙ memory-by-rack d _ m)))
 
 pub recover-card-spec : {M : Type 1} → statement M
 recover-card-spec =
