@@ -14,10 +14,10 @@ use Rattle.protocol.specs.Recovery.{copyToNewHome, copyToNewHomes, writeFailed,
 use Rattle.protocol.specs.Recovery.{runToClose, closeReleases, failedRelease, restoredMemory}
 use Rattle.protocol.specs.Recovery.{recoveredMemory, recoveredDirectory}
 use Rattle.release.proofs.Callers.{homes, times-by-homes}
-use Rattle.recovery.specs.Rack.{marksOf, rackOf, backedBy}
+use Rattle.recovery.specs.Rack.{marksOf, backedBy}
 use Rattle.recovery.specs.Closing.{recoveredClosed}
 use Rattle.recovery.proofs.Turns.{in-turn-same}
-use Rattle.recovery.proofs.homes.Moves.{all-moved}
+use Rattle.recovery.proofs.homes.Moves.{rack, all-moved}
 
 module _ (d : Directory) where
   same-page : (forward : Bool) (page : ℕ) (m : List ℕ)
@@ -29,16 +29,12 @@ module _ (d : Directory) where
   unfolding restorePages
   same-pages forward m = in-turn-same _ _ (same-page forward) (d .pages) m
 
-  -- of the rack all but the status
-  abbrev rack : Directory
-  rack = rackOf (d .cards) (d .pages) (d .live) (d .primary) (d .secondary)
-
   module _ (f : ℕ) where
-    same-copy : (page : ℕ) (m : List ℕ) → copyToNewHome rack f page m ≡ copyToNewHome d f page m
+    same-copy : (page : ℕ) (m : List ℕ) → copyToNewHome (rack d) f page m ≡ copyToNewHome d f page m
     unfolding copyToNewHome lostHome keptHome newHome
     same-copy page m = refl
 
-    pub same-copies : (m : List ℕ) → copyToNewHomes rack f m ≡ copyToNewHomes d f m
+    pub same-copies : (m : List ℕ) → copyToNewHomes (rack d) f m ≡ copyToNewHomes d f m
     unfolding copyToNewHomes
     same-copies m = in-turn-same _ _ same-copy (d .pages) m
 
@@ -56,11 +52,11 @@ module _ (d : Directory) where
     unfolding writeRecords
     records-by-marks r m = ap (inTurn _ (d .cards)) (in-turn-same _ _ (same-failed r) (d .cards) m)
 
-    same-run : (c : ℕ) (m : List ℕ) → runToClose rack f c m ≡ runToClose d f c m
+    same-run : (c : ℕ) (m : List ℕ) → runToClose (rack d) f c m ≡ runToClose d f c m
     unfolding runToClose
-    same-run c m = rw (← times-by-homes rack, times-by-homes d)
+    same-run c m = rw (← times-by-homes (rack d), times-by-homes d)
 
-    same-closed : (m : List ℕ) → closeReleases rack f m ≡ closeReleases d f m
+    same-closed : (m : List ℕ) → closeReleases (rack d) f m ≡ closeReleases d f m
     unfolding closeReleases
     same-closed m = in-turn-same _ _ same-run (d .cards) m
 
@@ -74,7 +70,7 @@ module _ (d : Directory) (f : ℕ) where
       → writeRecords (marksOf (d .cards) (d .pages) (d .live)) f r m ≡ writeRecords d f r m
   same-records r m = sym (records-by-marks (marksOf (d .cards) (d .pages) (d .live)) f r m) ∙ records-by-marks d f r m
 
-  -- ---- the whole looks at all of the directory but the status
+  -- ---- the whole looks at all but the status
 
   pub failed-by-rack : (m : List ℕ) → failedRelease (rack d) f m ≡ failedRelease d f m
   unfolding failedRelease

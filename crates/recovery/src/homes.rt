@@ -45,7 +45,8 @@ fn move_home(
 )
     requires { ⌜ RackIn (now live) cards pages (length (now memory)) ⌝ }
     requires { ⌜ SomeLive (now live) cards ⌝ }
-    requires { ⌜ (page < length (now primary)) × (page < length (now secondary)) × (page < pages) ⌝ }
+    requires { ⌜ page < pages ⌝ }
+    requires { ⌜ (page < length (now primary)) × (page < length (now secondary)) ⌝ }
     requires { ⌜ CardIn (now live) (length (now memory)) (areaSize pages)
         (keptHome (pagesOf (now primary) (now secondary)) failed page) ⌝ }
     ensures memory { λ _. ⌜ now (memory .exit)

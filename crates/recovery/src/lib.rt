@@ -18,9 +18,9 @@ mod restoring;
 pub use records::load_record;
 pub use records::write_record;
 
-// Recovers a rack whose releases are closed: reads the failed card's record, rolls all pages forward
-// or back, gives those that lost a home their new ones, and writes the records. Gives the release
-// that the record tells.
+// Recovers a rack whose releases are closed: reads the failed card's record, rolls all pages
+// forward or back, gives those that lost a home their new ones, and writes the records. Gives the
+// release that the record tells.
 fn recover_closed(
     memory: &mut [u32],
     cards: u32,

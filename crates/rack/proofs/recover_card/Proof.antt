@@ -52,8 +52,9 @@ returns-2 c =
     let done = rw (awaiting .awaited-card .ensures) at (recovering .recover-memory .ensures) in
     let told = rw (failed-by-rack d _ m) at (done .0) in
     let desk = rw (failed-by-rack d _ m) at (done .1 .0) in
+    let recovered = c .rack-of .ensures ∙ done .1 .1 .1 ∙ directory-by-rack d _ in
     rw (recovery-accepted d m (first .recovery .ensures) (test .if1 .left))
-    (rw told, (c .rack-of .ensures ∙ done .1 .1 .1 ∙ directory-by-rack d _, (desk, done .1 .1 .0 ∙ memory-by-rack d _ m)))
+    (rw told, (recovered, (desk, done .1 .1 .0 ∙ memory-by-rack d _ m)))
 
 pub recover-card-spec : {M : Type 1} → statement M
 recover-card-spec =

@@ -81,21 +81,21 @@ module _ {d : Directory} {f : ℕ} {before : List ℕ} where
   pub closed-none : Closed d f before 0 before
   closed-none = record { turned = turn-none; later = λ x _. same-own (sizeOf d) before x }
 
-  module _ (releases : ReleasesIn (d .live) (d .cards) (d .pages) before) {i : ℕ} {m : List ℕ} (far : Closed d f before i m) (below : i < d .cards)
-    where
-      pub closed-good : isOpen (d .live) (sizeOf d) m i ≡ true → GoodRelease (d .pages) m i
-      closed-good opened =
-          let same = far .later i (omega arith) in
-          let kept = is-open-kept (sizeOf d) before m i (same-own-release (sizeOf d) before m i same) (d .live) in
-          good-kept (d .pages) before m i same (releases .good i below (sym kept ∙ opened))
+  module _ (releases : ReleasesIn (d .live) (d .cards) (d .pages) before) {i : ℕ} {m : List ℕ}
+      (far : Closed d f before i m) (below : i < d .cards) where
+    pub closed-good : isOpen (d .live) (sizeOf d) m i ≡ true → GoodRelease (d .pages) m i
+    closed-good opened =
+        let same = far .later i (omega arith) in
+        let kept = is-open-kept (sizeOf d) before m i (same-own-release (sizeOf d) before m i same) (d .live) in
+        good-kept (d .pages) before m i same (releases .good i below (sym kept ∙ opened))
 
-      pub closed-more : {next : List ℕ} → RackIn (d .live) (d .cards) (d .pages) (length before)
-          → length next ≡ length m → next ≡ runToClose d f i m → Closed d f before (i + 1) next
-      closed-more rack same made =
-          let area = area-in (sizeOf d) below (far .turned .same ∙ rack .whole) in
-          record {
-            turned = turn-more (far .turned) below same made;
-            later = λ x above. rw made
-                (same-then (far .later x (omega arith))
-                (run-keeps-others d f i (omega arith) m area closed-good x (λ e. omega arith)));
-          }
+    pub closed-more : {next : List ℕ} → RackIn (d .live) (d .cards) (d .pages) (length before)
+        → length next ≡ length m → next ≡ runToClose d f i m → Closed d f before (i + 1) next
+    closed-more rack same made =
+        let area = area-in (sizeOf d) below (far .turned .same ∙ rack .whole) in
+        record {
+          turned = turn-more (far .turned) below same made;
+          later = λ x above. rw made
+              (same-then (far .later x (omega arith))
+              (run-keeps-others d f i (omega arith) m area closed-good x (λ e. omega arith)));
+        }

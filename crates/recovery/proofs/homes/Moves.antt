@@ -4,7 +4,7 @@ use mathlib.Core.Path.{_≡_, refl, sym, ap, _∙_}
 use mathlib.Core.List.{List}
 use mathlib.Core.Bool.{Bool, true, false, cond}
 use native.Mathlib.Omega.{arith}
-use lib.ListN.{length, getD}
+use lib.ListN.{length}
 use lib.Seq.{getD-set-other}
 use Rattle.laws.specs.Search.{inTurn}
 use Rattle.laws.proofs.Bools.{by-cond}
@@ -16,6 +16,13 @@ use Rattle.protocol.specs.Recovery.{lostHome, keptHome, newHome, copyToNewHome,
 use Rattle.recovery.specs.Rack.{pagesOf, rackOf}
 use Rattle.recovery.proofs.Turns.{Turned, turn-none, turn-more}
 
+-- a directory as far as recovery looks at it, all but its status: with these homes, or its own
+abbrev pub withArrays : Directory → List ℕ → List ℕ → Directory
+withArrays d primary secondary = rackOf (d .cards) (d .pages) (d .live) primary secondary
+
+abbrev pub rack : Directory → Directory
+rack d = withArrays d (d .primary) (d .secondary)
+
 -- ---- the status stays out of it
 
 choose : (lost : Bool) (x y : Directory) → cond lost (withStatus x Running) (withStatus y Running)
@@ -24,21 +31,17 @@ choose true x y = refl
 choose false x y = refl
 
 module _ (d : Directory) (f : ℕ) where
-  -- of the rack all but the status
-  abbrev rack : Directory
-  rack = rackOf (d .cards) (d .pages) (d .live) (d .primary) (d .secondary)
-
   same-move : (i : ℕ) (moved : Directory)
-      → moveHome rack f i (withStatus moved Running) ≡ withStatus (moveHome d f i moved) Running
+      → moveHome (rack d) f i (withStatus moved Running) ≡ withStatus (moveHome d f i moved) Running
   unfolding moveHome lostHome keptHome newHome
   same-move i moved = choose (lostHome d f i) _ _
 
-  same-moves : (n : ℕ) → inTurn (moveHome rack f) n rack ≡ withStatus (inTurn (moveHome d f) n d) Running
+  same-moves : (n : ℕ) → inTurn (moveHome (rack d) f) n (rack d) ≡ withStatus (inTurn (moveHome d f) n d) Running
   unfolding inTurn
   same-moves zero = refl
-  same-moves (suc n) = ap (moveHome rack f n) (same-moves n) ∙ same-move n _
+  same-moves (suc n) = ap (moveHome (rack d) f n) (same-moves n) ∙ same-move n _
 
-  pub all-moved : inTurn (moveHome rack f) (d .pages) rack ≡ recoveredDirectory d f
+  pub all-moved : inTurn (moveHome (rack d) f) (d .pages) (rack d) ≡ recoveredDirectory d f
   unfolding recoveredDirectory
   all-moved = same-moves (d .pages)
 
@@ -61,10 +64,6 @@ unmoved d f (suc n) x past =
     ))
     (λ _. before)
 
--- a rack with other homes
-abbrev withArrays : Directory → List ℕ → List ℕ → Directory
-withArrays d primary secondary = rackOf (d .cards) (d .pages) (d .live) primary secondary
-
 -- the pages below i are moved
 pub record Moved (d : Directory) (f : ℕ) (before : List ℕ) (i : ℕ) (m primary secondary : List ℕ) : Type 0 where
   pub copied : Turned (copyToNewHome d f) (d .pages) before i m
@@ -72,7 +71,7 @@ pub record Moved (d : Directory) (f : ℕ) (before : List ℕ) (i : ℕ) (m prim
   pub primaries : length primary ≡ length (d .primary)
   pub secondaries : length secondary ≡ length (d .secondary)
 
-pub moved-none : (d : Directory) (f : ℕ) (before : List ℕ) → withArrays d (d .primary) (d .secondary) ≡ d
+pub moved-none : (d : Directory) (f : ℕ) (before : List ℕ) → rack d ≡ d
     → Moved d f before 0 before (d .primary) (d .secondary)
 moved-none d f before runs =
     record {

@@ -30,21 +30,27 @@ under-way-requires c κs =
 
 move-homes-requires : tie.Need-move-homes-requires
 move-homes-requires c κs =
-    let pre = c .before .before .before .before .before .before .before .before .before .before .before .before .before .before .before .before .before .before .before .before .before .before .before .before .before .pre in
-    let same = c .before .before .before .before .before .memory .given in
+    let restored = c .before .before .before .before .before in
+    let read = restored .before .before .before .before .before .before .before .before .before .before in
+    let pre = read .before .before .before .before .before .before .before .before .before .before .pre in
+    let same = restored .memory .given in
     (rack-kept (pre .0) same, (homes-kept (pre .1 .0) same, pre .1 .1 .0))
 
 write-records-requires : tie.Need-write-records-requires
 write-records-requires c κs =
-    let pre = c .before .before .before .before .before .before .before .before .before .before .before .before .before .before .before .before .before .before .before .before .before .before .before .before .before .before .before .before .before .before .before .before .before .before .pre in
-    let same = c .before .before .before .before .before .before .before .memory2 .given ∙ c .before .before .before .before .before .before .before .before .before .before .before .before .before .before .memory .given in
-    (rack-kept (pre .0) same, (pre .1 .1 .1 .0, c .before .before .before .before .before .before .before .before .before .before .before .before .before .before .before .before .before .before .before .before .before .before .before .desk .given ∙ pre .1 .1 .1 .1))
+    let moved = c .before .before .before .before .before .before .before in
+    let restored = moved .before .before .before .before .before .before .before in
+    let read = restored .before .before .before .before .before .before .before .before .before in
+    let pre = read .before .before .before .before .before .before .before .before .before .before .before .pre in
+    let same = moved .memory2 .given ∙ restored .memory .given in
+    (rack-kept (pre .0) same, (pre .1 .1 .1 .0, read .desk .given ∙ pre .1 .1 .1 .1))
 
 returns : tie.Need-returns
 unfolding recoveredClosed
 returns c =
-    let moved = c .before .before .before .before .before .before .before .before .before .before .before .move-homes .ensures in
-    let restored = c .before .before .before .before .before .before .before .before .before .before .before .before .before .before .before .before .before .before in
+    let moving = c .before .before .before .before .before .before .before .before .before .before .before in
+    let moved = moving .move-homes .ensures in
+    let restored = moving .before .before .before .before .before .before .before in
     let way = restored .before .before .before .before .before in
     let read = way .before .before .before .before in
     let next = read .before .before .before in

@@ -16,8 +16,9 @@ close-releases-requires c κs =
 
 recover-closed-requires : tie.Need-recover-closed-requires
 recover-closed-requires c κs =
-    let same = c .before .before .before .before .before .memory .given in
-    let pre = c .before .before .before .before .before .before .before .before .before .before .before .before .before .before .pre in
+    let closed = c .before .before .before .before .before in
+    let same = closed .memory .given in
+    let pre = closed .before .before .before .before .before .before .before .before .before .pre in
     (rack-kept (pre .0) same, (homes-kept (pre .1 .0) same, (pre .1 .1 .0, pre .1 .1 .1 .0)))
 
 returns : tie.Need-returns

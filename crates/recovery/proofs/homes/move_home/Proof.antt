@@ -14,7 +14,7 @@ copy-page-requires c κs =
     let kept = next .before in
     let pre = kept .before .before .before .before .before .before .before .before .before .before .before .pre in
     rw (c .before .area-size .ensures, next .next-live-after .ensures) (
-      rw (kept .kept-home .ensures) (pre .1 .1 .1 .area),
+      rw (kept .kept-home .ensures) (pre .1 .1 .1 .1 .area),
       (area-in _ (next-below (pre .1 .0) _) (pre .0 .whole), omega arith),
     )
 
@@ -24,7 +24,8 @@ returns c =
     let size = c .before .before .before .before in
     let next = size .before in
     let kept = next .before in
-    let lost = sym (kept .before .before .before .before .lost-home .ensures) ∙ kept .before .before .before .if1 .taken in
+    let test = kept .before .before .before in
+    let lost = sym (test .before .lost-home .ensures) ∙ test .if1 .taken in
     rw lost (
       rw (size .area-size .ensures, next .next-live-after .ensures, kept .kept-home .ensures)
           at (c .before .before .copy-page .ensures),

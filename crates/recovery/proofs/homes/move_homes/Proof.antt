@@ -2,7 +2,6 @@
 use Prim.Native.Nat.{_-_}
 use mathlib.Core.Path.{_≡_, refl, _∙_}
 use native.Mathlib.Omega.{arith}
-use lib.ListN.{length}
 use Rattle.protocol.specs.Recovery.{copyToNewHomes}
 use Rattle.release.proofs.Callers.{homes-kept}
 use Rattle.recovery.specs.Rack.{rackOf}
@@ -43,18 +42,21 @@ move-home-requires c κs =
       (
         pre .1 .1,
         (
-          (omega arith, omega arith, below),
-          rw (same-kept far) (kept-in (start .args .failed) homes below),
+          below,
+          ((omega arith, omega arith), rw (same-kept far) (kept-in (start .args .failed) homes below)),
         ),
       ),
     )
 
 loop-again : tie.Need-loop-again Inv-loop μ-loop
 loop-again c =
-    let made = c .before .before .before .before .before .before in
+    let second = c .before in
+    let first = second .before .before in
+    let stored = first .before .before in
+    let made = stored .before in
     let turn = made .before .before .before .before in
-    moved-more (turn .before .loop .inv) (turn .loop-test .taken) (c .before .before .before .before .before .memory .given) (c .before .before .before .primary .given)
-    (c .before .secondary .given) (made .move-home .ensures .0) (made .move-home .ensures .1)
+    moved-more (turn .before .loop .inv) (turn .loop-test .taken) (stored .memory .given) (first .primary .given)
+    (second .secondary .given) (made .move-home .ensures .0) (made .move-home .ensures .1)
 
 returns : tie.Need-returns Inv-loop μ-loop
 unfolding copyToNewHomes

@@ -12,8 +12,9 @@ use Rattle.recovery.proofs.records.write_records.Tie as tie
 
 write-own-records-requires : tie.Need-write-own-records-requires
 write-own-records-requires c κs =
-    let pre = c .before .before .before .before .before .before .before .before .before .before .before .before .before .before .pre in
-    (rack-kept (pre .0) (c .before .before .before .before .before .memory .given), record { live-too = λ x up. up })
+    let failed = c .before .before .before .before .before in
+    let pre = failed .before .before .before .before .before .before .before .before .before .pre in
+    (rack-kept (pre .0) (failed .memory .given), record { live-too = λ x up. up })
 
 returns : tie.Need-returns
 unfolding writeFailed writeRecord
