@@ -5,7 +5,7 @@ ghost use Prim.Native.Nat.{_+_, _<_, _≤_};
 ghost use lib.ListN.{length};
 ghost use Rattle.directory.specs.Live.{firstLive, nextLive};
 ghost use Rattle.directory.specs.Directory.{nextLiveOf, backupOf};
-ghost use Rattle.directory.specs.Directory.{markedDead, markedLive, withHomes, withStatus};
+ghost use Rattle.directory.specs.Directory.{markedDead, markedLive, withHomes};
 ghost use Rattle.directory.specs.Directory.{formattedMarks, formattedPrimary};
 ghost use Rattle.directory.specs.Directory.{formattedSecondary, table};
 ghost use Rattle.directory.specs.Directory.{formattedDirectory, emptyDirectory};
@@ -103,23 +103,6 @@ impl Directory {
             self.secondary[at] = secondary;
         }
         self
-    }
-
-    // A field that is an enum is not stored to: the struct is made anew.
-    pub fn set_status(self, status: Status) -> Self
-        ensures { λ r. ⌜ r ≡ withStatus self status ⌝ }
-    {
-        let live = self.live;
-        let primary = self.primary;
-        let secondary = self.secondary;
-        Directory {
-            cards: self.cards,
-            pages: self.pages,
-            live,
-            primary,
-            secondary,
-            status,
-        }
     }
 }
 

@@ -195,7 +195,8 @@ pub fn fetch_page(memory: &[u32], directory: Directory, page: u32, buffer: &mut 
     Reply { directory, answer }
 }
 
-// The directory of a rack, by its parts.
+// The directory of a rack, by its parts. A field that is an enum is not stored to: the struct is
+// made anew.
 fn rack_of(
     cards: u32,
     pages: u32,
