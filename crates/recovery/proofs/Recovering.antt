@@ -43,14 +43,14 @@ module _ (d : Directory) where
     unfolding writeFailed
     same-failed r holder m = refl
 
-    pub records-by-marks : (r : Release) (m : List ℕ)
+    pub records-by-marks : {before : List Bool} → before ≡ set (d .live) f true → (r : Release) (m : List ℕ)
         → inTurn
-        (writeOwnRecord (sizeOf d) (backedBy (d .live) (set (d .live) f true) (d .cards) f) (backupOf d))
+        (writeOwnRecord (sizeOf d) (backedBy (d .live) before (d .cards) f) (backupOf d))
         (d .cards)
         (inTurn (writeFailed (marksOf (d .cards) (d .pages) (d .live)) f r) (d .cards) m)
         ≡ writeRecords d f r m
     unfolding writeRecords
-    records-by-marks r m = ap (inTurn _ (d .cards)) (in-turn-same _ _ (same-failed r) (d .cards) m)
+    records-by-marks marked r m = rw marked (ap (inTurn _ (d .cards)) (in-turn-same _ _ (same-failed r) (d .cards) m))
 
     same-run : (c : ℕ) (m : List ℕ) → runToClose (rack d) f c m ≡ runToClose d f c m
     unfolding runToClose
@@ -68,7 +68,8 @@ module _ (d : Directory) where
 module _ (d : Directory) (f : ℕ) where
   pub same-records : (r : Release) (m : List ℕ)
       → writeRecords (marksOf (d .cards) (d .pages) (d .live)) f r m ≡ writeRecords d f r m
-  same-records r m = sym (records-by-marks (marksOf (d .cards) (d .pages) (d .live)) f r m) ∙ records-by-marks d f r m
+  same-records r m =
+      sym (records-by-marks (marksOf (d .cards) (d .pages) (d .live)) f refl r m) ∙ records-by-marks d f refl r m
 
   -- ---- the whole looks at all but the status
 

@@ -24,9 +24,9 @@ returns c =
     let marks = settled .before in
     let a = marks .before .before .before .args in
     let stored = rw (settled .settled-record .ensures) at (failed .write-failed-records .ensures) in
-    (rw (stored, marks .marked .ensures) at (c .before .before .write-own-records .ensures))
-    ∙ records-by-marks (marksOf (a .cards) (a .pages) (a .t4)) (a .failed) (releaseOf (a .number) (a .desk .now))
-    (a .memory .now)
+    (rw stored at (c .before .before .write-own-records .ensures))
+    ∙ records-by-marks (marksOf (a .cards) (a .pages) (a .t4)) (a .failed) (marks .marked .ensures)
+    (releaseOf (a .number) (a .desk .now)) (a .memory .now)
 
 pub write-records-spec : {M : Type 1} → statement M
 write-records-spec =
