@@ -26,8 +26,10 @@ run-release-requires c κs =
     let rack = rackOf (a .cards) (a .pages) (a .t4) (a .primary .now) (a .secondary .now) in
     let opened = (rw (size .area-size .ensures) at (sym (test .before .is-open .ensures))) ∙ test .if1 .taken in
     let backup = backup-in rack (a .failed) (a .card) (a .memory .now) (pre .0) (pre .1 .1 .0 .0) (pre .1 .1 .0 .1)
-    opened in
-    (pre .1 .0, (rack-card (pre .0) (pre .1 .1 .0 .1), (rw (told .backup-before .ensures) backup, pre .1 .1 .1 opened)))
+    opened in (
+      pre .1 .0,
+      (rack-card (pre .0) (pre .1 .1 .0 .1), (rw (told .backup-before .ensures) backup, pre .1 .1 .1 opened)),
+    )
 
 returns : tie.Need-returns
 returns c =
