@@ -1,9 +1,10 @@
 -- Rests on its checks: an accepted recovery finds two live cards, homes that are cards and releases that read well.
-use mathlib.Core.Path.{_≡_, refl, _∙_}
+use mathlib.Core.Path.{_≡_, refl, ap, _∙_}
 use native.Mathlib.Omega.{arith}
 use borrow.Author.Needs.{needs, length-unmapped}
 use borrow.Author.Tests.{ne-eqb}
 use lib.ListN.{length}
+use Rattle.answer.specs.declared.Answer.the-variants.{Given}
 use Rattle.recovery.proofs.Recovering.{failed-by-rack, memory-by-rack, directory-by-rack}
 use Rattle.rack.proofs.Fitting.{fitting, rack-in, homes-in}
 use Rattle.rack.proofs.Results.{recovery-facts, recovery-refused, recovery-accepted}
@@ -54,7 +55,7 @@ returns-2 c =
     let desk = rw (failed-by-rack d _ m) at (done .1 .0) in
     let recovered = c .rack-of .ensures ∙ done .1 .1 .1 ∙ directory-by-rack d _ in
     rw (recovery-accepted d m (first .recovery .ensures) (test .if1 .left))
-    (rw told, (recovered, (desk, done .1 .1 .0 ∙ memory-by-rack d _ m)))
+    (ap Given told, (recovered, (desk, done .1 .1 .0 ∙ memory-by-rack d _ m)))
 
 pub recover-card-spec : {M : Type 1} → statement M
 recover-card-spec =
