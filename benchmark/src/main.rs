@@ -112,9 +112,15 @@ fn recoveries() {
 
 /// The list maker has no directory: the second implementation's is timed once.
 fn lists() {
+    list_made("list maker, 64 pages, 40 prices", (0..PRICES as usize).map(|at| 51 * at));
+    list_made("list maker, 64 pages, 480 prices on 15 pages", 0..480);
+}
+
+/// A list of the given labels, which differ on the working pages.
+fn list_made(name: &str, labels: impl Iterator<Item = usize>) {
     let twins = vec![7u32; 32 * 64];
     let mut working = twins.clone();
-    (0..PRICES as usize).for_each(|at| working[51 * at] = 8);
+    labels.for_each(|label| working[label] = 8);
     let (mut first, mut other) = (vec![0u32; 512], vec![0u32; 512]);
     let mut proved = || {
         let (list, room) = (black_box(&mut first).as_mut_ptr(), 512);
@@ -126,7 +132,7 @@ fn lists() {
         black_box(second::make_list(&working, &twins, black_box(&mut other)));
     };
     let [proved, second] = in_turn([&mut proved, &mut second]);
-    row(&format!("list maker, 64 pages, {PRICES} prices"), &[proved, second, second]);
+    row(name, &[proved, second, second]);
 }
 
 fn formattings() {

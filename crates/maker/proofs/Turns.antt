@@ -1,19 +1,20 @@
 -- One turn of a loop over the labels: what one label brings to the changes, to a run and to the words of the diff.
-use Prim.Native.Nat.{ℕ, suc, _+_, _*_, _/_, _%_, _≤_, _<_}
-use mathlib.Core.Path.{_≡_, refl, _∙_}
+use Prim.Native.Nat.{ℕ, zero, suc, _+_, _-_, _*_, _/_, _%_, _≤_, _<_}
+use mathlib.Core.Path.{_≡_, refl, ap, _∙_}
 use mathlib.Core.Logic.{_≢_}
 use mathlib.Core.List.{List, [], _∷_, _++_}
 use mathlib.Core.Bool.{Bool, true, false}
 use native.Mathlib.Omega.{arith}
+use native.Mathlib.Decide.{ℕ-discrete, decLt}
 use native.Mathlib.Nat.{zero-add}
 use native.Mathlib.Numerals.{add-one}
-use lib.ListN.{length, set, take, drop, getD, drop-of-length-le, length-drop, length-append}
+use lib.ListN.{length, set, take, drop, getD, drop-of-length-le, length-take, length-drop, length-append}
 use lib.Seq.{drop-cons, sets, take-append-seam}
 use Rattle.laws.proofs.Lists.{sets-append, sets-front}
 use Rattle.diff.specs.Format.{pageWord, runWord, endWord}
 use Rattle.diff.specs.declared.Price.{Price}
 use Rattle.diff.specs.Prices.{labelOf}
-use Rattle.diff.specs.Making.{follows, runLength, madeDiff}
+use Rattle.diff.specs.Making.{priceAt, follows, runLength, header, madeDiff}
 use Rattle.diff.specs.OnlyDiff.{Differs}
 use Rattle.diff.proofs.Encoding.{Ascending, none, more, follows-page, follows-word}
 use Rattle.diff.proofs.Encoding.{run-goes-on, run-stops, run-last, follows-yes, header-page, header-run, header-none}
@@ -104,22 +105,19 @@ module _ {working twins : List ℕ} (lent : Lent working twins) (label : ℕ) wh
       rw (changes-on-differ lent (label + 1) within differ)
       (run-goes-on p q _ (follows-yes p q (omega arith) (omega arith)))
 
--- ---- what stands before the price of a label that differs
+-- ---- what stands before the prices of a run
 
-module _ (working twins : List ℕ) (next label : ℕ) where
-  pub header-at-page : next ≤ label / 32 * 32
-      → headerAt working twins next label
-      ≡ pageWord (label / 32) ∷ runWord (label % 32) (runAt working twins label) ∷ []
-  header-at-page fresh = header-page next (workingPrice working label) (runAt working twins label) (omega arith)
+module _ (next label run : ℕ) where
+  pub header-at-page : next ≤ label / 32 * 32 → (price : ℕ)
+      → header next (priceAt label price) run ≡ pageWord (label / 32) ∷ runWord (label % 32) run ∷ []
+  header-at-page fresh price = header-page next (priceAt label price) run (omega arith)
 
-  pub header-at-none : label / 32 * 32 < next → next ≡ label → headerAt working twins next label ≡ []
-  header-at-none named on =
-      header-none next (workingPrice working label) (runAt working twins label) (omega arith) (omega arith)
+  pub header-at-none : label / 32 * 32 < next → next ≡ label → (price : ℕ) → header next (priceAt label price) run ≡ []
+  header-at-none named on price = header-none next (priceAt label price) run (omega arith) (omega arith)
 
-  pub header-at-run : label / 32 * 32 < next → next ≢ label
-      → headerAt working twins next label ≡ runWord (label % 32) (runAt working twins label) ∷ []
-  header-at-run named apart =
-      header-run next (workingPrice working label) (runAt working twins label) (omega arith) (omega arith)
+  pub header-at-run : label / 32 * 32 < next → next ≢ label → (price : ℕ)
+      → header next (priceAt label price) run ≡ runWord (label % 32) run ∷ []
+  header-at-run named apart price = header-run next (priceAt label price) run (omega arith) (omega arith)
 
 -- ---- the words of the diff
 
@@ -154,16 +152,101 @@ module _ {working twins : List ℕ} {next label : ℕ} (skipped : NoChange worki
         rw (skipped .same, changes-on-differ lent label within differ)
         (rw label-at at (encode-price next (workingPrice working label) (changesOn working twins (label + 1)) _ refl))
 
-    pub length-body-on :
-        length (bodyOn working twins next)
-        ≡ length (headerAt working twins next label) + 1 + length (bodyOn working twins (label + 1))
-    length-body-on = rw (body-on-differ, length-append) (omega arith)
+    pub some-body : 0 < length (bodyOn working twins next)
+    some-body = rw (body-on-differ, length-append) (omega arith)
 
-    -- a label's words are stored, and those of the labels after it are still to be stored behind them
-    pub body-on-stored : (list : List ℕ) (at : ℕ)
-        → let after = at + length (headerAt working twins next label) in
-        sets (set (sets list at (headerAt working twins next label)) after (getD working label 0)) (after + 1)
-        (bodyOn working twins (label + 1))
-        ≡ sets list at (bodyOn working twins next)
-    body-on-stored list at =
-        rw (body-on-differ, sets-append, add-one (at + length (headerAt working twins next label)))
+-- the prices of a run stand one after the other
+module _ {working twins : List ℕ} (lent : Lent working twins) where
+  -- a run of two words or more goes on with the next word
+  record GoesOn (label rest : ℕ) : Type 0 where
+    within : label + 1 < length working
+    inside : (label + 1) % 32 ≢ 0
+    differs : Differs working twins (label + 1)
+    left : runAt working twins (label + 1) ≡ rest
+
+  goes-on : (n label : ℕ) → runAt working twins label ≡ suc (suc n) → GoesOn label (suc n)
+  goes-on n label long =
+      elim (decLt (label + 1) (length working)) [
+        | yes within ↦ elim (ℕ-discrete ((label + 1) % 32) 0) [
+          | yes page ↦ absurd (omega (arith, run-at-page-end lent label within page))
+          | no inside ↦ elim (ℕ-discrete (getD working (label + 1) 0) (getD twins (label + 1) 0)) [
+            | yes same ↦ absurd (omega (arith, run-at-same lent label within same))
+            | no differ ↦ record {
+              within = within;
+              inside = inside;
+              differs = differ;
+              left = omega (arith, run-at-differ lent label within inside differ);
+            }
+          ]
+        ]
+        | no past ↦ absurd (omega (arith, run-at-end lent label (omega arith)))
+      ]
+
+  run-prices : (n label : ℕ) → label < length working → runAt working twins label ≡ suc n
+      → getD working label 0 ∷ bodyOn working twins (label + 1)
+      ≡ take (suc n) (drop label working) ++ bodyOn working twins (label + suc n)
+  run-prices zero label within is = rw (drop-cons working label 0 within)
+  run-prices (suc n) label within is =
+      let on = goes-on n label is in
+      let start = no-change-yet {working = working} twins (label + 1) (omega (arith, on .within)) in
+      let none =
+      header-at-none (label + 1) (label + 1) (runAt working twins (label + 1)) (omega (arith, on .inside)) refl
+      (getD working (label + 1) 0)
+      in
+      let next = rw none at (body-on-differ start lent (on .within) (on .differs)) in
+      let rest = next ∙ run-prices n (label + 1) (on .within) (on .left) in
+      let sum : label + 1 + suc n ≡ label + suc (suc n) = omega arith in
+      let first : drop label working ≡ getD working label 0 ∷ drop (label + 1) working =
+      rw (add-one label) (drop-cons working label 0 within)
+      in
+      rw first (ap (λ ws. getD working label 0 ∷ ws) (rw sum at rest))
+
+run-some : (p : Price) (ps : List Price) → 0 < runLength p ps
+unfolding runLength
+run-some p [] = omega arith
+run-some p (q ∷ qs) = omega arith
+
+pub run-at-some : (working twins : List ℕ) (label : ℕ) → 0 < runAt working twins label
+run-at-some working twins label = run-some (workingPrice working label) (changesOn working twins (label + 1))
+
+-- a run after labels that do not differ: its header, its prices, and what the labels after it bring
+module _ {working twins : List ℕ} {next label run : ℕ} (skipped : NoChange working twins next label)
+    (lent : Lent working twins) (within : label < length working) (differ : Differs working twins label)
+    (counted : run ≡ runAt working twins label) (fits : label + run ≤ length working) where
+  abbrev before : List ℕ
+  before = header next (workingPrice working label) run
+
+  abbrev prices : List ℕ
+  prices = take run (drop label working)
+
+  whole-run : getD working label 0 ∷ bodyOn working twins (label + 1) ≡ prices ++ bodyOn working twins (label + run)
+  whole-run =
+      let some = run-at-some working twins label in
+      let is : run ≡ suc (run - 1) = omega (arith, counted) in
+      rw is (run-prices lent (run - 1) label within (omega (arith, counted)))
+
+  body-on-run : bodyOn working twins next ≡ before ++ (prices ++ bodyOn working twins (label + run))
+  body-on-run = body-on-differ skipped lent within differ ∙ rw (← counted) (ap (λ ws. before ++ ws) whole-run)
+
+  length-prices : length prices ≡ run
+  length-prices = simp (length-take, length-drop) (omega arith)
+
+  module _ (words : ℕ) {after : ℕ} (stopped : after ≡ words + length before) where
+    -- its words are counted
+    pub run-counts : {whole : ℕ} → words + length (bodyOn working twins next) + 1 ≡ whole
+        → after + run + length (bodyOn working twins (label + run)) + 1 ≡ whole
+    run-counts sum =
+        let parts =
+        ap length body-on-run ∙ length-append before _
+        ∙ ap (λ n. length before + n) (length-append prices (bodyOn working twins (label + run)))
+        in
+        omega (arith, sum, stopped, parts, length-prices)
+
+    -- and stored; those of the labels after it are still to be stored behind them
+    pub run-stored : (list : List ℕ) {headed priced whole : List ℕ}
+        → sets list words (bodyOn working twins next) ≡ whole → headed ≡ sets list words before
+        → priced ≡ sets headed after (take (label + run - label) (drop label working))
+        → sets priced (after + run) (bodyOn working twins (label + run)) ≡ whole
+    run-stored list sum heads stores =
+        let many : label + run - label ≡ run = omega arith in
+        rw (stores, many, heads, stopped) (rw (body-on-run, sets-append, sets-append, length-prices) at sum)

@@ -1,14 +1,14 @@
 // The list maker: the diff between working pages and their twins, written into a lent buffer.
 ghost use mathlib.Core.Path.{_≡_};
 ghost use mathlib.Core.Bool.{true};
-ghost use Prim.Native.Nat.{_+_, _%_, _<_, _≤_};
+ghost use Prim.Native.Nat.{ℕ, _+_, _%_, _<_, _≤_};
 ghost use lib.ListN.{length};
 ghost use lib.Seq.{sets};
 ghost use Rattle.answer.specs.Outcome.{answerOf};
 ghost use Rattle.diff.specs.Format.{runWord};
-ghost use Rattle.diff.specs.Making.{madeDiff, lentPages, makeDiff, bufferAfter};
+ghost use Rattle.diff.specs.Making.{priceAt, header, madeDiff, lentPages, makeDiff, bufferAfter};
 ghost use Rattle.diff.specs.OnlyDiff.{Differs};
-ghost use Rattle.maker.specs.AtLabel.{Lent, NoChange, runAt, headerAt};
+ghost use Rattle.maker.specs.AtLabel.{Lent, NoChange, runAt};
 use answer::Answer;
 
 // Whether the eight words from a label on are equal to their twins. The loop has no other end than
@@ -77,7 +77,8 @@ fn next_change(working: &[u32], twins: &[u32], from: usize) -> usize
 fn run_length(working: &[u32], twins: &[u32], label: usize) -> usize
     requires { ⌜ Lent (now working) (now twins) ⌝ }
     requires { ⌜ label < length (now working) ⌝ }
-    ensures within { λ r. ⌜ label % 32 + r ≤ 32 ⌝ }
+    ensures on_page { λ r. ⌜ label % 32 + r ≤ 32 ⌝ }
+    ensures within { λ r. ⌜ label + r ≤ length (now (working .entry)) ⌝ }
     ensures counted { λ r. ⌜ r ≡ runAt (now (working .entry)) (now (twins .entry)) label ⌝ }
 {
     let mut last = label;
@@ -94,54 +95,41 @@ fn run_length(working: &[u32], twins: &[u32], label: usize) -> usize
     last + 1 - label
 }
 
-// The word of the run that a label that differs starts.
-fn run_word(working: &[u32], twins: &[u32], label: usize) -> u32
-    requires { ⌜ Lent (now working) (now twins) ⌝ }
-    requires { ⌜ label < length (now working) ⌝ }
-    ensures { λ r. ⌜ r
-        ≡ runWord (label % 32) (runAt (now (working .entry)) (now (twins .entry)) label) ⌝ }
+// The word of a run that starts at a label.
+fn run_word(label: usize, run: usize) -> u32
+    requires { ⌜ label % 32 + run ≤ 32 ⌝ }
+    ensures { λ r. ⌜ r ≡ runWord (label % 32) run ⌝ }
 {
-    let run = run_length(working, twins, label);
     0x20000000 + ((label % 32) * 0x10000 + run) as u32
 }
 
-// Writes what stands before the price of a label that differs, from `at` on, and says where it
-// stopped. `next` is one more than the label named last, 0 before the first.
-fn write_header(
-    working: &[u32],
-    twins: &[u32],
-    next: usize,
-    label: usize,
-    list: &mut [u32],
-    at: usize,
-) -> usize
-    requires { ⌜ Lent (now working) (now twins) ⌝ }
-    requires { ⌜ label < length (now working) ⌝ }
+// Writes what stands before the prices of a run, from `at` on, and says where it stopped. `next` is
+// one more than the label named last, 0 before the first.
+fn write_header(next: usize, label: usize, run: usize, list: &mut [u32], at: usize) -> usize
+    requires { ⌜ (label < 2048) × (label % 32 + run ≤ 32) ⌝ }
     requires { ⌜ at + 2 ≤ length (now list) ⌝ }
     ensures short { λ r. ⌜ r ≤ at + 2 ⌝ }
-    ensures stopped { λ r. ⌜ r
-        ≡ at + length (headerAt (now (working .entry)) (now (twins .entry)) next label) ⌝ }
-    ensures written { λ _. ⌜ now (list .exit)
-        ≡ sets (now (list .entry)) at
-        (headerAt (now (working .entry)) (now (twins .entry)) next label) ⌝ }
+    ensures stopped { λ r. ⌜ ((price : ℕ) → r ≡ at + length (header next (priceAt label price) run)) ⌝ }
+    ensures written { λ _. ⌜ ((price : ℕ) → now (list .exit)
+        ≡ sets (now (list .entry)) at (header next (priceAt label price) run)) ⌝ }
 {
     if next <= label / 32 * 32 {
         list[at] = 0x10000000 + (label / 32) as u32;
-        list[at + 1] = run_word(working, twins, label);
+        list[at + 1] = run_word(label, run);
         return at + 2;
     }
     if next == label {
         return at;
     }
-    list[at] = run_word(working, twins, label);
+    list[at] = run_word(label, run);
     at + 1
 }
 
 // Writes the diff into a list and gives its length, or 513 if it has over 512 words. The list has
-// room for three words of a label after 510 others, and for the end word.
+// room for two words and 32 prices of a run after 510 others, and for the end word.
 fn write_diff(working: &[u32], twins: &[u32], list: &mut [u32]) -> usize
     requires { ⌜ Lent (now working) (now twins) ⌝ }
-    requires { ⌜ length (now list) ≡ 514 ⌝ }
+    requires { ⌜ length (now list) ≡ 545 ⌝ }
     ensures over { λ r. ⌜ (512 < r
         → 512 < length (madeDiff (now (working .entry)) (now (twins .entry)))) ⌝ }
     ensures counted { λ r. ⌜ (r ≤ 512
@@ -160,10 +148,11 @@ fn write_diff(working: &[u32], twins: &[u32], list: &mut [u32]) -> usize
         if 510 < words {
             return 513;
         }
-        words = write_header(working, twins, next, label, list, words);
-        list[words] = working[label];
-        words += 1;
-        next = label + 1;
+        let run = run_length(working, twins, label);
+        words = write_header(next, label, run, list, words);
+        next = label + run;
+        memory::store_run_in(list, words, &working[label..next]);
+        words += run;
     }
     list[words] = 0xF0000000 + words as u32;
     words + 1
@@ -193,7 +182,7 @@ pub fn make(working: &[u32], twins: &[u32], buffer: &mut [u32]) -> Answer
         ≡ bufferAfter (now (working .entry)) (now (twins .entry)) (now (buffer .entry)) ⌝ }
 {
     if lent_pages(working.len(), twins.len()) {
-        let mut list = [0u32; 514];
+        let mut list = [0u32; 545];
         let words = write_diff(working, twins, &mut list);
         if 512 < words {
             return Answer::Refused(answer::WRONG_BUFFER, 0);
