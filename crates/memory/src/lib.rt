@@ -96,6 +96,7 @@ pub fn load_run(memory: &[u32], size: usize, card: usize, offset: usize, buffer:
     copy_words(&memory[from..end], buffer);
 }
 
+// Stores words in an area, or in any other slice, from an offset on.
 pub fn store_run_in(area: &mut [u32], offset: usize, words: &[u32])
     requires { ⌜ offset + length (now words) ≤ length (now area) ⌝ }
     ensures { λ _. ⌜ now (area .exit) ≡ sets (now (area .entry)) offset (now (words .entry)) ⌝ }
