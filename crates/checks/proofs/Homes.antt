@@ -14,7 +14,7 @@ use Rattle.directory.specs.declared.Status.{Status}
 use Rattle.directory.specs.Live.{liveAt}
 use Rattle.directory.specs.Directory.{primaryOf, secondaryOf}
 use Rattle.protocol.specs.Checks.{badHome, badPage}
-use Rattle.checks.specs.Homes.{misplacedPage}
+use Rattle.checks.specs.Homes.{misplaced, misplacedPage}
 
 module _ (cards : ℕ) (marks : List Bool) (all : countBelow (liveAt marks) cards ≡ cards) where
   bad-number : (status : Status) (home : ℕ) → badHome cards marks status home ≡ leb cards home
@@ -28,7 +28,7 @@ module _ (cards : ℕ) (marks : List Bool) (all : countBelow (liveAt marks) card
 -- so some page has bad homes if some page has such numbers
 pub all-live : (d : Directory) → countBelow (liveAt (d .live)) (d .cards) ≡ d .cards
     → someBelow (misplacedPage (d .cards) (d .primary) (d .secondary)) (d .pages) ≡ someBelow (badPage d) (d .pages)
-unfolding badPage misplacedPage
+unfolding badPage misplaced
 all-live d all = rw (lowest-same (misplacedPage (d .cards) (d .primary) (d .secondary)) (badPage d) same 0 (d .pages))
   where
     same : (p : ℕ) → misplacedPage (d .cards) (d .primary) (d .secondary) p ≡ badPage d p

@@ -6,7 +6,8 @@ use lib.ListN.{getD}
 use lib.Dec.{leb, eqb}
 
 -- they are the same, or one of them is not below the number of cards
-unfoldable pub misplacedPage : ℕ → List ℕ → List ℕ → ℕ → Bool
-misplacedPage cards primary secondary p =
-    eqb (getD primary p 0) (getD secondary p 0)
-    || (leb cards (getD primary p 0) || leb cards (getD secondary p 0))
+unfoldable pub misplaced : ℕ → ℕ → ℕ → Bool
+misplaced cards first second = eqb first second || (leb cards first || leb cards second)
+
+abbrev pub misplacedPage : ℕ → List ℕ → List ℕ → ℕ → Bool
+misplacedPage cards primary secondary p = misplaced cards (getD primary p 0) (getD secondary p 0)

@@ -3,9 +3,7 @@
 // one by one: a directory handed on by value would be copied at each call.
 ghost use mathlib.Core.Path.{_≡_};
 ghost use Prim.Native.Nat.{_*_, _<_, _≤_};
-ghost use mathlib.Core.Bool.{_||_};
 ghost use lib.ListN.{length};
-ghost use lib.Dec.{leb, eqb};
 ghost use Rattle.laws.specs.Search.{someBelow, countBelow};
 ghost use Rattle.memory.specs.Layout.{areaSize};
 ghost use Rattle.memory.specs.Area.{AreaIn};
@@ -14,7 +12,7 @@ ghost use Rattle.directory.specs.Directory.{directoryOf, awaitsCard};
 ghost use Rattle.protocol.specs.Checks.{outsideLimits, badHome, badPage, badStatus, badRelease};
 ghost use Rattle.protocol.specs.Checks.{badCard, unfitRack, firstRefusal, fittingChecks};
 ghost use Rattle.protocol.specs.Checks.{runningChecks, cardChecks, liveCardChecks};
-ghost use Rattle.checks.specs.Homes.{misplacedPage};
+ghost use Rattle.checks.specs.Homes.{misplaced, misplacedPage};
 use diff::Verdict;
 use directory::Status;
 
@@ -141,7 +139,7 @@ fn bad_pages(
 
 // Whether the homes of a page are the same, or one of them is no card of the rack.
 fn misplaced(cards: u32, first: u32, second: u32) -> bool
-    ensures { λ r. ⌜ r ≡ eqb first second || (leb cards first || leb cards second) ⌝ }
+    ensures { λ r. ⌜ r ≡ misplaced cards first second ⌝ }
 {
     if first == second {
         return true;

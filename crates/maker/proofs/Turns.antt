@@ -1,4 +1,5 @@
--- One turn of a loop over the labels: what one label brings to the changes, to a run and to the words of the diff.
+-- One turn of a loop over the labels: what one label brings to the changes and to a run, and a run to the words of the
+-- diff.
 use Prim.Native.Nat.{ℕ, zero, suc, _+_, _-_, _*_, _/_, _%_, _≤_, _<_}
 use mathlib.Core.Path.{_≡_, refl, ap, _∙_}
 use mathlib.Core.Logic.{_≢_}

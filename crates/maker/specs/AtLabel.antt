@@ -1,6 +1,6 @@
 -- What one label that differs, and the labels from one on, bring to the made diff.
 -- Assumes nothing: these are definitions.
-use Prim.Native.Nat.{ℕ, _+_, _≤_}
+use Prim.Native.Nat.{ℕ, _+_, _<_, _≤_}
 use mathlib.Core.Path.{_≡_}
 use mathlib.Core.List.{List}
 use lib.ListN.{length, drop, getD}
@@ -21,6 +21,10 @@ pub record NoChange (working twins : List ℕ) (from to : ℕ) : Type 0 where
   pub after : from ≤ to
   pub within : to ≤ length working
   pub same : changesOn working twins from ≡ changesOn working twins to
+
+-- the eight words from a label on are equal to their twins
+abbrev pub EightSame : List ℕ → List ℕ → ℕ → Type 0
+EightSame working twins label = (i : ℕ) → i < 8 → getD working (label + i) 0 ≡ getD twins (label + i) 0
 
 -- a label's price on the working pages
 abbrev pub workingPrice : List ℕ → ℕ → Price

@@ -8,7 +8,7 @@ ghost use Rattle.answer.specs.Outcome.{answerOf};
 ghost use Rattle.diff.specs.Format.{runWord};
 ghost use Rattle.diff.specs.Making.{priceAt, header, madeDiff, lentPages, makeDiff, bufferAfter};
 ghost use Rattle.diff.specs.OnlyDiff.{Differs};
-ghost use Rattle.maker.specs.AtLabel.{Lent, NoChange, runAt};
+ghost use Rattle.maker.specs.AtLabel.{Lent, NoChange, EightSame, runAt};
 use answer::Answer;
 
 // Whether the eight words from a label on are equal to their twins. The loop has no other end than
@@ -16,8 +16,10 @@ use answer::Answer;
 fn same_eight(working: &[u32], twins: &[u32], label: usize) -> bool
     requires { ⌜ Lent (now working) (now twins) ⌝ }
     requires { ⌜ label + 8 ≤ length (now working) ⌝ }
-    ensures { λ r. ⌜ (r ≡ true
+    ensures same { λ r. ⌜ (r ≡ true
         → NoChange (now (working .entry)) (now (twins .entry)) label (label + 8)) ⌝ }
+    ensures seen { λ r. ⌜ (EightSame (now (working .entry)) (now (twins .entry)) label
+        → r ≡ true) ⌝ }
 {
     let mut same = true;
     let mut i: usize = 0;
@@ -36,7 +38,9 @@ fn same_eight(working: &[u32], twins: &[u32], label: usize) -> bool
 fn skip_same(working: &[u32], twins: &[u32], from: usize) -> usize
     requires { ⌜ Lent (now working) (now twins) ⌝ }
     requires { ⌜ from ≤ length (now working) ⌝ }
-    ensures { λ r. ⌜ NoChange (now (working .entry)) (now (twins .entry)) from r ⌝ }
+    ensures same { λ r. ⌜ NoChange (now (working .entry)) (now (twins .entry)) from r ⌝ }
+    ensures far { λ r. ⌜ (r + 8 ≤ length (now (working .entry))
+        → EightSame (now (working .entry)) (now (twins .entry)) r → ⊥) ⌝ }
 {
     let mut label = from;
     while label + 8 <= working.len() {
@@ -125,8 +129,9 @@ fn write_header(next: usize, label: usize, run: usize, list: &mut [u32], at: usi
     at + 1
 }
 
-// Writes the diff into a list and gives its length, or 513 if it has over 512 words. The list has
-// room for two words and 32 prices of a run after 510 others, and for the end word.
+// Writes the diff into a list and gives its length, or some number over 512 if it has over 512
+// words. The list has room for two words and 32 prices of a run after 510 others, and for the end
+// word.
 fn write_diff(working: &[u32], twins: &[u32], list: &mut [u32]) -> usize
     requires { ⌜ Lent (now working) (now twins) ⌝ }
     requires { ⌜ length (now list) ≡ 545 ⌝ }

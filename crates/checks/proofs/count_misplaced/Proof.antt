@@ -19,13 +19,11 @@ add-count : tie.Need-add-count Inv-loop μ-loop
 add-count c = omega (arith, counted-few (c .before .before .before .before .before .loop .inv))
 
 loop-again : tie.Need-loop-again Inv-loop μ-loop
-unfolding misplacedPage
 loop-again c =
     let turn = c .before .before .before .before .before in
     counted-hit (turn .loop .inv) (omega arith) (sym (c .before .misplaced .ensures) ∙ c .if1 .taken)
 
 loop-again-2 : tie.Need-loop-again-2 Inv-loop μ-loop
-unfolding misplacedPage
 loop-again-2 c =
     let turn = c .before .before .before .before .before in
     counted-miss (turn .loop .inv) (omega arith) (sym (c .before .misplaced .ensures) ∙ c .if1 .left)

@@ -18,7 +18,7 @@ returns : tie.Need-returns Inv-loop μ-loop
 returns c = (no-change-yet _ _ (omega arith), λ within. c .if2 .taken)
 
 loop-holds : tie.Need-loop-holds Inv-loop μ-loop
-loop-holds c = c .skip-same .ensures
+loop-holds c = c .skip-same .ensures .0
 
 returns-2 : tie.Need-returns-2 Inv-loop μ-loop
 returns-2 c = (c .before .before .before .before .loop .inv, λ within. c .if3 .taken)

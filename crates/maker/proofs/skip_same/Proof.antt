@@ -1,5 +1,8 @@
--- `maker::skip_same` meets its contract. The loop's invariant: no label passed differs.
+-- `maker::skip_same` meets its contract. The loop's invariant: no label passed differs; it stops where one of the next
+-- eight does.
 use Prim.Native.Nat.{_-_}
+use mathlib.Core.Path.{sym, _∙_}
+use mathlib.Core.Bool.{true≢false}
 use native.Mathlib.Omega.{arith}
 use borrow.Author.Needs.{needs}
 use lib.ListN.{length}
@@ -18,13 +21,17 @@ loop-holds : tie.Need-loop-holds Inv-loop μ-loop
 loop-holds c = no-change-yet _ _ (omega arith)
 
 loop-again : tie.Need-loop-again Inv-loop μ-loop
-loop-again c = no-change-more (c .before .before .before .loop .inv) (c .before .same-eight .ensures (c .if1 .taken))
+loop-again c =
+    let equal = c .before .same-eight .ensures .0 in
+    no-change-more (c .before .before .before .loop .inv) (equal (c .if1 .taken))
 
 returns : tie.Need-returns Inv-loop μ-loop
-returns c = c .before .before .before .loop .inv
+returns c =
+    let seen = c .before .same-eight .ensures .1 in
+    (c .before .before .before .loop .inv, λ room eight. true≢false (sym (seen eight) ∙ c .if1 .left))
 
 returns-2 : tie.Need-returns-2 Inv-loop μ-loop
-returns-2 c = c .before .loop .inv
+returns-2 c = (c .before .loop .inv, λ room eight. omega arith)
 
 pub skip-same-spec : {M : Type 1} → statement M
 skip-same-spec =
