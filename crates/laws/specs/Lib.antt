@@ -1,2 +1,3 @@
 -- Definitions that several crates cite.
 pub mod Search
+pub mod Examples
