@@ -1,4 +1,5 @@
 -- Laws on diffs.
+pub mod Examples
 pub mod Reading
 pub mod Derivation
 pub mod Stored

@@ -4,3 +4,4 @@ pub mod Reading
 pub mod Prices
 pub mod Making
 pub mod OnlyDiff
+pub mod Examples

@@ -1,7 +1,9 @@
 // The diff (document 01's list of changes): its definitions, and the theorem on the one that two
 // states of the pages make.
 // The types are declared here; the code that reads and makes diffs stands in the crates above.
+ghost use Rattle.laws.specs.Examples.{AllHold};
 ghost use Rattle.diff.specs.OnlyDiff.{MadeIsOnlyDiff};
+ghost use Rattle.diff.specs.Examples.{examples};
 
 // Where the reading of a diff stands.
 pub struct Cursor {
@@ -47,4 +49,9 @@ pub struct Price {
 // that document 01 allows for those changes. It does nothing when it is called.
 pub fn made_is_only_diff()
     ensures { λ _. ⌜ MadeIsOnlyDiff ⌝ }
+{}
+
+// Worked examples of diffs, computed from the definitions. It does nothing when it is called.
+pub fn examples_hold()
+    ensures { λ _. ⌜ AllHold examples ⌝ }
 {}
