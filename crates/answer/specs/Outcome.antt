@@ -1,6 +1,7 @@
 -- What a call comes to, in document 01's numbers ("What the rack refuses, by who caused it").
 -- Assumes nothing: these are definitions.
 use Prim.Native.Nat.{ℕ}
+use mathlib.Core.List.{List, [], _∷_}
 use mathlib.Core.Bool.{cond}
 use lib.Dec.{eqb}
 use Rattle.answer.specs.declared.Outcome.{Outcome}
@@ -27,6 +28,10 @@ refusedAt number place = record { number = number; value = place }
 -- a refusal that names no place
 abbrev pub refused : ℕ → Outcome
 refused number = refusedAt number 0
+
+-- number and value as words, for worked examples
+abbrev pub inWords : Outcome → List ℕ
+inWords o = o .number ∷ o .value ∷ []
 
 -- ---- the numbers
 

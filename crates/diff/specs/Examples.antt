@@ -5,13 +5,9 @@ use Prim.Native.Nat.{ℕ}
 use mathlib.Core.List.{List, [], _∷_, _++_}
 use lib.ListN.{length, replicate}
 use Rattle.laws.specs.Examples.{Example, computed}
-use Rattle.answer.specs.declared.Outcome.{Outcome}
+use Rattle.answer.specs.Outcome.{inWords}
 use Rattle.diff.specs.Reading.{checkDiff}
 use Rattle.diff.specs.Making.{madeDiff, makeDiff, bufferAfter}
-
--- number and place or value of an outcome
-abbrev pub inWords : Outcome → List ℕ
-inWords o = o .number ∷ o .value ∷ []
 
 -- a list handed in to a rack of 4 pages: 0 and the number of its prices, or 7 and the place
 abbrev pub checked : List ℕ → List ℕ

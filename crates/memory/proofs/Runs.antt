@@ -1,13 +1,14 @@
 -- Runs of words of the memory: loaded after stores, stored one after another, cleared, copied.
 use Prim.Native.Nat.{ℕ, zero, suc, _+_, _*_, _-_, _<_, _≤_, min}
-use mathlib.Core.Path.{_≡_, refl, sym, _∙_}
-use mathlib.Core.List.{List, _∷_, _++_}
+use mathlib.Core.Path.{_≡_, refl, sym, ap, _∙_}
+use mathlib.Core.List.{List, [], _∷_, _++_}
 use native.Mathlib.Nat.{add-assoc}
 use native.Mathlib.Omega.{arith}
-use lib.ListN.{length, getD, drop, length-take, length-drop, length-replicate}
-use lib.Seq.{drop-drop, take-add, getD-take, getD-drop, ext-getD, length-sets}
+use lib.ListN.{length, getD, set, drop, length-take, length-drop, length-replicate}
+use lib.Seq.{sets, drop-drop, take-add, getD-take, getD-drop, ext-getD, length-sets}
 use Rattle.laws.proofs.Lists.{getD-sets-outside, getD-sets-inside}
-use Rattle.memory.specs.Area.{indexOf, AreaIn, load, store, loadRun, storeRun, zeros, clearRun, copyRun}
+use Rattle.memory.specs.Area.{indexOf, AreaIn, load, store, loadRun, overwrite, storeRun, zeros, clearRun}
+use Rattle.memory.specs.Area.{copyRun}
 use Rattle.memory.proofs.Index.{Outside, outside-fewer}
 
 -- ---- zeros
@@ -78,31 +79,53 @@ load-run-kept size m m′ card offset n same words =
 
 -- ---- a run stored
 
+sets-later : (vs : List ℕ) (w : ℕ) (ws : List ℕ) (i : ℕ) → sets (w ∷ ws) (suc i) vs ≡ w ∷ sets ws i vs
+sets-later [] w ws i = refl
+sets-later (v ∷ vs) w ws i = sets-later vs w (set ws i v) (suc i)
+
+sets-nowhere : (vs : List ℕ) (i : ℕ) → sets [] i vs ≡ []
+sets-nowhere [] i = refl
+sets-nowhere (v ∷ vs) i = sets-nowhere vs (suc i)
+
+-- words written over others are stored one after the other
+overwrite-sets : (l : List ℕ) (i : ℕ) (vs : List ℕ) → overwrite l i vs ≡ sets l i vs
+unfolding overwrite
+overwrite-sets [] i vs = sym (sets-nowhere vs i)
+overwrite-sets (w ∷ ws) i [] = refl
+overwrite-sets (w ∷ ws) zero (v ∷ vs) = ap (λ l. v ∷ l) (overwrite-sets ws 0 vs) ∙ sym (sets-later vs v ws 0)
+overwrite-sets (w ∷ ws) (suc i) (v ∷ vs) =
+    ap (λ l. w ∷ l) (overwrite-sets ws i (v ∷ vs)) ∙ sym (sets-later (v ∷ vs) w ws i)
+
+pub store-run-sets : (size : ℕ) (m : List ℕ) (card offset : ℕ) (vs : List ℕ)
+    → storeRun size m card offset vs ≡ sets m (indexOf size card offset) vs
+unfolding storeRun
+store-run-sets size m card offset vs = overwrite-sets m (indexOf size card offset) vs
+
 module _ (size : ℕ) (m : List ℕ) (card offset : ℕ) (vs : List ℕ) where
   pub length-store-run : length (storeRun size m card offset vs) ≡ length m
-  unfolding storeRun
-  length-store-run = length-sets m (indexOf size card offset) vs
+  length-store-run = rw store-run-sets (length-sets m (indexOf size card offset) vs)
 
   pub store-run-cons : (v : ℕ)
       → storeRun size m card offset (v ∷ vs) ≡ storeRun size (store size m card offset v) card (offset + 1) vs
-  unfolding store storeRun
+  unfolding store
   store-run-cons v =
       let next : suc (indexOf size card offset) ≡ indexOf size card (offset + 1) = omega arith in
-      rw next
+      rw (store-run-sets, store-run-sets, ← next)
 
   pub load-store-run-outside : (card′ offset′ : ℕ) → Outside size card offset (length vs) card′ offset′
       → load size (storeRun size m card offset vs) card′ offset′ ≡ load size m card′ offset′
-  unfolding load storeRun
+  unfolding load
   load-store-run-outside card′ offset′ out =
-      getD-sets-outside vs m (indexOf size card offset) (indexOf size card′ offset′)
-      (λ j h e. out .apart j h (e ∙ rw add-assoc))
+      rw store-run-sets
+      (getD-sets-outside vs m (indexOf size card offset) (indexOf size card′ offset′)
+      (λ j h e. out .apart j h (e ∙ rw add-assoc)))
 
   module _ (area : AreaIn (length m) size card) (fits : offset + length vs ≤ size) where
     pub load-store-run-inside : (j : ℕ) → j < length vs
         → load size (storeRun size m card offset vs) card (offset + j) ≡ getD vs j 0
-    unfolding load storeRun
+    unfolding load
     load-store-run-inside j inside =
-        rw (← add-assoc (card * size) offset j)
+        rw (store-run-sets, ← add-assoc (card * size) offset j)
         (getD-sets-inside vs m (indexOf size card offset) j (omega arith) inside)
 
     -- read back where it was stored

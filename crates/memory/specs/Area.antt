@@ -1,10 +1,9 @@
 -- The lent memory: "one area per card, ascending" (document 01, "Cards, pages, memory"). A word is named by the size
 -- of an area, its card and its offset in the card's area; a run of words by its first.
 -- Assumes nothing: these are definitions.
-use Prim.Native.Nat.{ℕ, _+_, _*_, _≤_}
-use mathlib.Core.List.{List}
+use Prim.Native.Nat.{ℕ, zero, suc, _+_, _*_, _≤_}
+use mathlib.Core.List.{List, [], _∷_}
 use lib.ListN.{getD, set, take, drop, replicate}
-use lib.Seq.{sets}
 
 abbrev pub indexOf : ℕ → ℕ → ℕ → ℕ
 indexOf size card offset = card * size + offset
@@ -26,9 +25,15 @@ store size m card offset v = set m (indexOf size card offset) v
 unfoldable pub loadRun : ℕ → List ℕ → ℕ → ℕ → ℕ → List ℕ
 loadRun size m card offset n = take n (drop (indexOf size card offset) m)
 
--- each word of vs stored in order
+-- words written over others from an index on; nothing is written past the end
+unfoldable pub overwrite : List ℕ → ℕ → List ℕ → List ℕ
+overwrite [] i vs = []
+overwrite (w ∷ ws) i [] = w ∷ ws
+overwrite (w ∷ ws) zero (v ∷ vs) = v ∷ overwrite ws zero vs
+overwrite (w ∷ ws) (suc i) (v ∷ vs) = w ∷ overwrite ws i (v ∷ vs)
+
 unfoldable pub storeRun : ℕ → List ℕ → ℕ → ℕ → List ℕ → List ℕ
-storeRun size m card offset vs = sets m (indexOf size card offset) vs
+storeRun size m card offset vs = overwrite m (indexOf size card offset) vs
 
 -- n words that are 0
 unfoldable pub zeros : ℕ → List ℕ

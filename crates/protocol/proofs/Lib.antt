@@ -1,4 +1,5 @@
 -- Laws on the calls' definitions, and demand 3.
+pub mod examples
 pub mod Limits
 pub mod Writes
 pub mod Over

@@ -15,3 +15,4 @@ pub mod Book
 pub mod Demand3
 pub mod Demand1
 pub mod Corollaries
+pub mod examples

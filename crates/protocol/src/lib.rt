@@ -1,9 +1,14 @@
 // The demands on the rack, over the definitions that the calls' contracts cite. The functions here
 // do nothing when they
 // are called: they are where the gate shows the theorems.
+ghost use Rattle.laws.specs.Examples.{AllHold};
 ghost use Rattle.protocol.specs.Demand1.{Demand1};
 ghost use Rattle.protocol.specs.Demand3.{Demand3};
 ghost use Rattle.protocol.specs.Corollaries.{AlwaysFits, ResendsRefused, CountsOnce};
+ghost use Rattle.protocol.specs.examples.Releases.{releaseExamples};
+ghost use Rattle.protocol.specs.examples.Refusals.{refusalExamples};
+ghost use Rattle.protocol.specs.examples.Recoveries.{recoveryExamples};
+ghost use Rattle.protocol.specs.examples.Joins.{joinExamples};
 
 // Demand 1: a refused call leaves everything that was lent as it was.
 pub fn refused_changes_nothing()
@@ -30,4 +35,13 @@ pub fn resends_are_refused()
 // Each call counts at most the next number of a card, so no release counts twice.
 pub fn releases_count_once()
     ensures { λ _. ⌜ CountsOnce ⌝ }
+{}
+
+// Worked examples of the calls, computed from the definitions: the words, numbers and places that no
+// theorem sees.
+pub fn examples_hold()
+    ensures releases { λ _. ⌜ AllHold releaseExamples ⌝ }
+    ensures refusals { λ _. ⌜ AllHold refusalExamples ⌝ }
+    ensures recoveries { λ _. ⌜ AllHold recoveryExamples ⌝ }
+    ensures joins { λ _. ⌜ AllHold joinExamples ⌝ }
 {}

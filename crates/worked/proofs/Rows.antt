@@ -7,7 +7,7 @@ use borrow.Author.Tests.{le-leb, lt-leb}
 use Rattle.laws.specs.Search.{lowestFrom, countBelow, inTurn}
 use Rattle.answer.specs.declared.Outcome.{Outcome}
 use Rattle.answer.specs.Outcome.{refusedAt, numberUsed}
-use Rattle.memory.specs.Area.{load, store, loadRun, storeRun, clearRun, copyRun, zeros}
+use Rattle.memory.specs.Area.{load, store, loadRun, overwrite, storeRun, clearRun, copyRun, zeros}
 use Rattle.directory.specs.declared.Directory.{Directory}
 use Rattle.directory.specs.Directory.{formattedDirectory, emptyDirectory, tableFrom}
 use Rattle.directory.specs.Live.{nextLive}
@@ -60,7 +60,7 @@ used d m card r list idle low =
 -- ---- releases through a recovery
 
 pub shown : Shown
-unfolding lowestFrom countBelow inTurn load store loadRun storeRun clearRun copyRun zeros formattedDirectory
+unfolding lowestFrom countBelow inTurn load store loadRun overwrite storeRun clearRun copyRun zeros formattedDirectory
     emptyDirectory tableFrom nextLive pricesOf pricesFrom names readFrom wordStep checkDiff ownRelease openRelease
     openList stepsOf isOpen releaseWrites makeWrite close stepMemory recordedRelease underWay settledRecord
     writeRecord writeOwnRecord firstRefusal outsideLimits fewLive badHome badPage badStatus badRelease badCard
@@ -74,7 +74,7 @@ shown = record { forward = refl; back = refl; completed = refl }
 -- ---- the twelve
 
 pub worked : Worked
-unfolding AllHold changesFrom encodeFrom madeDiff runLength header lowestFrom countBelow inTurn load store loadRun
+unfolding AllHold changesFrom encodeFrom madeDiff runLength header lowestFrom countBelow inTurn load store loadRun overwrite
     storeRun clearRun copyRun zeros formattedDirectory emptyDirectory tableFrom nextLive pricesOf pricesFrom names
     readFrom wordStep checkDiff ownRelease openRelease openList stepsOf isOpen releaseWrites makeWrite close
     stepMemory recordedRelease underWay settledRecord writeRecord writeOwnRecord firstRefusal outsideLimits

@@ -2,18 +2,19 @@
 use Prim.Native.Nat.{_*_}
 use native.Mathlib.Omega.{arith}
 use borrow.Author.Needs.{needs}
-use Rattle.memory.specs.Area.{storeRun, zeros, clearRun}
+use Rattle.memory.specs.Area.{zeros, clearRun}
 use Rattle.memory.proofs.Parts.{sets-part}
-use Rattle.memory.proofs.Runs.{length-zeros}
+use Rattle.memory.proofs.Runs.{length-zeros, store-run-sets}
 use Rattle.memory.proofs.clear_run.Statement.{statement}
 use Rattle.memory.proofs.clear_run.Tie as tie
 
 returns : tie.Need-returns
-unfolding clearRun storeRun
+unfolding clearRun
 returns c =
     let a = c .before .before .before .before .before .args in
-    sets-part (a .memory .now) (a .card * a .size) (a .size) (a .offset) (zeros (a .n))
-    (c .before .before .clear-run-in .ensures) (omega (arith, length-zeros (a .n)))
+    rw store-run-sets
+    (sets-part (a .memory .now) (a .card * a .size) (a .size) (a .offset) (zeros (a .n))
+    (c .before .before .clear-run-in .ensures) (omega (arith, length-zeros (a .n))))
 
 pub clear-run-spec : {M : Type 1} → statement M
 clear-run-spec =

@@ -1,0 +1,22 @@
+-- The examples of joins and desk questions hold: each is computed.
+use mathlib.Core.Path.{refl}
+use Rattle.laws.specs.Search.{lowestFrom, countBelow, inTurn}
+use Rattle.laws.specs.Examples.{AllHold, sameWords, failuresFrom, Claims}
+use Rattle.laws.proofs.Examples.{all-hold}
+use Rattle.memory.specs.Area.{load, loadRun, overwrite, storeRun, clearRun, copyRun, zeros}
+use Rattle.directory.specs.Directory.{formattedDirectory, tableFrom}
+use Rattle.directory.specs.Live.{nextLive}
+use Rattle.protocol.specs.Release.{ownRelease, isOpen}
+use Rattle.protocol.specs.Record.{recordedRelease, settledRecord, writeRecord, writeOwnRecord}
+use Rattle.protocol.specs.Checks.{firstRefusal, outsideLimits, fewLive, badHome, badPage, badStatus, badRelease}
+use Rattle.protocol.specs.Checks.{badCard, unfitRack, awaitsRecovery}
+use Rattle.protocol.specs.Join.{resetArea, copyDeadRecord, joinedMemory, join}
+use Rattle.protocol.specs.DeskQuestion.{deskOf}
+use Rattle.protocol.specs.examples.Joins.{joinExamples}
+
+pub joins-hold : AllHold joinExamples
+unfolding sameWords failuresFrom Claims lowestFrom countBelow inTurn load loadRun overwrite storeRun clearRun copyRun zeros
+    formattedDirectory tableFrom nextLive ownRelease isOpen recordedRelease settledRecord writeRecord writeOwnRecord
+    firstRefusal outsideLimits fewLive badHome badPage badStatus badRelease badCard unfitRack awaitsRecovery
+    resetArea copyDeadRecord joinedMemory join deskOf
+joins-hold = all-hold joinExamples refl tt

@@ -1,0 +1,33 @@
+-- The examples of recoveries hold: each is computed.
+use mathlib.Core.Path.{refl}
+use Rattle.laws.specs.Search.{lowestFrom, countBelow, inTurn}
+use Rattle.laws.specs.Examples.{AllHold, sameWords, failuresFrom, Claims}
+use Rattle.laws.proofs.Examples.{all-hold}
+use Rattle.memory.specs.Area.{load, store, loadRun, overwrite, storeRun, clearRun, copyRun, zeros}
+use Rattle.directory.specs.Directory.{formattedDirectory, tableFrom}
+use Rattle.directory.specs.Live.{nextLive}
+use Rattle.diff.specs.Reading.{wordStep, readFrom}
+use Rattle.diff.specs.Prices.{pricesFrom, pricesOf}
+use Rattle.protocol.specs.Release.{ownRelease, openRelease, openList, stepsOf, isOpen, releaseWrites}
+use Rattle.protocol.specs.Release.{makeWrite, close, stepMemory}
+use Rattle.protocol.specs.Record.{recordedRelease, underWay, settledRecord, writeRecord, writeOwnRecord}
+use Rattle.protocol.specs.Checks.{firstRefusal, outsideLimits, fewLive, badHome, badPage, badStatus, badRelease}
+use Rattle.protocol.specs.Checks.{badCard, unfitRack, awaitsRecovery}
+use Rattle.protocol.specs.Opening.{openMemory}
+use Rattle.protocol.specs.Recovery.{stepTimes, runToClose, closeReleases, restoreHome, restorePage, restorePages}
+use Rattle.protocol.specs.Recovery.{lostHome, keptHome, newHome, copyToNewHome, copyToNewHomes, moveHome}
+use Rattle.protocol.specs.Recovery.{recoveredDirectory, writeFailed, writeRecords, failedRelease, restoredMemory}
+use Rattle.protocol.specs.Recovery.{recoveredMemory, awaitedCard, recovery}
+use Rattle.protocol.specs.examples.Racks.{smallMemory}
+use Rattle.protocol.specs.examples.Recoveries.{rolledForward, rolledBack, closedWithout1, recovered}
+use Rattle.protocol.specs.examples.Recoveries.{recoveryExamples}
+
+pub recoveries-hold : AllHold recoveryExamples
+unfolding sameWords failuresFrom Claims lowestFrom countBelow inTurn load store loadRun overwrite storeRun clearRun copyRun zeros
+    formattedDirectory tableFrom nextLive wordStep readFrom pricesFrom pricesOf ownRelease openRelease openList
+    stepsOf isOpen releaseWrites makeWrite close stepMemory recordedRelease underWay settledRecord writeRecord
+    writeOwnRecord firstRefusal outsideLimits fewLive badHome badPage badStatus badRelease badCard unfitRack
+    awaitsRecovery openMemory stepTimes runToClose closeReleases restoreHome restorePage restorePages lostHome
+    keptHome newHome copyToNewHome copyToNewHomes moveHome recoveredDirectory writeFailed writeRecords failedRelease
+    restoredMemory recoveredMemory awaitedCard recovery smallMemory rolledForward rolledBack closedWithout1 recovered
+recoveries-hold = all-hold recoveryExamples refl tt

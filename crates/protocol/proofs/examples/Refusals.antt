@@ -1,0 +1,33 @@
+-- The examples of refusals hold: each is computed.
+use mathlib.Core.Path.{refl}
+use Rattle.laws.specs.Search.{lowestFrom, countBelow, inTurn}
+use Rattle.laws.specs.Examples.{AllHold, sameWords, failuresFrom, Claims}
+use Rattle.laws.proofs.Examples.{all-hold}
+use Rattle.memory.specs.Area.{load, store, loadRun, overwrite, storeRun, clearRun, copyRun, zeros}
+use Rattle.directory.specs.Directory.{formattedDirectory, tableFrom}
+use Rattle.directory.specs.Live.{nextLive}
+use Rattle.diff.specs.Reading.{wordStep, readFrom, checkDiff}
+use Rattle.diff.specs.Prices.{pricesFrom, pricesOf, names}
+use Rattle.protocol.specs.Release.{ownRelease, openRelease, openList, stepsOf, isOpen, releaseWrites}
+use Rattle.protocol.specs.Release.{makeWrite, close, stepMemory}
+use Rattle.protocol.specs.Record.{recordedRelease}
+use Rattle.protocol.specs.Checks.{firstRefusal, outsideLimits, fewLive, badHome, badPage, badStatus, badRelease}
+use Rattle.protocol.specs.Checks.{badCard, unfitRack, awaitsRecovery}
+use Rattle.protocol.specs.Opening.{shareWord, sharesWith, openMemory, opening}
+use Rattle.protocol.specs.Step.{step}
+use Rattle.protocol.specs.Fetch.{namesPage, inMotion, committedPage, fetch}
+use Rattle.protocol.specs.Failure.{failure}
+use Rattle.protocol.specs.Recovery.{recovery}
+use Rattle.protocol.specs.Join.{join}
+use Rattle.protocol.specs.DeskQuestion.{deskQuestion}
+use Rattle.protocol.specs.examples.Racks.{smallMemory}
+use Rattle.protocol.specs.examples.Refusals.{twoOpen, nineClosed, fourCopies, refusalExamples}
+
+pub refusals-hold : AllHold refusalExamples
+unfolding sameWords failuresFrom Claims lowestFrom countBelow inTurn load store loadRun overwrite storeRun clearRun copyRun zeros
+    formattedDirectory tableFrom nextLive wordStep readFrom checkDiff pricesFrom pricesOf names ownRelease openRelease
+    openList stepsOf isOpen releaseWrites makeWrite close stepMemory recordedRelease firstRefusal outsideLimits
+    fewLive badHome badPage badStatus badRelease badCard unfitRack awaitsRecovery shareWord sharesWith openMemory
+    opening step namesPage inMotion committedPage fetch failure recovery join deskQuestion smallMemory twoOpen
+    nineClosed fourCopies
+refusals-hold = all-hold refusalExamples refl tt

@@ -1,0 +1,27 @@
+-- The examples of releases hold: each is computed.
+use mathlib.Core.Path.{refl}
+use Rattle.laws.specs.Search.{lowestFrom, countBelow}
+use Rattle.laws.specs.Examples.{AllHold, sameWords, failuresFrom, Claims}
+use Rattle.laws.proofs.Examples.{all-hold}
+use Rattle.memory.specs.Area.{load, store, loadRun, overwrite, storeRun, clearRun, zeros}
+use Rattle.directory.specs.Directory.{formattedDirectory, tableFrom}
+use Rattle.directory.specs.Live.{nextLive}
+use Rattle.diff.specs.Reading.{wordStep, readFrom, checkDiff}
+use Rattle.diff.specs.Prices.{pricesFrom, pricesOf, names}
+use Rattle.protocol.specs.Release.{ownRelease, openRelease, openList, stepsOf, isOpen, releaseWrites}
+use Rattle.protocol.specs.Release.{makeWrite, close, stepMemory}
+use Rattle.protocol.specs.Record.{recordedRelease, underWay, settledRecord}
+use Rattle.protocol.specs.Checks.{firstRefusal, outsideLimits, fewLive, badHome, badPage, badStatus, badRelease}
+use Rattle.protocol.specs.Checks.{badCard, unfitRack, awaitsRecovery}
+use Rattle.protocol.specs.Opening.{shareWord, sharesWith, openMemory, opening}
+use Rattle.protocol.specs.Step.{step}
+use Rattle.protocol.specs.examples.Racks.{smallMemory}
+use Rattle.protocol.specs.examples.Releases.{beforeOpening, opened, steppedOnce, steppedTwice, releaseExamples}
+
+pub releases-hold : AllHold releaseExamples
+unfolding sameWords failuresFrom Claims lowestFrom countBelow load store loadRun overwrite storeRun clearRun zeros
+    formattedDirectory tableFrom nextLive wordStep readFrom checkDiff pricesFrom pricesOf names ownRelease openRelease
+    openList stepsOf isOpen releaseWrites makeWrite close stepMemory recordedRelease underWay settledRecord
+    firstRefusal outsideLimits fewLive badHome badPage badStatus badRelease badCard unfitRack awaitsRecovery
+    shareWord sharesWith openMemory opening step smallMemory beforeOpening opened steppedOnce steppedTwice
+releases-hold = all-hold releaseExamples refl tt

@@ -1,0 +1,49 @@
+-- The racks of the examples.
+-- Assumes nothing: these are definitions.
+use Prim.Native.Nat.{ℕ, _+_, _*_}
+use mathlib.Core.List.{List, [], _∷_, _++_}
+use mathlib.Core.Bool.{Bool, cond}
+use lib.ListN.{length, take, drop}
+use Rattle.answer.specs.Outcome.{inWords}
+use Rattle.memory.specs.Area.{zeros}
+use Rattle.directory.specs.declared.Directory.{Directory}
+use Rattle.directory.specs.declared.Status.{Status}
+use Rattle.directory.specs.declared.Status.the-variants.{Running, Awaiting}
+use Rattle.directory.specs.Directory.{isLive, formattedDirectory, table, tableFrom}
+use Rattle.protocol.specs.Result.{Result}
+
+-- Three live cards and one page, on cards 0 and 1. An area has 740 words.
+abbrev pub smallRack : Directory
+smallRack = formattedDirectory 3 1
+
+unfoldable pub smallMemory : List ℕ
+smallMemory = zeros 2220
+
+-- n numbers from i on: words that all differ, so that it shows where each comes from
+abbrev pub numbersFrom : ℕ → ℕ → List ℕ
+numbersFrom i n = tableFrom (λ j. j) i n
+
+-- n words of a card's area, from an offset on
+abbrev pub wordsAt : ℕ → List ℕ → ℕ → ℕ → ℕ → List ℕ
+wordsAt size m card offset n = take n (drop (card * size + offset) m)
+
+-- a test as a word
+abbrev pub bit : Bool → ℕ
+bit test = cond test 1 0
+
+-- ---- results as words
+
+-- number and value
+abbrev pub outcomeOf : Result → List ℕ
+outcomeOf r = inWords (r .outcome)
+
+-- the awaited card and 1, or zeros
+abbrev pub statusWords : Status → List ℕ
+statusWords Running = 0 ∷ 0 ∷ []
+statusWords (Awaiting card) = 1 ∷ card ∷ []
+
+-- marks, primaries, secondaries and status, as far as cards and pages go
+abbrev pub directoryWords : Directory → List ℕ
+directoryWords d =
+    table (λ card. bit (isLive d card)) (d .cards)
+    ++ take (d .pages) (d .primary) ++ take (d .pages) (d .secondary) ++ statusWords (d .status)

@@ -1,0 +1,159 @@
+-- What calls refuse, with number and place, beside what they take: worked examples.
+-- Assumes nothing: these are definitions.
+use Prim.Native.Nat.{ℕ}
+use mathlib.Core.List.{List, [], _∷_, _++_}
+use lib.ListN.{replicate}
+use Rattle.laws.specs.Examples.{Example, computed}
+use Rattle.memory.specs.Area.{store, storeRun, zeros}
+use Rattle.directory.specs.declared.Directory.{Directory}
+use Rattle.directory.specs.declared.Status.the-variants.{Awaiting}
+use Rattle.directory.specs.Directory.{formattedDirectory, markedDead, withHomes, withStatus}
+use Rattle.diff.specs.Format.{runWord}
+use Rattle.protocol.specs.Release.{releaseOf}
+use Rattle.protocol.specs.Checks.{outsideLimits, unfitRack}
+use Rattle.protocol.specs.Result.{Result}
+use Rattle.protocol.specs.Opening.{openMemory, opening}
+use Rattle.protocol.specs.Step.{step}
+use Rattle.protocol.specs.Fetch.{fetch}
+use Rattle.protocol.specs.Failure.{failure}
+use Rattle.protocol.specs.Recovery.{recovery}
+use Rattle.protocol.specs.Join.{join}
+use Rattle.protocol.specs.DeskQuestion.{deskQuestion}
+use Rattle.protocol.specs.examples.Racks.{smallRack, smallMemory, numbersFrom, bit, outcomeOf, directoryWords}
+
+-- ---- limits, and racks that do not fit
+
+abbrev pub limitsRefuse : ℕ → ℕ → ℕ → ℕ
+limitsRefuse words cards pages = bit (outsideLimits words cards pages)
+
+abbrev pub unfitIs : Directory → List ℕ → ℕ
+unfitIs d m = bit (unfitRack d m)
+
+-- card 2 has failed and is dead; recovery of it is over, or awaited
+abbrev pub twoCards : Directory
+twoCards = markedDead smallRack 2
+
+abbrev pub awaitingCard2 : Directory
+awaitingCard2 = withStatus twoCards (Awaiting 2)
+
+-- ---- releases open on cards of the small rack
+
+-- a list of one price, at a word of page 0
+abbrev pub onePriceAt : ℕ → List ℕ
+onePriceAt word = 0x10000000 ∷ runWord word 1 ∷ 7 ∷ 0xF0000003 ∷ []
+
+-- the memory with release 1 of that list open on a card, and so many steps made
+abbrev pub withOpen : ℕ → ℕ → ℕ → List ℕ → List ℕ
+withOpen card word steps m =
+    store 740 (openMemory 740 m card (releaseOf 1 (zeros 8)) (onePriceAt word)) card 10 steps
+
+-- on card 0 a release of word 6, on card 2 one of word 4
+unfoldable pub twoOpen : List ℕ
+twoOpen = withOpen 2 4 0 (withOpen 0 6 0 smallMemory)
+
+-- card 1 has closed 9 releases
+unfoldable pub nineClosed : List ℕ
+nineClosed = store 740 smallMemory 1 0 9
+
+-- release `number` of words 4 to 6, by card 1
+abbrev pub openThree : ℕ → List ℕ → Result
+openThree number m =
+    opening smallRack m 1 (releaseOf number (zeros 8)) (0x10000000 ∷ 0x20040003 ∷ 1 ∷ 2 ∷ 3 ∷ 0xF0000005 ∷ [])
+
+-- release 10 by card 1, of a list whose word 3 is faulty
+abbrev pub openFaulty : ℕ → Result
+openFaulty number =
+    opening smallRack nineClosed 1 (releaseOf number (zeros 8)) (0x10000000 ∷ 0x20040001 ∷ 1 ∷ 9 ∷ [])
+
+-- page 0 fetched into a buffer of fives
+abbrev pub fetchFives : List ℕ → ℕ → Result
+fetchFives m room = fetch smallRack m 0 (replicate room 5)
+
+-- a release of one price counts from its step 11 on; those of cards 1 and 2 are at this step
+abbrev pub bothAt : ℕ → List ℕ
+bothAt steps = withOpen 2 4 steps (withOpen 1 6 steps smallMemory)
+
+-- page 0 at its homes, cards 0 and 1: tentative words 100 to 131 and 300 to 331, committed 200 to 231 and 400 to 431
+unfoldable pub fourCopies : List ℕ
+fourCopies =
+    storeRun 740 (storeRun 740 smallMemory 0 676 (numbersFrom 100 32 ++ numbersFrom 200 32)) 1 676
+    (numbersFrom 300 32 ++ numbersFrom 400 32)
+
+abbrev pub refusalExamples : List Example
+refusalExamples =
+    -- 3 to 8 cards, 1 to 64 pages, and a memory of the length that they ask for
+    computed
+    (limitsRefuse 1480 2 1 ∷ limitsRefuse 2220 3 1 ∷ limitsRefuse 5920 8 1 ∷ limitsRefuse 6660 9 1
+    ∷ limitsRefuse 2028 3 0 ∷ limitsRefuse 14316 3 64 ∷ limitsRefuse 14508 3 65 ∷ limitsRefuse 2219 3 1
+    ∷ limitsRefuse 2221 3 1 ∷ [])
+    (1 ∷ 0 ∷ 0 ∷ 1 ∷ 1 ∷ 0 ∷ 1 ∷ 1 ∷ 1 ∷ [])
+    -- two live cards fit, one does not
+    ∷ computed (unfitIs twoCards smallMemory ∷ unfitIs (markedDead twoCards 1) smallMemory ∷ []) (0 ∷ 1 ∷ [])
+    -- homes that are one card, that no card has, or that are dead; a dead one fits while its recovery is awaited
+    ∷ computed
+    (unfitIs (withHomes smallRack 0 1 1) smallMemory ∷ unfitIs (withHomes smallRack 0 0 3) smallMemory
+    ∷ unfitIs (withHomes twoCards 0 2 1) smallMemory ∷ unfitIs (withHomes twoCards 0 0 2) smallMemory
+    ∷ unfitIs (withHomes awaitingCard2 0 0 2) smallMemory ∷ [])
+    (1 ∷ 1 ∷ 1 ∷ 1 ∷ 0 ∷ [])
+    -- an awaited card that is live, or that does not exist
+    ∷ computed
+    (unfitIs (withStatus smallRack (Awaiting 2)) smallMemory ∷ unfitIs (withStatus twoCards (Awaiting 3)) smallMemory ∷ [])
+    (1 ∷ 1 ∷ [])
+    -- "release open" of a live card is 0 or 1; what a dead card's area says is not looked at
+    ∷ computed
+    (unfitIs smallRack (store 740 smallMemory 2 9 2) ∷ unfitIs twoCards (store 740 smallMemory 2 9 2) ∷ []) (1 ∷ 0 ∷ [])
+    -- an open release of one price has made at most 14 steps, and its list is not faulty
+    ∷ computed
+    (unfitIs smallRack (withOpen 2 4 14 smallMemory) ∷ unfitIs smallRack (withOpen 2 4 15 smallMemory)
+    ∷ unfitIs smallRack (store 740 (withOpen 2 4 0 smallMemory) 2 167 0) ∷ [])
+    (0 ∷ 1 ∷ 1 ∷ [])
+    -- An opening under the next number is taken. One at or below the stamp is refused with 5 at the stamp, one further
+    -- on with 6, both before the list is looked at; a faulty list with 7 at its faulty word.
+    ∷ computed
+    (outcomeOf (openThree 10 nineClosed) ++ outcomeOf (openFaulty 9) ++ outcomeOf (openFaulty 0)
+    ++ outcomeOf (openFaulty 11) ++ outcomeOf (openFaulty 10))
+    (0 ∷ 0 ∷ 5 ∷ 9 ∷ 5 ∷ 9 ∷ 6 ∷ 0 ∷ 7 ∷ 3 ∷ [])
+    -- Words in other cards' open releases: the place is the lowest such card, not the one of the list's first word. A
+    -- release of another word of the page stands in nobody's way.
+    ∷ computed
+    (outcomeOf (openThree 1 twoOpen) ++ outcomeOf (openThree 1 (withOpen 2 4 0 smallMemory))
+    ++ outcomeOf (openThree 1 (withOpen 2 7 0 smallMemory)))
+    (8 ∷ 0 ∷ 8 ∷ 2 ∷ 0 ∷ 0 ∷ [])
+    -- a card with a release open opens no other, and steps it; one with none open has no step to make
+    ∷ computed
+    (outcomeOf (openThree 2 (withOpen 1 9 0 smallMemory)) ++ outcomeOf (step smallRack twoOpen 2)
+    ++ outcomeOf (step smallRack twoOpen 1))
+    (4 ∷ 0 ∷ 0 ∷ 0 ∷ 16 ∷ 0 ∷ [])
+    -- A fetch is of the committed words at the primary.
+    ∷ computed (outcomeOf (fetchFives fourCopies 32) ++ fetchFives fourCopies 32 .words) (0 ∷ 0 ∷ numbersFrom 200 32)
+    -- A page is in motion once a release counts that prices a word of it, not before; the place is the lowest such card.
+    ∷ computed
+    (outcomeOf (fetchFives (bothAt 10) 32) ++ outcomeOf (fetchFives (bothAt 11) 32)
+    ++ outcomeOf (fetchFives (withOpen 2 4 11 smallMemory) 32))
+    (0 ∷ 0 ∷ 10 ∷ 1 ∷ 10 ∷ 2 ∷ [])
+    -- no such page, then 10, then a buffer of 31 words, which is kept
+    ∷ computed
+    (outcomeOf (fetch smallRack (bothAt 11) 1 []) ++ outcomeOf (fetchFives (bothAt 11) 31)
+    ++ outcomeOf (fetchFives smallMemory 31) ++ fetchFives smallMemory 31 .words)
+    (9 ∷ 0 ∷ 10 ∷ 1 ∷ 17 ∷ 0 ∷ replicate 31 5)
+    -- Of three live cards one may fail: it is dead, and its recovery awaited. Of two none may; a dead card fails no more.
+    ∷ computed (outcomeOf (failure smallRack smallMemory 1) ++ directoryWords (failure smallRack smallMemory 1 .directory))
+    (0 ∷ 0 ∷ 1 ∷ 0 ∷ 1 ∷ 0 ∷ 1 ∷ 1 ∷ 1 ∷ [])
+    ∷ computed (outcomeOf (failure twoCards smallMemory 1) ++ outcomeOf (failure twoCards smallMemory 2))
+    (13 ∷ 0 ∷ 3 ∷ 0 ∷ [])
+    -- While a recovery is awaited every other call is refused with 11, before its card is looked at; no recovery without
+    -- a failure. Neither is said of a rack that does not fit.
+    ∷ computed
+    (outcomeOf (step awaitingCard2 smallMemory 9) ++ outcomeOf (deskQuestion awaitingCard2 smallMemory 0)
+    ++ outcomeOf (recovery smallRack smallMemory) ++ outcomeOf (recovery smallRack (store 740 smallMemory 2 9 2))
+    ++ outcomeOf (step awaitingCard2 (store 740 smallMemory 1 9 2) 9))
+    (11 ∷ 0 ∷ 11 ∷ 0 ∷ 12 ∷ 0 ∷ 2 ∷ 0 ∷ 2 ∷ 0 ∷ [])
+    -- A live card does not join, whatever is open; a dead one not while a release is open on another.
+    ∷ computed
+    (outcomeOf (join twoCards twoOpen 0) ++ outcomeOf (join twoCards twoOpen 2)
+    ++ outcomeOf (join twoCards smallMemory 2) ++ outcomeOf (join twoCards smallMemory 3))
+    (14 ∷ 0 ∷ 15 ∷ 0 ∷ 0 ∷ 0 ∷ 3 ∷ 0 ∷ [])
+    -- A desk question is taken of a dead card, and of no card that is not there.
+    ∷ computed (outcomeOf (deskQuestion twoCards smallMemory 2) ++ outcomeOf (deskQuestion twoCards smallMemory 3))
+    (0 ∷ 0 ∷ 3 ∷ 0 ∷ [])
+    ∷ []

@@ -1,0 +1,98 @@
+-- A release opened, stepped and closed, and a card's record: worked examples.
+-- Assumes nothing: these are definitions.
+use Prim.Native.Nat.{ℕ, _+_}
+use mathlib.Core.List.{List, [], _∷_, _++_}
+use Rattle.laws.specs.Examples.{Example, computed}
+use Rattle.memory.specs.Area.{store, storeRun, zeros}
+use Rattle.diff.specs.declared.Price.{Price}
+use Rattle.protocol.specs.Release.{Release, releaseOf, Write, releaseWrites, close}
+use Rattle.protocol.specs.Record.{recordedRelease, underWay, settledRecord}
+use Rattle.protocol.specs.Result.{Result}
+use Rattle.protocol.specs.Opening.{opening}
+use Rattle.protocol.specs.Step.{step}
+use Rattle.protocol.specs.examples.Racks.{smallRack, smallMemory, numbersFrom, wordsAt, bit, outcomeOf}
+
+-- the desk words 50 to 57
+abbrev pub desk : List ℕ
+desk = numbersFrom 50 8
+
+-- card, offset and value of each store
+abbrev pub inOrder : List Write → List ℕ
+inOrder [] = []
+inOrder (w ∷ ws) = w .card ∷ w .offset ∷ w .value ∷ inOrder ws
+
+-- words 4 and 5 of page 0, to 250 and 199: as prices, and as a list
+abbrev pub twoPrices : List Price
+twoPrices = record { page = 0; word = 4; price = 250 } ∷ record { page = 0; word = 5; price = 199 } ∷ []
+
+abbrev pub twoPriceList : List ℕ
+twoPriceList = 0x10000000 ∷ 0x20040002 ∷ 250 ∷ 199 ∷ 0xF0000004 ∷ []
+
+-- ---- opened on card 1, which has closed release 4, and whose area holds a number of steps and words past the list
+
+unfoldable pub beforeOpening : List ℕ
+beforeOpening = storeRun 740 (store 740 (store 740 smallMemory 1 0 4) 1 10 9) 1 169 (8 ∷ 8 ∷ [])
+
+unfoldable pub opened : Result
+opened = opening smallRack beforeOpening 1 (releaseOf 5 desk) twoPriceList
+
+unfoldable pub steppedOnce : Result
+steppedOnce = step smallRack (opened .memory) 1
+
+unfoldable pub steppedTwice : Result
+steppedTwice = step smallRack (steppedOnce .memory) 1
+
+-- ---- an area and a record of words that all differ
+
+-- a record of card 1 on card 0, with this stamp
+abbrev pub recordWith : ℕ → Release
+recordWith stamp = recordedRelease 740 (store 740 (numbersFrom 0 740) 0 38 stamp) 0 1
+
+abbrev pub differs : ℕ → ℕ → ℕ
+differs stamp done = bit (underWay 740 (store 740 (store 740 smallMemory 0 38 stamp) 0 39 done) 0 1)
+
+abbrev pub releaseExamples : List Example
+releaseExamples =
+    -- An opening is taken; it says so and counts 0 steps, and copies number, desk and list. What stood behind the list
+    -- is kept, and so is the own stamp.
+    computed
+    (outcomeOf opened
+    ++ wordsAt 740 (opened .memory) 1 0 2 ++ wordsAt 740 (opened .memory) 1 9 11
+    ++ wordsAt 740 (opened .memory) 1 164 7)
+    (0 ∷ 0 ∷ 4 ∷ 0 ∷ 1 ∷ 0 ∷ 5 ∷ (desk ++ twoPriceList ++ 8 ∷ 8 ∷ []))
+    -- The first step stores the first price, tentatively, at the secondary, card 1, and nothing else but the count; the
+    -- second at the primary, card 0.
+    ∷ computed
+    (outcomeOf steppedOnce
+    ++ wordsAt 740 (steppedOnce .memory) 0 680 2 ++ wordsAt 740 (steppedOnce .memory) 1 680 2
+    ++ wordsAt 740 (steppedOnce .memory) 1 712 2 ++ wordsAt 740 (steppedOnce .memory) 1 9 3)
+    (0 ∷ 0 ∷ 0 ∷ 0 ∷ 250 ∷ 0 ∷ 0 ∷ 0 ∷ 1 ∷ 1 ∷ 5 ∷ [])
+    ∷ computed
+    (wordsAt 740 (steppedTwice .memory) 0 680 2 ++ wordsAt 740 (steppedTwice .memory) 1 680 2
+    ++ wordsAt 740 (steppedTwice .memory) 1 9 3)
+    (250 ∷ 0 ∷ 250 ∷ 0 ∷ 1 ∷ 2 ∷ 5 ∷ [])
+    -- The stores of release 5 of card 1, whose backup is card 2: each price at the secondary, then at the primary; an
+    -- odd number's desk to the odd desk, the stamp, the committed words, and last the done mark.
+    ∷ computed (inOrder (releaseWrites smallRack 2 1 (releaseOf 5 desk) twoPrices))
+    (1 ∷ 680 ∷ 250 ∷ 0 ∷ 680 ∷ 250 ∷ 1 ∷ 681 ∷ 199 ∷ 0 ∷ 681 ∷ 199
+    ∷ 2 ∷ 48 ∷ 50 ∷ 2 ∷ 49 ∷ 51 ∷ 2 ∷ 50 ∷ 52 ∷ 2 ∷ 51 ∷ 53 ∷ 2 ∷ 52 ∷ 54 ∷ 2 ∷ 53 ∷ 55 ∷ 2 ∷ 54 ∷ 56 ∷ 2 ∷ 55 ∷ 57
+    ∷ 2 ∷ 38 ∷ 5
+    ∷ 1 ∷ 712 ∷ 250 ∷ 0 ∷ 712 ∷ 250 ∷ 1 ∷ 713 ∷ 199 ∷ 0 ∷ 713 ∷ 199
+    ∷ 2 ∷ 39 ∷ 5 ∷ [])
+    -- An even number's desk goes to the even desk. A release of no price has ten stores.
+    ∷ computed (inOrder (releaseWrites smallRack 2 1 (releaseOf 6 desk) []))
+    (2 ∷ 40 ∷ 50 ∷ 2 ∷ 41 ∷ 51 ∷ 2 ∷ 42 ∷ 52 ∷ 2 ∷ 43 ∷ 53 ∷ 2 ∷ 44 ∷ 54 ∷ 2 ∷ 45 ∷ 55 ∷ 2 ∷ 46 ∷ 56 ∷ 2 ∷ 47 ∷ 57
+    ∷ 2 ∷ 38 ∷ 6 ∷ 2 ∷ 39 ∷ 6 ∷ [])
+    -- The close takes number and desk for own stamp and desk, and zeroes the release's words and the list's; records
+    -- and pages stay.
+    ∷ computed (close 740 (numbersFrom 0 740) 0)
+    (numbersFrom 11 9 ++ zeros 11 ++ numbersFrom 20 144 ++ zeros 512 ++ numbersFrom 676 64)
+    -- A record tells its stamp, and the desk of the stamp's evenness, whatever the done mark.
+    ∷ computed (recordWith 5 .number ∷ recordWith 5 .desk) (5 ∷ numbersFrom 48 8)
+    ∷ computed (recordWith 6 .number ∷ recordWith 6 .desk) (6 ∷ numbersFrom 40 8)
+    -- A release is under way where stamp and done mark differ, also with the done mark above the stamp.
+    ∷ computed (differs 5 4 ∷ differs 5 5 ∷ differs 4 5 ∷ []) (1 ∷ 0 ∷ 1 ∷ [])
+    -- A record that is written anew has the done mark of its stamp, and zeros for the other desk.
+    ∷ computed (settledRecord (releaseOf 5 desk)) (5 ∷ 5 ∷ (zeros 8 ++ desk))
+    ∷ computed (settledRecord (releaseOf 6 desk)) (6 ∷ 6 ∷ (desk ++ zeros 8))
+    ∷ []
