@@ -1,4 +1,5 @@
 -- Laws of the directory's definitions.
+pub mod Examples
 pub mod Live
 pub mod Table
 pub mod Changes

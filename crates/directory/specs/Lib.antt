@@ -1,3 +1,4 @@
 -- What the directory's contracts cite.
 pub mod Live
 pub mod Directory
+pub mod Examples

@@ -3,12 +3,14 @@
 ghost use mathlib.Core.Path.{_≡_};
 ghost use Prim.Native.Nat.{_+_, _<_, _≤_};
 ghost use lib.ListN.{length};
+ghost use Rattle.laws.specs.Examples.{AllHold};
 ghost use Rattle.directory.specs.Live.{firstLive, nextLive};
 ghost use Rattle.directory.specs.Directory.{nextLiveOf, backupOf};
 ghost use Rattle.directory.specs.Directory.{markedDead, markedLive, withHomes};
 ghost use Rattle.directory.specs.Directory.{formattedMarks, formattedPrimary};
 ghost use Rattle.directory.specs.Directory.{formattedSecondary, table};
 ghost use Rattle.directory.specs.Directory.{formattedDirectory, emptyDirectory};
+ghost use Rattle.directory.specs.Examples.{examples};
 
 pub enum Status {
     Running,
@@ -187,3 +189,9 @@ impl Directory {
         }
     }
 }
+
+// Worked examples of the directory, computed from the definitions. It does nothing when it
+// is called.
+pub fn examples_hold()
+    ensures { λ _. ⌜ AllHold examples ⌝ }
+{}

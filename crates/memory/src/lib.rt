@@ -5,9 +5,11 @@ ghost use mathlib.Core.Path.{_≡_};
 ghost use Prim.Native.Nat.{_+_, _*_, _<_, _≤_};
 ghost use lib.ListN.{length, set};
 ghost use lib.Seq.{sets};
+ghost use Rattle.laws.specs.Examples.{AllHold};
 ghost use Rattle.memory.specs.Layout.{areaSize};
 ghost use Rattle.memory.specs.Area.{AreaIn, load, store, loadRun, storeRun};
 ghost use Rattle.memory.specs.Area.{zeros, clearRun, copyRun};
+ghost use Rattle.memory.specs.Examples.{examples};
 
 // specs/Layout.antt has the same table.
 pub const OWN_STAMP: usize = 0;
@@ -227,3 +229,9 @@ pub fn copy_prices(
     let mut words = [0u32; 32];
     copy_run(memory, size, card, page + from, card, page + to, &mut words);
 }
+
+// Worked examples of the layout and of words stored, computed from the definitions. It does nothing when it
+// is called.
+pub fn examples_hold()
+    ensures { λ _. ⌜ AllHold examples ⌝ }
+{}
