@@ -1,17 +1,20 @@
--- The rows hold: what is a number is computed, and the two rows on every number and every stamp are proved.
+-- The rows hold: what is a number is computed, by one test over the list, and the two rows on every number and every
+-- stamp are proved.
 use Prim.Native.Nat.{ℕ, _≤_}
 use mathlib.Core.Path.{_≡_, refl, ap, _∙_}
 use mathlib.Core.List.{List, []}
 use native.Mathlib.Omega.{arith}
 use borrow.Author.Tests.{le-leb, lt-leb}
 use Rattle.laws.specs.Search.{lowestFrom, countBelow, inTurn}
+use Rattle.laws.specs.Examples.{AllHold, sameWords, failuresFrom, Claims}
+use Rattle.laws.proofs.Examples.{all-hold}
 use Rattle.answer.specs.declared.Outcome.{Outcome}
 use Rattle.answer.specs.Outcome.{refusedAt, numberUsed}
 use Rattle.memory.specs.Area.{load, store, loadRun, overwrite, storeRun, clearRun, copyRun, zeros}
 use Rattle.directory.specs.declared.Directory.{Directory}
 use Rattle.directory.specs.Directory.{formattedDirectory, emptyDirectory, tableFrom}
 use Rattle.directory.specs.Live.{nextLive}
-use Rattle.diff.specs.Making.{changesFrom, encodeFrom, madeDiff, runLength, header}
+use Rattle.diff.specs.Making.{changesFrom, encodeFrom, madeDiff, runLength, header, lentPages, makeDiff}
 use Rattle.diff.specs.Prices.{pricesOf, pricesFrom, names}
 use Rattle.diff.specs.Reading.{readFrom, wordStep, checkDiff}
 use Rattle.protocol.specs.Release.{Release, sizeOf, ownRelease, openRelease, openList, stepsOf, isOpen, releaseWrites}
@@ -32,9 +35,8 @@ use Rattle.protocol.specs.Recovery.{keptHome, newHome, copyToNewHome, copyToNew
 use Rattle.protocol.specs.Recovery.{writeFailed, writeRecords, failedRelease, restoredMemory, recoveredMemory}
 use Rattle.protocol.specs.Recovery.{awaitedCard, recovery}
 use Rattle.protocol.proofs.Accepting.{outcome-of}
-use Rattle.worked.specs.Rows.{AllHold, newRack, changedPages, changes, noChange, stepped, released}
-use Rattle.worked.specs.Rows.{recoveredFrom}
-use Rattle.worked.specs.Rows.{fetched, pageOf, Idle, Worked, Shown}
+use Rattle.worked.specs.Rows.{newRack, changedPages, twoPrices, noPrice, opened, stepped, recoveredFrom}
+use Rattle.worked.specs.Rows.{shownAfter, Idle, rows, shown}
 
 -- ---- a number at or below the stamp
 
@@ -57,65 +59,32 @@ used d m card r list idle low =
       le-leb (r .number) (ownRelease (sizeOf d) m card .number) low,
     )
 
--- ---- releases through a recovery
+-- ---- the lists
 
-pub shown : Shown
-unfolding lowestFrom countBelow inTurn load store loadRun overwrite storeRun clearRun copyRun zeros formattedDirectory
-    emptyDirectory tableFrom nextLive pricesOf pricesFrom names readFrom wordStep checkDiff ownRelease openRelease
-    openList stepsOf isOpen releaseWrites makeWrite close stepMemory recordedRelease underWay settledRecord
-    writeRecord writeOwnRecord firstRefusal outsideLimits fewLive badHome badPage badStatus badRelease badCard
-    unfitRack awaitsRecovery formatting shareWord sharesWith openMemory opening step namesPage inMotion
-    committedPage fetch failure stepTimes runToClose closeReleases restoreHome restorePage restorePages
-    lostHome keptHome newHome copyToNewHome copyToNewHomes moveHome recoveredDirectory writeFailed
-    writeRecords failedRelease restoredMemory recoveredMemory awaitedCard recovery newRack changedPages
-    changes noChange stepped released recoveredFrom fetched pageOf
-shown = record { forward = refl; back = refl; completed = refl }
+pub rows-hold : AllHold rows
+unfolding sameWords failuresFrom Claims lowestFrom countBelow inTurn load store loadRun overwrite storeRun clearRun copyRun
+    zeros formattedDirectory emptyDirectory tableFrom nextLive changesFrom encodeFrom madeDiff runLength header lentPages
+    makeDiff pricesOf pricesFrom names readFrom wordStep checkDiff ownRelease openRelease openList stepsOf isOpen
+    releaseWrites makeWrite close stepMemory recordedRelease underWay settledRecord writeRecord writeOwnRecord
+    firstRefusal outsideLimits fewLive badHome badPage badStatus badRelease badCard unfitRack awaitsRecovery
+    formatting shareWord sharesWith openMemory opening step namesPage inMotion committedPage fetch failure
+    stepTimes runToClose closeReleases restoreHome restorePage restorePages lostHome keptHome newHome copyToNewHome
+    copyToNewHomes moveHome recoveredDirectory writeFailed writeRecords failedRelease restoredMemory recoveredMemory
+    awaitedCard recovery newRack changedPages twoPrices noPrice opened stepped recoveredFrom shownAfter
+rows-hold =
+    all-hold rows refl (
+      (λ d m card r list idle stamp small. used d m card r list idle (omega arith) ∙ ap (refusedAt numberUsed) stamp),
+      ((λ d m card r list idle zero. used d m card r list idle (omega arith)), tt),
+    )
 
--- ---- the twelve
-
-pub worked : Worked
-unfolding AllHold changesFrom encodeFrom madeDiff runLength header lowestFrom countBelow inTurn load store loadRun overwrite
-    storeRun clearRun copyRun zeros formattedDirectory emptyDirectory tableFrom nextLive pricesOf pricesFrom names
-    readFrom wordStep checkDiff ownRelease openRelease openList stepsOf isOpen releaseWrites makeWrite close
-    stepMemory recordedRelease underWay settledRecord writeRecord writeOwnRecord firstRefusal outsideLimits
-    fewLive badHome badPage badStatus badRelease badCard unfitRack awaitsRecovery formatting shareWord
-    sharesWith openMemory opening step namesPage inMotion committedPage fetch failure stepTimes
-    runToClose closeReleases restoreHome restorePage restorePages lostHome keptHome newHome
-    copyToNewHome copyToNewHomes moveHome recoveredDirectory writeFailed writeRecords
-    failedRelease restoredMemory recoveredMemory awaitedCard recovery newRack changedPages changes
-    noChange stepped released recoveredFrom fetched pageOf
-worked = (
-  (refl, refl, refl),
-  (
-    refl,
-    (
-      (refl, refl),
-      (
-        (refl, (refl, refl)),
-        (
-          shown .back,
-          (
-            shown .forward,
-            (
-              (refl, refl),
-              (
-                refl,
-                (
-                  refl,
-                  (
-                    refl,
-                    (
-                      (λ d m card r list idle stamp small. used d m card r list idle (omega arith)
-                          ∙ ap (refusedAt numberUsed) stamp),
-                      ((λ d m card r list idle zero. used d m card r list idle (omega arith)), tt),
-                    ),
-                  ),
-                ),
-              ),
-            ),
-          ),
-        ),
-      ),
-    ),
-  ),
-)
+pub shown-holds : AllHold shown
+unfolding sameWords failuresFrom Claims lowestFrom countBelow inTurn load store loadRun overwrite storeRun clearRun copyRun
+    zeros formattedDirectory emptyDirectory tableFrom nextLive changesFrom encodeFrom madeDiff runLength header lentPages
+    makeDiff pricesOf pricesFrom names readFrom wordStep checkDiff ownRelease openRelease openList stepsOf isOpen
+    releaseWrites makeWrite close stepMemory recordedRelease underWay settledRecord writeRecord writeOwnRecord
+    firstRefusal outsideLimits fewLive badHome badPage badStatus badRelease badCard unfitRack awaitsRecovery
+    formatting shareWord sharesWith openMemory opening step namesPage inMotion committedPage fetch failure
+    stepTimes runToClose closeReleases restoreHome restorePage restorePages lostHome keptHome newHome copyToNewHome
+    copyToNewHomes moveHome recoveredDirectory writeFailed writeRecords failedRelease restoredMemory recoveredMemory
+    awaitedCard recovery newRack changedPages twoPrices noPrice opened stepped recoveredFrom shownAfter
+shown-holds = all-hold shown refl tt

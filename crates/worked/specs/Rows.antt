@@ -1,19 +1,21 @@
--- Document 01's worked numbers with ◆, as rows of one list.
+-- Document 01's worked numbers with ◆ ("Numbers to hold it against"), as rows of one list, computed from the definitions
+-- that the calls' contracts cite. A row shows the outcome beside the words, and buffers that are lent hold sevens, so that
+-- a refused call meets none.
 -- Assumes nothing: these are definitions.
 use Prim.Native.Nat.{ℕ, zero, suc, _≤_, _<_}
 use mathlib.Core.Path.{_≡_}
-use mathlib.Core.List.{List, [], _∷_}
+use mathlib.Core.List.{List, [], _∷_, _++_}
 use mathlib.Core.Bool.{true, false}
-use lib.ListN.{length, set, take}
-use Rattle.answer.specs.Outcome.{given, refused, refusedAt, limits, numberUsed, faultyList}
-use Rattle.memory.specs.Area.{zeros}
+use lib.ListN.{length, set, take, replicate}
+use Rattle.laws.specs.Examples.{Example, computed, claimed}
+use Rattle.answer.specs.Outcome.{inWords, refusedAt, numberUsed}
+use Rattle.memory.specs.Layout.{recordStamp, releaseOpen}
+use Rattle.memory.specs.Area.{load, loadRun, zeros}
 use Rattle.directory.specs.declared.Directory.{Directory}
 use Rattle.directory.specs.declared.Status.the-variants.{Running}
-use Rattle.directory.specs.Directory.{isLive}
-use Rattle.diff.specs.Prices.{pricesOf}
-use Rattle.diff.specs.Reading.{checkDiff}
-use Rattle.diff.specs.Making.{madeDiff}
-use Rattle.protocol.specs.Release.{Release, sizeOf, ownRelease, isOpen, countsAt, stepsIn}
+use Rattle.directory.specs.Directory.{isLive, tableFrom}
+use Rattle.diff.specs.Making.{makeDiff, bufferAfter}
+use Rattle.protocol.specs.Release.{Release, releaseOf, sizeOf, ownRelease, isOpen}
 use Rattle.protocol.specs.Checks.{outsideLimits, unfitRack}
 use Rattle.protocol.specs.Result.{Result}
 use Rattle.protocol.specs.Formatting.{formatting}
@@ -23,57 +25,90 @@ use Rattle.protocol.specs.Fetch.{fetch}
 use Rattle.protocol.specs.Failure.{failure}
 use Rattle.protocol.specs.Recovery.{recovery}
 
--- every row holds
-unfoldable pub AllHold : List (Type 0) → Type 0
-AllHold [] = Unit {0}
-AllHold (row ∷ rows) = row × AllHold rows
+-- ---- "that rack, newly formatted": 3 cards, 4 pages
 
--- ---- the rack of the rows, and its list
+abbrev pub sevens : ℕ → List ℕ
+sevens n = replicate n 7
 
--- "that rack, newly formatted": 3 cards, 4 pages
 unfoldable pub newRack : Result
-newRack = formatting (zeros 2796) 3 4
+newRack = formatting (sevens 2796) 3 4
+
+abbrev pub formattedWith : ℕ → List ℕ
+formattedWith words = inWords (formatting (sevens words) 3 4 .outcome)
+
+-- ---- lists
 
 -- the pages with words 2 and 3 of page 1 at 250 and 199
 unfoldable pub changedPages : List ℕ
 changedPages = set (set (zeros 128) 34 250) 35 199
 
-unfoldable pub changes : List ℕ
-changes = 0x10000001 ∷ 0x20020002 ∷ 0xFA ∷ 0xC7 ∷ 0xF0000004 ∷ []
+unfoldable pub twoPrices : List ℕ
+twoPrices = 0x10000001 ∷ 0x20020002 ∷ 0xFA ∷ 0xC7 ∷ 0xF0000004 ∷ []
 
-unfoldable pub noChange : List ℕ
-noChange = 0xF0000000 ∷ []
+unfoldable pub noPrice : List ℕ
+noPrice = 0xF0000000 ∷ []
 
--- what document 01 says of a list: its steps, and the step at which its stamp is stored
-abbrev pub StepsAndStamp : List ℕ → ℕ → ℕ → Type 0
-StepsAndStamp list steps stamp =
-    (stepsIn (length (pricesOf 4 list)) ≡ steps) × (countsAt (length (pricesOf 4 list)) ≡ stamp)
+-- what the list maker answers for working pages whose twins are zero, and its buffer
+abbrev pub made : List ℕ → List ℕ
+made working = inWords (makeDiff working (zeros 128) 6) ++ bufferAfter working (zeros 128) (sevens 6)
 
--- ---- "released on that rack by card 1, which dies after .. steps"
+-- ---- release 1 of card 1, whose desk wants the words 50 to 57 back
 
-unfoldable pub stepped : ℕ → ℕ → Result → Result
-stepped card zero r = r
-stepped card (suc n) r = stepped card n (step (r .directory) (r .memory) card)
+abbrev pub desk : List ℕ
+desk = tableFrom (λ word. word) 50 8
 
-unfoldable pub released : Result
-released = opening (newRack .directory) (newRack .memory) 1 (record { number = 1; desk = zeros 8 }) changes
+unfoldable pub opened : List ℕ → Result
+opened list = opening (newRack .directory) (newRack .memory) 1 (releaseOf 1 desk) list
 
--- card 1 makes its steps; the card dies; its recovery
+-- what opening it comes to
+abbrev pub openedWith : List ℕ → List ℕ
+openedWith list = inWords (opened list .outcome)
+
+unfoldable pub stepped : ℕ → Result → Result
+stepped zero r = r
+stepped (suc n) r = stepped n (step (r .directory) (r .memory) 1)
+
+-- after so many steps: the stamp of card 1's record on its backup, card 2
+abbrev pub stampAfter : List ℕ → ℕ → ℕ
+stampAfter list steps = load 932 (stepped steps (opened list) .memory) 2 (recordStamp 1)
+
+-- after so many steps: whether the release is open, the steps made and its number; each accepted step counts
+abbrev pub releaseAfter : List ℕ → ℕ → List ℕ
+releaseAfter list steps = loadRun 932 (stepped steps (opened list) .memory) 1 releaseOpen 3
+
+-- ---- ".. by card 1, which dies after .. steps"
+
+-- card 1 makes its steps; a card dies; its recovery
 unfoldable pub recoveredFrom : ℕ → ℕ → Result
 recoveredFrom steps card =
-    let after : Result = stepped 1 steps released in
+    let after : Result = stepped steps (opened twoPrices) in
     let dead : Result = failure (after .directory) (after .memory) card in
     recovery (dead .directory) (dead .memory)
 
-unfoldable pub fetched : Result → ℕ → List ℕ
-fetched r page = fetch (r .directory) (r .memory) page (zeros 32) .words
+-- what a fetch of page 1 then comes to, and the buffer
+unfoldable pub shownAfter : Result → List ℕ
+shownAfter r =
+    let fetched : Result = fetch (r .directory) (r .memory) 1 (sevens 32) in
+    inWords (fetched .outcome) ++ fetched .words
 
-unfoldable pub pageOf : ℕ → ℕ → List ℕ
-pageOf third fourth = 0 ∷ 0 ∷ third ∷ fourth ∷ zeros 28
+-- accepted, and the page with these prices for words 2 and 3
+abbrev pub pageOf : ℕ → ℕ → List ℕ
+pageOf third fourth = 0 ∷ 0 ∷ 0 ∷ 0 ∷ third ∷ fourth ∷ zeros 28
 
--- ---- the rows
+-- card 1 died after 12 steps, all tentative words and the desk being stored: the recovery took the release back
+abbrev pub takenBack : Example
+takenBack = computed (shownAfter (recoveredFrom 12 1)) (pageOf 0 0)
 
--- "On a live card of a running rack with no release open"
+-- it died after 13, its stamp being stored: the recovery took the release forward
+abbrev pub takenForward : Example
+takenForward = computed (shownAfter (recoveredFrom 13 1)) (pageOf 250 199)
+
+-- card 2 died while card 1's release had made 5 steps: the recovery completed it
+abbrev pub completed : Example
+completed = computed (shownAfter (recoveredFrom 5 2)) (pageOf 250 199)
+
+-- ---- "On a live card of a running rack with no release open"
+
 pub record Idle (d : Directory) (m : List ℕ) (card : ℕ) : Type 0 where
   pub limits : outsideLimits (length m) (d .cards) (d .pages) ≡ false
   pub fit : unfitRack d m ≡ false
@@ -82,50 +117,55 @@ pub record Idle (d : Directory) (m : List ℕ) (card : ℕ) : Type 0 where
   pub live : isLive d card ≡ true
   pub idle : isOpen (d .live) (sizeOf d) m card ≡ false
 
-abbrev pub rows : List (Type 0)
+abbrev pub EveryNumberUsed : Type 0
+EveryNumberUsed =
+    (d : Directory) (m : List ℕ) (card : ℕ) (r : Release) (list : List ℕ) → Idle d m card
+    → ownRelease (sizeOf d) m card .number ≡ 4294967295 → r .number ≤ 4294967295
+    → opening d m card r list .outcome ≡ refusedAt numberUsed 4294967295
+
+abbrev pub NumberZeroUsed : Type 0
+NumberZeroUsed =
+    (d : Directory) (m : List ℕ) (card : ℕ) (r : Release) (list : List ℕ) → Idle d m card → r .number ≡ 0
+    → opening d m card r list .outcome ≡ refusedAt numberUsed (ownRelease (sizeOf d) m card .number)
+
+-- ---- the twelve rows
+
+abbrev pub rows : List Example
 rows =
     -- "3 cards, 4 pages: 2796 words. 2795 and 2797 give 1."
-    ((formatting (zeros 2796) 3 4 .outcome ≡ given 0)
-    × (formatting (zeros 2795) 3 4 .outcome ≡ refused limits)
-    × (formatting (zeros 2797) 3 4 .outcome ≡ refused limits))
+    computed (formattedWith 2796 ++ formattedWith 2795 ++ formattedWith 2797) (0 ∷ 0 ∷ 1 ∷ 0 ∷ 1 ∷ 0 ∷ [])
     -- "Page 1, words 2 and 3 from 0 to 250 and 199 (hex): 10000001 20020002 000000FA 000000C7 F0000004."
-    ∷ (madeDiff changedPages (zeros 128) ≡ changes)
+    ∷ computed (made changedPages) (0 ∷ 5 ∷ twoPrices ++ sevens 1)
     -- "19 steps, stamp at step 13."
-    ∷ StepsAndStamp changes 19 13
+    ∷ computed
+    (stampAfter twoPrices 12 ∷ stampAfter twoPrices 13 ∷ releaseAfter twoPrices 18 ++ releaseAfter twoPrices 19)
+    (0 ∷ 1 ∷ 1 ∷ 18 ∷ 1 ∷ 0 ∷ 0 ∷ 0 ∷ [])
     -- "No change: F0000000, 11 steps, stamp at step 9."
-    ∷ ((madeDiff (zeros 128) (zeros 128) ≡ noChange) × StepsAndStamp noChange 11 9)
-    -- ".. by card 1, which dies after 12 steps: page 1 is zero."
-    ∷ (fetched (recoveredFrom 12 1) 1 ≡ zeros 32)
+    ∷ computed
+    (made (zeros 128) ++ stampAfter noPrice 8 ∷ stampAfter noPrice 9 ∷ releaseAfter noPrice 10 ++ releaseAfter noPrice 11)
+    (0 ∷ 1 ∷ noPrice ++ sevens 5 ++ 0 ∷ 1 ∷ 1 ∷ 10 ∷ 1 ∷ 0 ∷ 0 ∷ 0 ∷ [])
+    -- "The list with 250 and 199, released .. by card 1, which dies after 12 steps: page 1 is zero."
+    ∷ takenBack
     -- "After 13: 250 and 199."
-    ∷ (fetched (recoveredFrom 13 1) 1 ≡ pageOf 250 199)
+    ∷ takenForward
     -- "Homes then: page 0 on 0 and 2, 1 on 2 and 0, 2 on 2 and 0, 3 on 0 and 2."
-    ∷ ((take 4 (recoveredFrom 13 1 .directory .primary) ≡ 0 ∷ 2 ∷ 2 ∷ 0 ∷ [])
-    × (take 4 (recoveredFrom 13 1 .directory .secondary) ≡ 2 ∷ 0 ∷ 0 ∷ 2 ∷ []))
+    ∷ computed
+    (inWords (recoveredFrom 13 1 .outcome) ++ take 4 (recoveredFrom 13 1 .directory .primary)
+    ++ take 4 (recoveredFrom 13 1 .directory .secondary))
+    (0 ∷ 1 ∷ 0 ∷ 2 ∷ 2 ∷ 0 ∷ 2 ∷ 0 ∷ 0 ∷ 2 ∷ [])
     -- "Run offset 31 count 1 is allowed"
-    ∷ (checkDiff 4 (0x10000000 ∷ 0x201F0001 ∷ 7 ∷ 0xF0000003 ∷ []) ≡ given 1)
+    ∷ computed (openedWith (0x10000000 ∷ 0x201F0001 ∷ 7 ∷ 0xF0000003 ∷ [])) (0 ∷ 0 ∷ [])
     -- "count 2 is refused at its index."
-    ∷ (checkDiff 4 (0x10000000 ∷ 0x201F0002 ∷ 7 ∷ 8 ∷ 0xF0000004 ∷ []) ≡ refusedAt faultyList 1)
+    ∷ computed (openedWith (0x10000000 ∷ 0x201F0002 ∷ 7 ∷ 8 ∷ 0xF0000004 ∷ [])) (7 ∷ 1 ∷ [])
     -- "A list of no words: 7, place 0."
-    ∷ (checkDiff 4 [] ≡ refusedAt faultyList 0)
+    ∷ computed (openedWith []) (7 ∷ 0 ∷ [])
     -- "at stamp 4294967295 every number gives 5"
-    ∷ ((d : Directory) (m : List ℕ) (card : ℕ) (r : Release) (list : List ℕ) → Idle d m card
-    → ownRelease (sizeOf d) m card .number ≡ 4294967295 → r .number ≤ 4294967295
-    → opening d m card r list .outcome ≡ refusedAt numberUsed 4294967295)
+    ∷ claimed EveryNumberUsed
     -- "number 0 gives 5 at each stamp"
-    ∷ ((d : Directory) (m : List ℕ) (card : ℕ) (r : Release) (list : List ℕ) → Idle d m card → r .number ≡ 0
-    → opening d m card r list .outcome ≡ refusedAt numberUsed (ownRelease (sizeOf d) m card .number))
+    ∷ claimed NumberZeroUsed
     ∷ []
 
--- the twelve rows
-abbrev pub Worked : Type 0
-Worked = AllHold rows
+-- ---- demand 3 is not empty: what accepted fetches show after a recovery
 
--- ---- demand 3 is not empty: what accepted calls show after a recovery
-
-pub record Shown : Type 0 where
-  -- card 1 died after its stamp: the price came through a recovery forward
-  pub forward : fetched (recoveredFrom 13 1) 1 ≡ pageOf 250 199
-  -- card 1 died with its stamp not stored, all tentative words and the desk being stored: the recovery took it back
-  pub back : fetched (recoveredFrom 12 1) 1 ≡ zeros 32
-  -- card 2 died while card 1's release had made 5 steps: the recovery completed it
-  pub completed : fetched (recoveredFrom 5 2) 1 ≡ pageOf 250 199
+abbrev pub shown : List Example
+shown = takenForward ∷ takenBack ∷ completed ∷ []
