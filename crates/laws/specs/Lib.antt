@@ -1,3 +1,4 @@
 -- Definitions that several crates cite.
 pub mod Search
 pub mod Examples
+pub mod Text

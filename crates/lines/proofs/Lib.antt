@@ -1,4 +1,5 @@
 -- Laws on lines and answers.
+pub mod Examples
 pub mod Parts
 pub mod Digits
 pub mod Forms

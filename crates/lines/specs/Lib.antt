@@ -3,3 +3,4 @@ pub mod Line
 pub mod Command
 pub mod Grammar
 pub mod Answer
+pub mod Examples

@@ -5,6 +5,7 @@ ghost use Prim.Native.Nat.{_+_, _≤_, _<_};
 ghost use mathlib.Core.List.{_∷_, _++_};
 ghost use lib.ListN.{length, take, drop};
 ghost use lib.Seq.{sets};
+ghost use Rattle.laws.specs.Examples.{AllHold};
 ghost use Rattle.lines.specs.Line.{freshLine, unreadableLine, endedField, letterRead};
 ghost use Rattle.lines.specs.Line.{digitRead, byteRead, hasBegun};
 ghost use Rattle.lines.specs.Command.{isLabel, openForm, stepForm, failForm, joinForm};
@@ -12,6 +13,7 @@ ghost use Rattle.lines.specs.Command.{fetchForm};
 ghost use Rattle.lines.specs.Command.{formOf, commandOf, partFrom};
 ghost use Rattle.lines.specs.Grammar.{ReadsCommands};
 ghost use Rattle.lines.specs.Answer.{decimalBefore, answerLine};
+ghost use Rattle.lines.specs.Examples.{examples};
 
 // What a line asks for.
 pub enum Command {
@@ -368,3 +370,8 @@ pub fn append_answer(
     copy_bytes(&text[start..], output, written);
     written + (80 - start)
 }
+
+// Worked examples of shelfrun's lines, computed from the definitions. It does nothing when it is called.
+pub fn examples_hold()
+    ensures { λ _. ⌜ AllHold examples ⌝ }
+{}

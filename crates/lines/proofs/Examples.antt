@@ -1,0 +1,15 @@
+-- The examples hold: each is computed.
+use mathlib.Core.Path.{refl}
+use Rattle.laws.specs.Examples.{AllHold, sameWords, failuresFrom, Claims}
+use Rattle.laws.specs.Text.{bytesOf}
+use Rattle.laws.proofs.Examples.{all-hold}
+use Rattle.lines.specs.Command.{isLabel, openForm, stepForm, failForm, joinForm, fetchForm, formOf}
+use Rattle.lines.specs.Grammar.{breakAt, linesOf, fieldsOf, allDigits, numberFrom, allNumbers, valuesOf}
+use Rattle.lines.specs.Grammar.{commandIn}
+use Rattle.lines.specs.Answer.{digitsBefore, answerLine}
+use Rattle.lines.specs.Examples.{examples}
+
+pub examples-hold : AllHold examples
+unfolding sameWords failuresFrom Claims bytesOf isLabel openForm stepForm failForm joinForm fetchForm formOf breakAt linesOf
+    fieldsOf allDigits numberFrom allNumbers valuesOf commandIn digitsBefore answerLine
+examples-hold = all-hold examples refl tt
