@@ -4,6 +4,7 @@ ghost use mathlib.Core.Path.{_≡_};
 ghost use mathlib.Core.Bool.{cond};
 ghost use lib.Dec.{eqb};
 ghost use lib.ListN.{length};
+ghost use Rattle.laws.specs.Examples.{AllHold};
 ghost use Rattle.diff.specs.Making.{makeDiff, bufferAfter};
 ghost use Rattle.protocol.specs.Release.{releaseOf};
 ghost use Rattle.protocol.specs.Formatting.{formatting};
@@ -19,6 +20,7 @@ ghost use Rattle.batch.specs.FetchAll.{fetchAll};
 ghost use Rattle.bandsawpink.specs.Words.{directoryIn, wordsOf};
 ghost use Rattle.bandsawpink.specs.Answers.{answered, answeredDesk, directoryAfter};
 ghost use Rattle.bandsawpink.specs.Answers.{answeredSteps, answeredPages};
+ghost use Rattle.bandsawpink.specs.Examples.{examples};
 
 mod answers;
 mod words;
@@ -258,3 +260,8 @@ pub extern "C" fn rack_make_list(working: &[u32], twins: &[u32], buffer: &mut [u
     let answer = maker::make(working, twins, buffer);
     answers::in_numbers(answer)
 }
+
+// Worked examples of what crosses to C, computed from the definitions. It does nothing when it is called.
+pub fn examples_hold()
+    ensures { λ _. ⌜ AllHold examples ⌝ }
+{}

@@ -1,2 +1,3 @@
 -- Laws that the commands' proofs cite.
+pub mod Examples
 pub mod Results

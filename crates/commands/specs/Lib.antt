@@ -1,2 +1,3 @@
 -- What the contracts of the commands cite.
 pub mod Execute
+pub mod Examples

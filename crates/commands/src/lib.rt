@@ -1,9 +1,11 @@
 // The commands of shelfrun (document 01, "Numbers to hold it against"), executed on a rack.
 ghost use mathlib.Core.Path.{_≡_};
 ghost use lib.ListN.{getD};
+ghost use Rattle.laws.specs.Examples.{AllHold};
 ghost use Rattle.protocol.specs.Join.{join};
 ghost use Rattle.commands.specs.Execute.{openOne, makeSteps, failAndRecover, fetchWord};
 ghost use Rattle.commands.specs.Execute.{execute, letterOf};
+ghost use Rattle.commands.specs.Examples.{examples};
 use answer::Outcome;
 use directory::Directory;
 use lines::Command;
@@ -185,3 +187,8 @@ pub fn letter_of(command: Command) -> u8
         Command::Unreadable => b'-',
     }
 }
+
+// Worked examples of shelfrun's commands, computed from the definitions. It does nothing when it is called.
+pub fn examples_hold()
+    ensures { λ _. ⌜ AllHold examples ⌝ }
+{}
