@@ -87,8 +87,10 @@ refusalExamples =
     ∷ limitsRefuse 2028 3 0 ∷ limitsRefuse 14316 3 64 ∷ limitsRefuse 14508 3 65 ∷ limitsRefuse 2219 3 1
     ∷ limitsRefuse 2221 3 1 ∷ [])
     (1 ∷ 0 ∷ 0 ∷ 1 ∷ 1 ∷ 0 ∷ 1 ∷ 1 ∷ 1 ∷ [])
-    -- two live cards fit, one does not
-    ∷ computed (unfitIs twoCards smallMemory ∷ unfitIs (markedDead twoCards 1) smallMemory ∷ []) (0 ∷ 1 ∷ [])
+    -- two live cards fit; one does not, though the other home is awaited
+    ∷ computed
+    (unfitIs twoCards smallMemory ∷ unfitIs (withStatus (markedDead twoCards 1) (Awaiting 1)) smallMemory ∷ [])
+    (0 ∷ 1 ∷ [])
     -- homes that are one card, that no card has, or that are dead; a dead one fits while its recovery is awaited
     ∷ computed
     (unfitIs (withHomes smallRack 0 1 1) smallMemory ∷ unfitIs (withHomes smallRack 0 0 3) smallMemory
