@@ -132,20 +132,20 @@ is_current() { # NAME FILE
 
 # ---- proving and building
 
-# Waits until no other script of this repository proves, since they share target/. The lock ends with this shell.
+# Waits until no other run proves in this repository, since they share target/. The lock ends with this shell.
 lock_target() {
     mkdir -p out
     exec 9> out/lock
     flock -n 9 && return
-    say "waiting for another script that proves in this folder"
+    say "waiting for another run that proves here; one that was interrupted ends with the crates that it has begun"
     flock 9
 }
 
-# Hands on what rt says, and says which crate of how many is proved, which edit of how many refused, and what failed.
+# Hands on what rt says, and says which crate of how many is proved, and which edit of how many refused.
 show_progress() { # CRATES [EDITS]
     local line refused=0 began=$SECONDS
     local crate='^rt: ([a-z_]+) proved \((.*)\)$' library='^rt: target/staticlib/lib([a-z_]+)\.a has '
-    local edit='^rt: must-fail ([^:]+): refused' failed='^rt: .*(NOT |BAD |FAILED)'
+    local edit='^rt: must-fail ([^:]+): refused'
     local -A proved=()
     while IFS= read -r line || [ -n "$line" ]; do
         if [[ $line =~ $crate && -z ${proved[${BASH_REMATCH[1]}]-} ]]; then
@@ -157,8 +157,6 @@ show_progress() { # CRATES [EDITS]
         elif [[ $line =~ $edit ]]; then
             refused=$((refused + 1))
             say "$refused of $2 wrong programs refused: ${BASH_REMATCH[1]}"
-        elif [[ $line =~ $failed ]]; then
-            say "${line#rt: }"
         fi
         printf '%s\n' "$line"
     done
@@ -182,7 +180,7 @@ prove_and_keep() ( # NAME FILE MADE
     sources=$(sources_of "$1" "$2")
     say "$2 is to be built: proving $crates crates, which takes six minutes on two cores if all are new; log: $log"
     if ! "prove_$1" < /dev/null 2>&1 | show_progress "$crates" > "$log"; then
-        tail -n 20 "$log" >&2
+        sed '/^rt: .* NOT PROVED/q' "$log" | tail -n 20 >&2 # those above the first crate that is not proved
         fail "$2 is not built: not all is proved; log: $log"
     fi
     [ "$(sources_of "$1" "$2")" = "$sources" ] || fail "$2 is not built: the sources changed meanwhile; run this again"
