@@ -1,49 +1,87 @@
--- A part of the input up to a line feed: what it leaves to print, and where it ends.
-use Prim.Native.Nat.{ℕ, suc, _+_, _-_, _≤_, _<_}
+-- Bytes of the input one after the other; and a part of it up to a line feed: the state after it, and what it prints.
+use Prim.Native.Nat.{ℕ, zero, suc, _+_, _-_, _≤_, _<_}
 use mathlib.Core.Path.{_≡_, refl, sym, ap, _∙_}
-use mathlib.Core.List.{List, [], _∷_, _++_, append-assoc}
+use mathlib.Core.List.{List, [], _∷_, _++_, append-nil, append-assoc}
 use mathlib.Core.Bool.{Bool, true, false}
+use native.Mathlib.Nat.{zero-add}
 use native.Mathlib.Omega.{arith}
 use borrow.Author.Tests.{eqb-true}
 use lib.Dec.{eqb}
-use lib.ListN.{length, drop, getD, length-drop}
-use lib.Seq.{drop-cons, drop-drop, getD-drop}
-use native.Mathlib.Numerals.{add-one}
+use lib.ListN.{length, take, drop, getD, length-drop, length-append}
+use lib.Seq.{sets, take-suc, take-add}
+use Rattle.laws.proofs.Lists.{sets-append}
 use Rattle.lines.specs.Line.{byteRead}
 use Rattle.lines.specs.declared.Part.{Part}
 use Rattle.lines.specs.Command.{partFrom}
-use Rattle.interpreter.specs.Transcript.{Session, withLine, executed, answered, nextLine, replies}
+use Rattle.interpreter.specs.Transcript.{Session, withLine, executed, answered, nextLine, replies, PrintsInParts}
+use Rattle.interpreter.specs.Transcript.{State, stateOf, byteTaken, bytePrinted, stateAfter, printed}
 
--- where a part of a list that starts at an index ends
+-- ---- two parts of the input
+
+pub state-append : (t : State) (part rest : List ℕ) → stateAfter t (part ++ rest) ≡ stateAfter (stateAfter t part) rest
+unfolding stateAfter
+state-append t [] rest = refl
+state-append t (b ∷ bs) rest = state-append (byteTaken t b) bs rest
+
+pub printed-append : (t : State) (part rest : List ℕ)
+    → printed t (part ++ rest) ≡ printed t part ++ printed (stateAfter t part) rest
+unfolding stateAfter printed
+printed-append t [] rest = refl
+printed-append t (b ∷ bs) rest =
+    ap (λ l. bytePrinted t b ++ l) (printed-append (byteTaken t b) bs rest)
+    ∙ sym (append-assoc (bytePrinted t b) (printed (byteTaken t b) bs) (printed (stateAfter (byteTaken t b) bs) rest))
+
+pub prints-in-parts : PrintsInParts
+unfolding replies
+prints-in-parts s m part rest =
+    rw (printed-append (stateOf s m) part rest, state-append (stateOf s m) part rest, append-assoc)
+
+-- ---- a part that ends at a line feed, or at the end of a list that starts at an index
+
 pub record Ends (s : Session) (m list : List ℕ) (at : ℕ) (p : Part) : Type 0 where
-  pub after : at ≤ p .at
+  pub from : at ≤ p .at
   pub within : p .at ≤ at + length list
   pub feed : p .at < at + length list → getD list (p .at - at) 0 ≡ 10
-  pub leaves : (rest : List ℕ)
-      → replies s m (list ++ rest) ≡ replies (withLine s (p .line)) m (drop (p .at - at) list ++ rest)
+  pub state : stateAfter (stateOf s m) (take (p .at - at) list) ≡ stateOf (withLine s (p .line)) m
+  pub silent : printed (stateOf s m) (take (p .at - at) list) ≡ []
 
 module _ (m : List ℕ) where
   stops : (s : Session) (list : List ℕ) (at : ℕ) → (0 < length list → getD list 0 0 ≡ 10)
       → Ends s m list at (record { line = s .line; at = at })
+  unfolding stateAfter printed
   stops s list at feeds =
       let none : at - at ≡ 0 = omega arith in
       record {
-        after = omega arith;
+        from = omega arith;
         within = omega arith;
         feed = λ some. rw none (feeds (omega arith));
-        leaves = λ rest. rw none;
+        state = rw none;
+        silent = rw none;
       }
+
+  -- a byte that is no line feed
+  byte-state : (s : Session) (b : ℕ) (bs : List ℕ) → eqb b 10 ≡ false
+      → stateAfter (stateOf s m) (b ∷ bs) ≡ stateAfter (stateOf (withLine s (byteRead (s .line) b)) m) bs
+  unfolding stateAfter
+  byte-state s b bs other =
+      let read : byteTaken (stateOf s m) b ≡ stateOf (withLine s (byteRead (s .line) b)) m = rw other in
+      ap (λ t. stateAfter t bs) read
+
+  byte-silent : (s : Session) (b : ℕ) (bs : List ℕ) → eqb b 10 ≡ false
+      → printed (stateOf s m) (b ∷ bs) ≡ printed (stateOf (withLine s (byteRead (s .line) b)) m) bs
+  unfolding printed
+  byte-silent s b bs other = rw other
 
   goes-on : (s : Session) (b : ℕ) (bs : List ℕ) (at : ℕ) (p : Part) → eqb b 10 ≡ false
       → Ends (withLine s (byteRead (s .line) b)) m bs (at + 1) p → Ends s m (b ∷ bs) at p
-  unfolding replies
   goes-on s b bs at p other ends =
-      let next : p .at - at ≡ suc (p .at - (at + 1)) = omega (arith, ends .after) in
+      let next : p .at - at ≡ suc (p .at - (at + 1)) = omega (arith, ends .from) in
       record {
-        after = omega (arith, ends .after);
+        from = omega (arith, ends .from);
         within = omega (arith, ends .within);
         feed = λ some. rw next (ends .feed (omega arith));
-        leaves = λ rest. rw (other, next) (ends .leaves rest);
+        state = rw next (byte-state s b (take (p .at - (at + 1)) bs) other ∙ ends .state);
+        silent = rw next (byte-silent s b (take (p .at - (at + 1)) bs) other ∙ ends .silent);
       }
 
   pub part-ends : (s : Session) (list : List ℕ) (at : ℕ) → Ends s m list at (partFrom (s .line) at list)
@@ -57,51 +95,85 @@ module _ (m : List ℕ) where
       go true feed rest = rw feed (stops s (b ∷ bs) at (λ some. eqb-true b 10 feed))
       go false other rest = rw other (goes-on s b bs at _ other rest)
 
-  -- at a line feed, the answer and what is left to print
-  pub replies-feed : (s : Session) (rest : List ℕ)
-      → replies s m (10 ∷ rest) ≡ answered s m ++ replies (nextLine s m) (executed s m .memory) rest
-  unfolding replies
-  replies-feed s rest = refl
-
 -- ---- a part that starts within the input
 
 module _ (s : Session) (m input : List ℕ) (from : ℕ) (p : Part) (part : p ≡ partFrom (s .line) from (drop from input))
     (inside : from < length input) where
-  ends : Ends s m (drop from input) from p
+  -- the bytes from there up to an index
+  abbrev upto : ℕ → List ℕ
+  upto end = take (end - from) (drop from input)
+
+  pub ends : Ends s m (drop from input) from p
   ends = rw part (part-ends m s (drop from input) from)
 
   pub part-places : (from ≤ p .at) × (p .at ≤ length input)
-  part-places = omega (arith, ends .after, ends .within, length-drop from input)
+  part-places = omega (arith, ends .from, ends .within, length-drop from input)
 
-  leaves-from : (rest : List ℕ)
-      → replies s m (drop from input ++ rest) ≡ replies (withLine s (p .line)) m (drop (p .at) input ++ rest)
-  leaves-from rest =
-      let whole : from + (p .at - from) ≡ p .at = omega (arith, ends .after) in
-      ends .leaves rest ∙ rw (drop-drop, whole)
+  -- with the line feed at which it ends
+  module _ (within : p .at < length input) where
+    with-feed : upto (p .at + 1) ≡ upto (p .at) ++ 10 ∷ []
+    with-feed =
+        let size = length-drop from input in
+        let next : p .at + 1 - from ≡ suc (p .at - from) = omega (arith, ends .from) in
+        let more = take-suc (drop from input) (p .at - from) 0 (omega (arith, ends .from)) in
+        rw (next, more, ends .feed (omega arith))
 
-  -- after what is written already: the part alone, and a line that ends in the part
-  pub part-left : (front rest : List ℕ)
-      → front ++ replies s m (drop from input ++ rest)
-      ≡ front ++ replies (withLine s (p .line)) m (drop (p .at) input ++ rest)
-  part-left front rest = ap (λ l. front ++ l) (leaves-from rest)
+    pub line-state : stateAfter (stateOf s m) (upto (p .at + 1))
+        ≡ stateOf (nextLine (withLine s (p .line)) m) (executed (withLine s (p .line)) m .memory)
+    unfolding stateAfter
+    line-state = rw (with-feed, state-append (stateOf s m) (upto (p .at)) (10 ∷ []), ends .state)
 
-  pub part-fed : p .at < length input → (front rest : List ℕ)
-      → front ++ replies s m (drop from input ++ rest)
-      ≡ front ++ answered (withLine s (p .line)) m
-      ++ replies (nextLine (withLine s (p .line)) m) (executed (withLine s (p .line)) m .memory)
-      (drop (p .at + 1) input ++ rest)
-  part-fed within front rest =
-      let read = withLine s (p .line) in
-      let left = drop (p .at + 1) input ++ rest in
-      let whole : from + (p .at - from) ≡ p .at = omega (arith, ends .after) in
-      let feed : getD input (p .at) 0 ≡ 10 =
-      rw (getD-drop, whole) at (ends .feed (omega (arith, length-drop from input)))
-      in
-      let next : drop (p .at) input ≡ 10 ∷ drop (p .at + 1) input =
-      rw (drop-cons input (p .at) 0 within, feed, add-one)
-      in
-      let fed : replies s m (drop from input ++ rest)
-      ≡ answered read m ++ replies (nextLine read m) (executed read m .memory) left
-      = leaves-from rest ∙ rw next (replies-feed m read left) in
-      ap (λ l. front ++ l) fed
-      ∙ sym (append-assoc front (answered read m) (replies (nextLine read m) (executed read m .memory) left))
+    pub line-printed : printed (stateOf s m) (upto (p .at + 1)) ≡ answered (withLine s (p .line)) m
+    unfolding printed
+    line-printed =
+        rw (with-feed, printed-append (stateOf s m) (upto (p .at)) (10 ∷ []), ends .silent, ends .state)
+        (append-nil (answered (withLine s (p .line)) m))
+
+-- ---- the bytes of the input from its start up to an index
+
+module _ (start : State) (input : List ℕ) where
+  pub state-more : (read more : ℕ)
+      → stateAfter start (take (read + more) input)
+      ≡ stateAfter (stateAfter start (take read input)) (take more (drop read input))
+  state-more read more = rw (take-add read more input) (state-append start (take read input) (take more (drop read input)))
+
+  printed-more : (read more : ℕ)
+      → printed start (take (read + more) input)
+      ≡ printed start (take read input) ++ printed (stateAfter start (take read input)) (take more (drop read input))
+  printed-more read more =
+      rw (take-add read more input) (printed-append start (take read input) (take more (drop read input)))
+
+  -- where there is room for an answer, something is read
+  pub some-read : {room : ℕ} (read written : ℕ) → written ≡ length (printed start (take read input))
+      → (read < length input → room < written + 80) → 80 ≤ room → 0 < length input → 0 < read
+  unfolding printed
+  some-read zero written end full room some = let short = full some in absurd (omega arith)
+  some-read (suc read) written end full room some = omega arith
+
+-- they have been read, and what they print is in the output
+pub record Reached (start : State) (input before : List ℕ) (t : State) (read written : ℕ) (after : List ℕ) : Type 0
+  where
+    pub state : t ≡ stateAfter start (take read input)
+    pub end : written ≡ length (printed start (take read input))
+    pub output : after ≡ sets before 0 (printed start (take read input))
+
+module _ {start : State} {input before : List ℕ} where
+  pub none-read : Reached start input before start 0 0 before
+  unfolding stateAfter printed
+  none-read = record { state = refl; end = refl; output = refl }
+
+  pub more-read : {t u : State} {read next written end : ℕ} {output after : List ℕ}
+      → Reached start input before t read written output → read ≤ next
+      → u ≡ stateAfter t (take (next - read) (drop read input))
+      → end ≡ written + length (printed t (take (next - read) (drop read input)))
+      → after ≡ sets output written (printed t (take (next - read) (drop read input)))
+      → Reached start input before u next end after
+  more-read {read = read} {next} done further state end output =
+      let sum : read + (next - read) ≡ next = omega arith in
+      let states = rw sum at (state-more start input read (next - read)) in
+      let prints = rw sum at (printed-more start input read (next - read)) in
+      record {
+        state = rw states (state ∙ rw (done .state));
+        end = rw (prints, length-append) (end ∙ rw (done .end, done .state));
+        output = rw (prints, sets-append, zero-add) (output ∙ rw (done .end, done .output, done .state));
+      }

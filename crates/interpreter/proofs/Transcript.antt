@@ -11,8 +11,9 @@ use Rattle.lines.specs.Line.{freshLine, lineRead}
 use Rattle.lines.specs.Grammar.{breakAt, linesOf}
 use Rattle.lines.proofs.Grammar.{reads-commands}
 use Rattle.lines.proofs.Begun.{begun, read-more}
-use Rattle.interpreter.specs.Transcript.{Session, sessionOf, executed, answered, replies, answers}
-use Rattle.interpreter.specs.Transcript.{header, PrintsTranscript}
+use Rattle.interpreter.specs.Transcript.{Session, sessionOf, executed, answered, stateAfter, printed}
+use Rattle.interpreter.specs.Transcript.{replies, answers, header, PrintsTranscript}
+use Rattle.interpreter.proofs.Parts.{prints-in-parts}
 
 -- the first of these lines goes on from p
 unfoldable joined : List ℕ → List (List ℕ) → List (List ℕ)
@@ -49,7 +50,7 @@ module _ (number : ℕ) (d : Directory) (m : List ℕ) where
   line-ended p lines = rw (reads-commands p)
 
   input-ended : (p : List ℕ) → replies (at p) m [] ≡ answers number d m (joined p [])
-  unfolding replies joined answers lineRead
+  unfolding replies stateAfter printed joined answers lineRead
   input-ended [] = refl
   input-ended (b ∷ p) = rw (begun freshLine b p) (sym (append-nil (answered (at (b ∷ p)) m)) ∙ line-ended (b ∷ p) [])
 
@@ -59,17 +60,20 @@ Prints rest =
     → replies (at number d m p) m rest ≡ answers number d m (joined p (linesOf rest))
 
 at-feed : (bs : List ℕ) → Prints bs → Prints (10 ∷ bs)
-unfolding replies linesOf breakAt joined lineRead
+unfolding stateAfter printed linesOf breakAt joined lineRead
 at-feed bs later number d m p =
     let s = at number d m p in
-    ap (λ l. answered s m ++ l) (later ((number + 1) % 2 ^ 64) (executed s m .directory) (executed s m .memory) [])
+    prints-in-parts s m (10 ∷ []) bs
+    ∙ rw append-nil
+    (ap (λ l. answered s m ++ l) (later ((number + 1) % 2 ^ 64) (executed s m .directory) (executed s m .memory) [])
     ∙ line-ended number d m p (linesOf bs)
-    ∙ ap (answers number d m) (sym (joined-ended p (linesOf bs)))
+    ∙ ap (answers number d m) (sym (joined-ended p (linesOf bs))))
 
 at-byte : (b : ℕ) (bs : List ℕ) → eqb b 10 ≡ false → Prints bs → Prints (b ∷ bs)
-unfolding replies linesOf
+unfolding stateAfter printed linesOf
 at-byte b bs other later number d m p =
-    rw other
+    prints-in-parts (at number d m p) m (b ∷ []) bs
+    ∙ rw other
     (ap (λ line. replies (sessionOf d number line) m bs) (sym (read-more freshLine p b))
     ∙ later number d m (p ++ b ∷ [])
     ∙ ap (answers number d m) (sym (joined-byte p b (linesOf bs))))

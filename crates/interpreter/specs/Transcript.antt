@@ -41,16 +41,57 @@ nextLine s m = sessionOf (executed s m .directory) ((s .number + 1) % 2 ^ 64) fr
 
 -- ---- the input
 
--- what is printed from here on: at a line feed (10) the answer to the line
-unfoldable pub replies : Session → List ℕ → List ℕ → List ℕ
-replies s m [] = cond (hasBegun (s .line)) (answered s m) []
-replies s m (b ∷ bs) =
-    cond (eqb b 10) (answered s m ++ replies (nextLine s m) (executed s m .memory) bs)
-    (replies (withLine s (byteRead (s .line) b)) m bs)
+-- between two bytes of the input
+pub record State : Type 0 where
+  pub session : Session
+  pub memory : List ℕ
+
+abbrev pub stateOf : Session → List ℕ → State
+stateOf s m = record { session = s; memory = m }
+
+-- a line feed (10) ends the line, any other byte is read into it
+abbrev pub byteTaken : State → ℕ → State
+byteTaken t b =
+    cond (eqb b 10) (stateOf (nextLine (t .session) (t .memory)) (executed (t .session) (t .memory) .memory))
+    (stateOf (withLine (t .session) (byteRead (t .session .line) b)) (t .memory))
+
+-- at a line feed the answer to the line, else nothing
+abbrev pub bytePrinted : State → ℕ → List ℕ
+bytePrinted t b = cond (eqb b 10) (answered (t .session) (t .memory)) []
+
+-- the state after some bytes of the input, and what is printed for the lines that end in them
+unfoldable pub stateAfter : State → List ℕ → State
+stateAfter t [] = t
+stateAfter t (b ∷ bs) = stateAfter (byteTaken t b) bs
+
+unfoldable pub printed : State → List ℕ → List ℕ
+printed t [] = []
+printed t (b ∷ bs) = bytePrinted t b ++ printed (byteTaken t b) bs
+
+-- ---- the end of the input
+
+-- "a line ends at a line feed or the input's end, and nothing after the last line feed is no line": what is printed
+-- for the last line
+abbrev pub lastAnswer : Session → List ℕ → List ℕ
+lastAnswer s m = cond (hasBegun (s .line)) (answered s m) []
 
 -- the memory once the input has ended
 abbrev pub lastMemory : Session → List ℕ → List ℕ
 lastMemory s m = cond (hasBegun (s .line)) (executed s m .memory) m
+
+-- what is printed from here on
+unfoldable pub replies : Session → List ℕ → List ℕ → List ℕ
+replies s m input =
+    let t : State = stateAfter (stateOf s m) input in
+    printed (stateOf s m) input ++ lastAnswer (t .session) (t .memory)
+
+-- However an input is cut in two: what the first part prints, and what is printed from there on, are what is printed
+-- for the whole.
+abbrev pub PrintsInParts : Type 0
+PrintsInParts =
+    (s : Session) (m part rest : List ℕ)
+    → let t : State = stateAfter (stateOf s m) part in
+    replies s m (part ++ rest) ≡ printed (stateOf s m) part ++ replies (t .session) (t .memory) rest
 
 -- ---- the whole
 

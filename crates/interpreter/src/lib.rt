@@ -1,13 +1,14 @@
 // The interpreter of shelfrun (document 01, "Numbers to hold it against"): the lines of an input
 // answered, one part of the input after the other.
 ghost use mathlib.Core.Path.{_≡_};
-ghost use Prim.Native.Nat.{ℕ, _+_, _≤_, _<_};
-ghost use mathlib.Core.List.{List, [], _++_};
+ghost use Prim.Native.Nat.{_+_, _-_, _≤_, _<_};
 ghost use lib.ListN.{length, take, drop};
+ghost use lib.Seq.{sets};
 ghost use Rattle.protocol.specs.Formatting.{formatting};
-ghost use Rattle.interpreter.specs.Transcript.{executed, answered, nextLine, replies};
-ghost use Rattle.interpreter.specs.Transcript.{withLine, lastMemory, firstSession, header};
-ghost use Rattle.interpreter.specs.Transcript.{PrintsTranscript};
+ghost use Rattle.interpreter.specs.Transcript.{executed, answered, nextLine, withLine};
+ghost use Rattle.interpreter.specs.Transcript.{stateOf, stateAfter, printed};
+ghost use Rattle.interpreter.specs.Transcript.{lastAnswer, lastMemory, firstSession, header};
+ghost use Rattle.interpreter.specs.Transcript.{PrintsInParts, PrintsTranscript};
 use directory::Directory;
 use lines::Line;
 
@@ -47,8 +48,10 @@ pub struct Ended {
 fn end_line(memory: &mut [u32], session: Session, output: &mut [u8], written: usize) -> Ended
     requires { ⌜ written + 80 ≤ length (now output) ⌝ }
     ensures room { λ r. ⌜ r .written ≤ length (now (output .entry)) ⌝ }
-    ensures answer { λ r. ⌜ take (r .written) (now (output .exit))
-        ≡ take written (now (output .entry)) ++ answered session (now (memory .entry)) ⌝ }
+    ensures end { λ r. ⌜ r .written
+        ≡ written + length (answered session (now (memory .entry))) ⌝ }
+    ensures answer { λ _. ⌜ now (output .exit)
+        ≡ sets (now (output .entry)) written (answered session (now (memory .entry))) ⌝ }
     ensures session { λ r. ⌜ r .session ≡ nextLine session (now (memory .entry)) ⌝ }
     ensures memory { λ _. ⌜ now (memory .exit) ≡ executed session (now (memory .entry)) .memory ⌝ }
 {
@@ -99,12 +102,15 @@ fn feed(
     requires { ⌜ (from < length (now input)) × (written + 80 ≤ length (now output)) ⌝ }
     ensures places { λ r. ⌜ (from < r .read) × (r .read ≤ length (now (input .entry)))
         × (r .written ≤ length (now (output .entry))) ⌝ }
-    ensures replies { λ r. ⌜ ((rest : List ℕ)
-        → take written (now (output .entry))
-        ++ replies session (now (memory .entry)) (drop from (now (input .entry)) ++ rest)
-        ≡ take (r .written) (now (output .exit))
-        ++ replies (r .session) (now (memory .exit))
-        (drop (r .read) (now (input .entry)) ++ rest)) ⌝ }
+    ensures state { λ r. ⌜ stateOf (r .session) (now (memory .exit))
+        ≡ stateAfter (stateOf session (now (memory .entry)))
+        (take (r .read - from) (drop from (now (input .entry)))) ⌝ }
+    ensures end { λ r. ⌜ r .written
+        ≡ written + length (printed (stateOf session (now (memory .entry)))
+        (take (r .read - from) (drop from (now (input .entry))))) ⌝ }
+    ensures output { λ r. ⌜ now (output .exit)
+        ≡ sets (now (output .entry)) written (printed (stateOf session (now (memory .entry)))
+        (take (r .read - from) (drop from (now (input .entry))))) ⌝ }
 {
     let line = session.line;
     let part = lines::read_part(line, input, from);
@@ -127,19 +133,20 @@ fn feed(
     }
 }
 
-// Answers the lines of a part of the input, as far as the output has room: whatever follows it,
-// what is to be printed is the output and what is to be printed from there on. Where there is room
-// for an answer, something is read.
+// Answers the lines of a part of the input. What is left unread is what the output has no room for.
 pub fn respond(memory: &mut [u32], session: Session, input: &[u8], output: &mut [u8]) -> Progress
     ensures places { λ r. ⌜ (r .read ≤ length (now (input .entry)))
         × (r .written ≤ length (now (output .entry))) ⌝ }
-    ensures replies { λ r. ⌜ ((rest : List ℕ)
-        → replies session (now (memory .entry)) (now (input .entry) ++ rest)
-        ≡ take (r .written) (now (output .exit))
-        ++ replies (r .session) (now (memory .exit))
-        (drop (r .read) (now (input .entry)) ++ rest)) ⌝ }
-    ensures progress { λ r. ⌜ ((0 < length (now (input .entry)))
-        → (80 ≤ length (now (output .entry))) → 0 < r .read) ⌝ }
+    ensures full { λ r. ⌜ (r .read < length (now (input .entry))
+        → length (now (output .entry)) < r .written + 80) ⌝ }
+    ensures state { λ r. ⌜ stateOf (r .session) (now (memory .exit))
+        ≡ stateAfter (stateOf session (now (memory .entry)))
+        (take (r .read) (now (input .entry))) ⌝ }
+    ensures end { λ r. ⌜ r .written ≡ length (printed (stateOf session (now (memory .entry)))
+        (take (r .read) (now (input .entry)))) ⌝ }
+    ensures output { λ r. ⌜ now (output .exit)
+        ≡ sets (now (output .entry)) 0 (printed (stateOf session (now (memory .entry)))
+        (take (r .read) (now (input .entry)))) ⌝ }
 {
     let mut session = session;
     let mut read: usize = 0;
@@ -163,8 +170,9 @@ pub fn respond(memory: &mut [u32], session: Session, input: &[u8], output: &mut 
 // The input has ended: answers a line that no line feed ended, and says how long the answer is.
 pub fn finish(memory: &mut [u32], session: Session, output: &mut [u8; 80]) -> usize
     ensures room { λ r. ⌜ r ≤ length (now (output .exit)) ⌝ }
-    ensures replies { λ r. ⌜ take r (now (output .exit))
-        ≡ replies session (now (memory .entry)) [] ⌝ }
+    ensures end { λ r. ⌜ r ≡ length (lastAnswer session (now (memory .entry))) ⌝ }
+    ensures answer { λ _. ⌜ now (output .exit)
+        ≡ sets (now (output .entry)) 0 (lastAnswer session (now (memory .entry))) ⌝ }
     ensures memory { λ _. ⌜ now (memory .exit) ≡ lastMemory session (now (memory .entry)) ⌝ }
 {
     let line = session.line;
@@ -174,6 +182,13 @@ pub fn finish(memory: &mut [u32], session: Session, output: &mut [u8; 80]) -> us
     }
     0
 }
+
+// However an input is cut in two, what its first part prints, and what is printed from there on, are
+// what is printed for the whole: so the parts of an input, answered one after the other, are answered
+// as the whole is. It does nothing when it is called.
+pub fn prints_in_parts()
+    ensures { λ _. ⌜ PrintsInParts ⌝ }
+{}
 
 // Whatever the input holds, the header and what is printed from the first byte on are document 01's
 // transcript. It does nothing when it is called.

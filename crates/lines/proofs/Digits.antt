@@ -1,12 +1,12 @@
 -- Digits before a text, one at a time, and a byte stored before a text.
 use Prim.Native.Nat.{ℕ, zero, suc, _+_, _-_, _/_, _%_, _≤_, _<_}
 use mathlib.Core.Path.{_≡_, refl}
-use mathlib.Core.List.{List, _∷_, _++_}
+use mathlib.Core.List.{List, _∷_}
 use native.Mathlib.Numerals.{add-one}
 use native.Mathlib.Omega.{arith}
 use borrow.Author.Tests.{lt-ltb, le-ltb}
-use lib.ListN.{length, take, drop, set, length-set, length-append}
-use lib.Seq.{sets, sets-eq, take-at, length-take-le, drop-cons, drop-set-lt, getD-set-same}
+use lib.ListN.{length, drop, set, length-set}
+use lib.Seq.{drop-cons, drop-set-lt, getD-set-same}
 use Rattle.lines.specs.Answer.{digitsBefore}
 
 pub digits-none : (left n : ℕ) (text : List ℕ) → left ≤ 0 → digitsBefore left n text ≡ text
@@ -38,11 +38,3 @@ stored-before text at end b next within =
       getD-set-same text at b 0 within,
       drop-set-lt (suc at) text at b (omega arith),
     )
-
--- a run stored at the end of what is written
-pub appended : (vs output : List ℕ) (at end : ℕ) → at + length vs ≡ end → end ≤ length output
-    → take end (sets output at vs) ≡ take at output ++ vs
-appended vs output at end whole room =
-    let front : length (take at output) ≡ at = length-take-le at output (omega arith) in
-    let both : length (take at output ++ vs) ≡ end = simp (length-append, front) whole in
-    rw (sets-eq vs output at (omega arith)) (take-at (take at output ++ vs) _ end both)

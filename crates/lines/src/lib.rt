@@ -2,8 +2,8 @@
 // by byte into a command, and the line that answers it.
 ghost use mathlib.Core.Path.{_≡_};
 ghost use Prim.Native.Nat.{_+_, _≤_, _<_};
-ghost use mathlib.Core.List.{_∷_, _++_};
-ghost use lib.ListN.{length, take, drop};
+ghost use mathlib.Core.List.{_∷_};
+ghost use lib.ListN.{length, drop};
 ghost use lib.Seq.{sets};
 ghost use Rattle.laws.specs.Examples.{AllHold};
 ghost use Rattle.lines.specs.Line.{freshLine, unreadableLine, endedField, letterRead};
@@ -362,8 +362,9 @@ pub fn append_answer(
 ) -> usize
     requires { ⌜ written + 80 ≤ length (now output) ⌝ }
     ensures room { λ r. ⌜ r ≤ length (now (output .entry)) ⌝ }
-    ensures answer { λ r. ⌜ take r (now (output .exit))
-        ≡ take written (now (output .entry)) ++ answerLine number letter refusal value ⌝ }
+    ensures end { λ r. ⌜ r ≡ written + length (answerLine number letter refusal value) ⌝ }
+    ensures answer { λ _. ⌜ now (output .exit)
+        ≡ sets (now (output .entry)) written (answerLine number letter refusal value) ⌝ }
 {
     let mut text = [0u8; 80];
     let start = put_answer(&mut text, number, letter, refusal, value);

@@ -1,7 +1,10 @@
 // shelfrun (document 01, "Numbers to hold it against"): formats a rack of 3 cards and 4 pages, and
 // answers the commands that it reads from standard input, line by line.
-ghost use Prim.Native.Nat.{_≤_};
-ghost use lib.ListN.{length};
+ghost use mathlib.Core.Path.{_≡_};
+ghost use Prim.Native.Nat.{_+_, _≤_, _<_};
+ghost use lib.ListN.{length, take};
+ghost use lib.Seq.{sets};
+ghost use Rattle.interpreter.specs.Transcript.{stateOf, stateAfter, printed};
 use interpreter::Progress;
 use interpreter::Session;
 use libc::STDIN_FILENO;
@@ -9,7 +12,17 @@ use libc::STDOUT_FILENO;
 
 // Answers as much of the input as the output has room for, and writes the answers.
 fn answer_some(memory: &mut [u32], session: Session, input: &[u8], output: &mut [u8]) -> Progress
-    ensures { λ r. ⌜ r .read ≤ length (now (input .entry)) ⌝ }
+    ensures read { λ r. ⌜ r .read ≤ length (now (input .entry)) ⌝ }
+    ensures full { λ r. ⌜ (r .read < length (now (input .entry))
+        → length (now (output .entry)) < r .written + 80) ⌝ }
+    ensures state { λ r. ⌜ stateOf (r .session) (now (memory .exit))
+        ≡ stateAfter (stateOf session (now (memory .entry)))
+        (take (r .read) (now (input .entry))) ⌝ }
+    ensures end { λ r. ⌜ r .written ≡ length (printed (stateOf session (now (memory .entry)))
+        (take (r .read) (now (input .entry)))) ⌝ }
+    ensures output { λ r. ⌜ now (output .exit)
+        ≡ sets (now (output .entry)) 0 (printed (stateOf session (now (memory .entry)))
+        (take (r .read) (now (input .entry)))) ⌝ }
 {
     let done = interpreter::respond(memory, session, input, output);
     let written = done.written;
@@ -17,19 +30,18 @@ fn answer_some(memory: &mut [u32], session: Session, input: &[u8], output: &mut 
     done
 }
 
-// Answers a part of the input, an output at a time.
-fn answer_part(memory: &mut [u32], session: Session, input: &[u8]) -> Session {
+// Answers a part of the input, an output at a time, and says where the reading stands after it.
+fn answer_part(memory: &mut [u32], session: Session, input: &[u8]) -> Session
+    ensures { λ r. ⌜ stateOf r (now (memory .exit))
+        ≡ stateAfter (stateOf session (now (memory .entry))) (now (input .entry)) ⌝ }
+{
     let mut output = io::large_buffer();
     let mut session = session;
     let mut at: usize = 0;
     while at < input.len() {
         let done = answer_some(memory, session, &input[at..], &mut output);
         session = done.session;
-        let more = done.read;
-        if more == 0 {
-            break;
-        }
-        at += more;
+        at += done.read;
     }
     session
 }

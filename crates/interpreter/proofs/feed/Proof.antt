@@ -1,8 +1,9 @@
 -- Rests on the laws of `Parts`: the part read, and at a line feed the answer.
+use mathlib.Core.Path.{_∙_}
+use native.Mathlib.Nat.{add-zero}
 use native.Mathlib.Omega.{arith}
 use borrow.Author.Needs.{needs}
-use lib.ListN.{take}
-use Rattle.interpreter.proofs.Parts.{part-places, part-left, part-fed}
+use Rattle.interpreter.proofs.Parts.{ends, part-places, line-state, line-printed}
 use Rattle.interpreter.proofs.feed.Statement.{statement}
 use Rattle.interpreter.proofs.feed.Tie as tie
 
@@ -23,12 +24,14 @@ returns c =
     let s = a .session in
     let m = a .memory .now in
     let input = a .input .now in
-    let places = part-places s m input (a .from) (part .result) (part .ensures) (start .pre .0) in (
+    let places = part-places s m input (a .from) (part .result) (part .ensures) (start .pre .0) in
+    let state = line-state s m input (a .from) (part .result) (part .ensures) (start .pre .0) (test .if1 .taken) in
+    let answer = line-printed s m input (a .from) (part .result) (part .ensures) (start .pre .0) (test .if1 .taken) in (
       (omega arith, omega arith, ended .0),
-      λ rest.
-          rw (ended .1 .0, ended .1 .1 .0, ended .1 .1 .1, read)
-          (part-fed s m input (a .from) (part .result) (part .ensures) (start .pre .0) (test .if1 .taken)
-          (take (a .written) (a .output .now)) rest),
+      (
+        rw (ended .1 .1 .1 .0, ended .1 .1 .1 .1, read, state),
+        (rw answer (ended .1 .0 ∙ rw read), rw answer (ended .1 .1 .0 ∙ rw read)),
+      ),
     )
 
 returns-2 : tie.Need-returns-2
@@ -40,12 +43,10 @@ returns-2 c =
     let s = a .session in
     let m = a .memory .now in
     let input = a .input .now in
-    let places = part-places s m input (a .from) (part .result) (part .ensures) (start .pre .0) in (
+    let places = part-places s m input (a .from) (part .result) (part .ensures) (start .pre .0) in
+    let passed = ends s m input (a .from) (part .result) (part .ensures) (start .pre .0) in (
       (omega arith, omega arith, omega arith),
-      λ rest.
-          rw read
-          (part-left s m input (a .from) (part .result) (part .ensures) (start .pre .0)
-          (take (a .written) (a .output .now)) rest),
+      (rw (read, passed .state), (rw (passed .silent, add-zero), rw (passed .silent))),
     )
 
 pub feed-spec : {M : Type 1} → statement M

@@ -1,32 +1,25 @@
--- Rests on `feed`. The loop's invariant: the output, and what is to be printed from here on, are the whole.
-use Prim.Native.Nat.{ℕ, zero, suc, _-_, _≤_, _<_}
-use mathlib.Core.Path.{_≡_, refl, _∙_}
-use mathlib.Core.List.{List, _++_}
+-- Rests on `feed` and `more-read`. The loop's invariant: the bytes passed have been read and answered.
+use Prim.Native.Nat.{_-_, _≤_}
+use mathlib.Core.Path.{_≡_}
 use native.Mathlib.Omega.{arith}
 use borrow.Author.Needs.{needs}
-use lib.ListN.{length, take, drop}
-use Rattle.interpreter.specs.Transcript.{replies}
+use lib.ListN.{length}
+use Rattle.interpreter.specs.Transcript.{stateOf}
+use Rattle.interpreter.proofs.Parts.{Reached, none-read, more-read}
 use Rattle.interpreter.proofs.respond.Statement.{statement}
 use Rattle.interpreter.proofs.respond.Tie as tie
-
-some-read : (read : ℕ) → (read ≡ 0 → ⊥) → 0 < read
-some-read zero none = absurd (none refl)
-some-read (suc n) none = omega arith
 
 abbrev Inv-loop : tie.InvT-loop
 Inv-loop memory₀ input output₀ session₀ read₀ written₀ memory output session read written =
     (read ≤ length input) × (written ≤ length output) × (length output ≡ length output₀)
     × (length memory ≡ length memory₀)
-    × ((rest : List ℕ)
-    → replies session₀ memory₀ (input ++ rest)
-    ≡ take written output ++ replies session memory (drop read input ++ rest))
-    × (read ≡ 0 → written ≡ 0)
+    × Reached (stateOf session₀ memory₀) input output₀ (stateOf session memory) read written output
 
 abbrev μ-loop : tie.MeasureT-loop
 μ-loop memory₀ input output₀ session₀ read₀ written₀ memory output session read written = length input - read
 
 loop-holds : tie.Need-loop-holds Inv-loop μ-loop
-loop-holds c = (search needs, search needs, search needs, search needs, λ rest. refl, λ none. refl)
+loop-holds c = (search needs, search needs, search needs, search needs, none-read)
 
 loop-again : tie.Need-loop-again Inv-loop μ-loop
 loop-again c =
@@ -37,24 +30,22 @@ loop-again c =
       search needs,
       search needs,
       search needs,
-      λ rest. at .inv .4 rest ∙ fed .1 rest,
-      λ none. absurd (omega arith),
+      more-read (at .inv .4) (omega arith) (fed .1 .0) (fed .1 .1 .0) (fed .1 .1 .1),
     )
 
 returns : tie.Need-returns Inv-loop μ-loop
 returns c =
-    let at = c .before .loop in
-    ((at .inv .0, search needs), (at .inv .4, λ some room. omega (arith, some, c .loop-test .left)))
+    let done = c .before .loop .inv in (
+      (done .0, search needs),
+      (λ some. absurd (omega arith), (done .4 .state, (done .4 .end, done .4 .output))),
+    )
 
 returns-2 : tie.Need-returns-2 Inv-loop μ-loop
 returns-2 c =
-    let at = c .before .before .loop in
-    let full = c .if1 .taken in
-    let same = at .inv .2 in
-    let read-some : 80 ≤ length (c .before .before .before .before .before .before .args .output .now) → 0 < at .read
-    = λ room. some-read _ (λ none. let start = at .inv .5 none in absurd (omega arith))
-    in
-    ((at .inv .0, search needs), (at .inv .4, λ some. read-some))
+    let done = c .before .before .loop .inv in (
+      (done .0, search needs),
+      (λ some. search needs, (done .4 .state, (done .4 .end, done .4 .output))),
+    )
 
 pub respond-spec : {M : Type 1} → statement M
 respond-spec =

@@ -1,27 +1,71 @@
--- Safe, and ends: what is left of the input falls.
-use Prim.Native.Nat.{_-_, _≤_}
-use mathlib.Core.Path.{_≡_}
+-- Rests on `answer_some`, and on laws of the interpreter's `Parts`. The loop's invariant: the bytes passed have been read.
+use Prim.Native.Nat.{ℕ, _-_, _≤_}
+use mathlib.Core.Path.{_≡_, refl, _∙_}
+use mathlib.Core.List.{List}
+use native.Mathlib.Omega.{arith}
 use borrow.Author.Needs.{needs}
-use lib.ListN.{length}
+use lib.ListN.{length, take, drop, length-drop}
+use lib.Seq.{take-all}
+use Rattle.interpreter.specs.Transcript.{stateOf, stateAfter}
+use Rattle.interpreter.proofs.Parts.{state-more, some-read}
 use Rattle.shelfrun.proofs.answer_part.Statement.{statement}
 use Rattle.shelfrun.proofs.answer_part.Tie as tie
+
+-- what is left of the input
+left-over : (input : List ℕ) (at : ℕ) → take (length input - at) (drop at input) ≡ drop at input
+left-over input at = take-all (length input - at) (drop at input) (omega (arith, length-drop at input))
 
 abbrev Inv-loop : tie.InvT-loop
 Inv-loop memory₀ input output₀ session₀ at₀ memory output session at =
     (at ≤ length input) × (length memory ≡ length memory₀) × (length output ≡ 65536)
+    × (stateOf session memory ≡ stateAfter (stateOf session₀ memory₀) (take at input))
 
 abbrev μ-loop : tie.MeasureT-loop
 μ-loop memory₀ input output₀ session₀ at₀ memory output session at = length input - at
 
-returns : tie.Need-returns Inv-loop μ-loop
-returns c = search needs
+loop-holds : tie.Need-loop-holds Inv-loop μ-loop
+unfolding stateAfter
+loop-holds c = (search needs, search needs, search needs, refl)
 
-returns-2 : tie.Need-returns-2 Inv-loop μ-loop
-returns-2 c = search needs
+add-at : tie.Need-add-at Inv-loop μ-loop
+add-at c =
+    let start = c .before .before .before .before .before .before .before .before .before .before .before .before .before .before in
+    let left = left-over (start .args .input .now) (c .before .before .before .before .before .before .before .before .before .before .loop .at) in
+    let read = rw left at (c .before .before .before .before .before .answer-some .ensures .0) in
+    omega (arith, start .good .1 .1 .0 .0, length-drop (c .before .before .before .before .before .before .before .before .before .before .loop .at) (start .args .input .now))
+
+loop-less : tie.Need-loop-less Inv-loop μ-loop
+loop-less c =
+    let at = c .before .before .before .before .before .before .before .before .before .before .loop in
+    let input = c .before .before .before .before .before .before .before .before .before .before .before .before .before .before .args .input .now in
+    let done = c .before .before .before .before .before .answer-some in
+    let size = length-drop (at .at) input in
+    let more =
+    some-read (stateOf (at .session) (at .memory)) (drop (at .at) input) (done .result .read) (done .result .written)
+    (rw (left-over input (at .at)) at (done .ensures .1 .1 .1 .0))
+    (rw (left-over input (at .at)) at (done .ensures .1 .0)) (omega arith) (omega arith)
+    in
+    omega arith
+
+loop-again : tie.Need-loop-again Inv-loop μ-loop
+loop-again c =
+    let at = c .before .before .before .before .before .before .before .before .before .before .loop in
+    let a = c .before .before .before .before .before .before .before .before .before .before .before .before .before .before .args in
+    let done = c .before .before .before .before .before .answer-some in
+    let left = left-over (a .input .now) (at .at) in
+    let whole = state-more (stateOf (a .session) (a .memory .now)) (a .input .now) (at .at) (done .result .read) in (
+      search needs,
+      search needs,
+      search needs,
+      rw (whole, ← at .inv .3) (rw left at (done .ensures .1 .1 .0)),
+    )
+
+returns : tie.Need-returns Inv-loop μ-loop
+returns c = c .before .loop .inv .3 ∙ rw (take-all _ _ (c .loop-test .left))
 
 pub answer-part-spec : {M : Type 1} → statement M
 answer-part-spec =
     tie.close
-    (tie.spec Inv-loop μ-loop (λ c κs. search needs) (λ c. search needs) (λ c. search needs) (λ c. search needs)
-    (λ c. search needs) (λ c. search needs) (λ c κs. search needs) (λ c. search needs) (λ c. search needs)
-    (λ c. search needs) (λ c. search needs) returns (λ c. search needs) returns-2)
+    (tie.spec Inv-loop μ-loop (λ c κs. search needs) loop-holds (λ c. search needs) (λ c. search needs)
+    (λ c. search needs) (λ c. search needs) (λ c κs. search needs) add-at loop-less loop-again
+    (λ c. search needs) returns)
