@@ -135,7 +135,8 @@ module _ (start : State) (input : List ℕ) where
   pub state-more : (read more : ℕ)
       → stateAfter start (take (read + more) input)
       ≡ stateAfter (stateAfter start (take read input)) (take more (drop read input))
-  state-more read more = rw (take-add read more input) (state-append start (take read input) (take more (drop read input)))
+  state-more read more =
+      rw (take-add read more input) (state-append start (take read input) (take more (drop read input)))
 
   printed-more : (read more : ℕ)
       → printed start (take (read + more) input)

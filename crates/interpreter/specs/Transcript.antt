@@ -41,7 +41,7 @@ nextLine s m = sessionOf (executed s m .directory) ((s .number + 1) % 2 ^ 64) fr
 
 -- ---- the input
 
--- between two bytes of the input
+-- between two bytes of the input: the session, and the rack's memory
 pub record State : Type 0 where
   pub session : Session
   pub memory : List ℕ

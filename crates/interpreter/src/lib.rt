@@ -183,9 +183,9 @@ pub fn finish(memory: &mut [u32], session: Session, output: &mut [u8; 80]) -> us
     0
 }
 
-// However an input is cut in two, what its first part prints, and what is printed from there on, are
-// what is printed for the whole: so the parts of an input, answered one after the other, are answered
-// as the whole is. It does nothing when it is called.
+// However an input is cut in two, what its first part prints, and what is printed from there on,
+// are what is printed for the whole: so the parts of an input, answered one after the other, give
+// the answers of the whole. It does nothing when it is called.
 pub fn prints_in_parts()
     ensures { λ _. ⌜ PrintsInParts ⌝ }
 {}

@@ -41,7 +41,8 @@ fn answer_part(memory: &mut [u32], session: Session, input: &[u8]) -> Session
     while at < input.len() {
         let done = answer_some(memory, session, &input[at..], &mut output);
         session = done.session;
-        at += done.read;
+        let read = done.read;
+        at += read;
     }
     session
 }

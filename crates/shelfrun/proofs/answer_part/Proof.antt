@@ -1,6 +1,6 @@
--- Rests on `answer_some`, and on laws of the interpreter's `Parts`. The loop's invariant: the bytes passed have been read.
+-- Rests on `answer_some` and the interpreter's laws on parts. The loop's invariant: the bytes passed have been read.
 use Prim.Native.Nat.{ℕ, _-_, _≤_}
-use mathlib.Core.Path.{_≡_, refl, _∙_}
+use mathlib.Core.Path.{_≡_, refl, sym, ap, _∙_}
 use mathlib.Core.List.{List}
 use native.Mathlib.Omega.{arith}
 use borrow.Author.Needs.{needs}
@@ -29,35 +29,40 @@ loop-holds c = (search needs, search needs, search needs, refl)
 
 add-at : tie.Need-add-at Inv-loop μ-loop
 add-at c =
-    let start = c .before .before .before .before .before .before .before .before .before .before .before .before .before .before in
-    let left = left-over (start .args .input .now) (c .before .before .before .before .before .before .before .before .before .before .loop .at) in
-    let read = rw left at (c .before .before .before .before .before .answer-some .ensures .0) in
-    omega (arith, start .good .1 .1 .0 .0, length-drop (c .before .before .before .before .before .before .before .before .before .before .loop .at) (start .args .input .now))
+    let call = c .before .before .before .before in
+    let turn = call .before .before .before .before .before in
+    let start = turn .before .before .before .before in
+    let input = start .args .input .now in
+    let read = rw (left-over input (turn .loop .at)) at (call .answer-some .ensures .0) in
+    omega (arith, start .good .1 .1 .0 .0, length-drop (turn .loop .at) input)
 
 loop-less : tie.Need-loop-less Inv-loop μ-loop
 loop-less c =
-    let at = c .before .before .before .before .before .before .before .before .before .before .loop in
-    let input = c .before .before .before .before .before .before .before .before .before .before .before .before .before .before .args .input .now in
-    let done = c .before .before .before .before .before .answer-some in
+    let call = c .before .before .before .before in
+    let at = call .before .before .before .before .before .loop in
+    let input = call .before .before .before .before .before .before .before .before .before .args .input .now in
+    let done = call .answer-some in
+    let left = left-over input (at .at) in
     let size = length-drop (at .at) input in
     let more =
     some-read (stateOf (at .session) (at .memory)) (drop (at .at) input) (done .result .read) (done .result .written)
-    (rw (left-over input (at .at)) at (done .ensures .1 .1 .1 .0))
-    (rw (left-over input (at .at)) at (done .ensures .1 .0)) (omega arith) (omega arith)
+    (rw left at (done .ensures .1 .1 .1 .0)) (rw left at (done .ensures .1 .0)) (omega arith) (omega arith)
     in
     omega arith
 
 loop-again : tie.Need-loop-again Inv-loop μ-loop
 loop-again c =
-    let at = c .before .before .before .before .before .before .before .before .before .before .loop in
-    let a = c .before .before .before .before .before .before .before .before .before .before .before .before .before .before .args in
-    let done = c .before .before .before .before .before .answer-some in
-    let left = left-over (a .input .now) (at .at) in
-    let whole = state-more (stateOf (a .session) (a .memory .now)) (a .input .now) (at .at) (done .result .read) in (
+    let call = c .before .before .before .before in
+    let at = call .before .before .before .before .before .loop in
+    let a = call .before .before .before .before .before .before .before .before .before .args in
+    let done = call .answer-some in
+    let start = stateOf (a .session) (a .memory .now) in
+    let part = take (done .result .read) (drop (at .at) (a .input .now)) in (
       search needs,
       search needs,
       search needs,
-      rw (whole, ← at .inv .3) (rw left at (done .ensures .1 .1 .0)),
+      rw (left-over (a .input .now) (at .at)) at (done .ensures .1 .1 .0) ∙ ap (λ t. stateAfter t part) (at .inv .3)
+          ∙ sym (state-more start (a .input .now) (at .at) (done .result .read)),
     )
 
 returns : tie.Need-returns Inv-loop μ-loop
