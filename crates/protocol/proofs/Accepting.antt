@@ -95,7 +95,7 @@ unfolding awaitsRecovery
 running-status Running e = refl
 running-status (Awaiting f) e = absurd (true≢false e)
 
-live-card : (d : Directory) (c : ℕ) → noLiveCard d c ≡ false → (c < d .cards) × (isLive d c ≡ true)
+pub live-card : (d : Directory) (c : ℕ) → noLiveCard d c ≡ false → (c < d .cards) × (isLive d c ≡ true)
 live-card d c none =
     let both = neither (leb (d .cards) c) (not (isLive d c)) none in
     (leb-false (d .cards) c (both .0), not-false (isLive d c) (both .1))

@@ -1,6 +1,12 @@
 -- Laws on the calls' definitions, and demand 3.
 pub mod examples
 pub mod Limits
+pub mod Accepting
+pub mod Agreeing
+pub mod Fitting
+pub mod Refused
+pub mod Below
+pub mod PastLimits
 pub mod Writes
 pub mod Over
 pub mod Shape
@@ -31,14 +37,12 @@ pub mod Recovered
 pub mod JoinedArea
 pub mod JoinedMemory
 pub mod Joining
-pub mod Accepting
 pub mod Formatted
 pub mod Found
 pub mod Calling
 pub mod Answering
 pub mod Counting
 pub mod Accepted
-pub mod Refused
 pub mod Demand3
 pub mod Fitted
 pub mod Corollaries

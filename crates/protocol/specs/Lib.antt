@@ -14,5 +14,6 @@ pub mod Join
 pub mod Book
 pub mod Demand3
 pub mod Demand1
+pub mod PastLimits
 pub mod Corollaries
 pub mod examples

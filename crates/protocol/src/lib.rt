@@ -4,6 +4,7 @@
 ghost use Rattle.laws.specs.Examples.{AllHold};
 ghost use Rattle.protocol.specs.Demand1.{Demand1};
 ghost use Rattle.protocol.specs.Demand3.{Demand3};
+ghost use Rattle.protocol.specs.PastLimits.{PastLimits};
 ghost use Rattle.protocol.specs.Corollaries.{AlwaysFits, ResendsRefused, CountsOnce};
 ghost use Rattle.protocol.specs.examples.Releases.{releaseExamples};
 ghost use Rattle.protocol.specs.examples.Refusals.{refusalExamples};
@@ -13,6 +14,12 @@ ghost use Rattle.protocol.specs.examples.Joins.{joinExamples};
 // Demand 1: a refused call leaves everything that was lent as it was.
 pub fn refused_changes_nothing()
     ensures { λ _. ⌜ Demand1 ⌝ }
+{}
+
+// What stands past a directory's cards and pages is read by no call, kept by each, and blank after
+// formatting.
+pub fn nothing_past_is_read()
+    ensures { λ _. ⌜ PastLimits ⌝ }
 {}
 
 // Demand 3: after every list of calls, and whatever the areas of cards that are away hold, accepted

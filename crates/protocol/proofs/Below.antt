@@ -1,0 +1,14 @@
+-- What each call reads of a directory stands below its cards and pages.
+pub mod Directory
+pub mod Changes
+pub mod Checks
+pub mod Call
+pub mod Formatting
+pub mod Opening
+pub mod Writes
+pub mod Step
+pub mod Reading
+pub mod Failure
+pub mod Recovered
+pub mod Recovery
+pub mod Join

@@ -1,0 +1,37 @@
+-- A failure reads nothing past a directory's cards and pages, and keeps what stands there.
+use Prim.Native.Nat.{ℕ}
+use mathlib.Core.Path.{refl, ap}
+use mathlib.Core.List.{List, []}
+use mathlib.Core.Bool.{false}
+use lib.Dec.{leb}
+use Rattle.answer.specs.Outcome.{twoLive}
+use Rattle.directory.specs.declared.Directory.{Directory}
+use Rattle.directory.specs.declared.Status.the-variants.{Awaiting}
+use Rattle.protocol.specs.Checks.{check}
+use Rattle.protocol.specs.Failure.{failureChecks, failure}
+use Rattle.protocol.specs.PastLimits.{belowLimits}
+use Rattle.protocol.proofs.Accepting.{live-card}
+use Rattle.protocol.proofs.Agreeing.{count-agree, SameChecks, none, more}
+use Rattle.protocol.proofs.Below.Directory.{live-below}
+use Rattle.protocol.proofs.Below.Changes.{status-kept, marked-same, marked-kept}
+use Rattle.protocol.proofs.Below.Checks.{running-then, live-then}
+use Rattle.protocol.proofs.Below.Call.{CallBelow, by-checks}
+
+module _ (d : Directory) (m : List ℕ) (c : ℕ) where
+  checks-below : SameChecks (failureChecks (belowLimits d) m c) (failureChecks d m c)
+  checks-below =
+      running-then d m
+      (live-then d m c (λ _.
+      more (ap (λ (many : ℕ). check (leb many 2) twoLive) (count-agree _ _ (d .cards) (live-below d))) (λ _. none)))
+
+  pub failure-below : CallBelow d (failure (belowLimits d) m c) (failure d m c)
+  unfolding failure
+  failure-below =
+      by-checks d m _ _ [] checks-below refl refl refl (λ _. refl)
+      (λ p.
+      record {
+        directory = marked-same d c false (Awaiting c);
+        memory = refl;
+        words = refl;
+        kept = status-kept d _ (Awaiting c) (marked-kept d c false (live-card d c (p .1 .1 .1 .0) .0));
+      })

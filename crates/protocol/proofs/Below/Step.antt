@@ -1,0 +1,39 @@
+-- A step reads nothing past a directory's cards and pages.
+use Prim.Native.Nat.{ℕ}
+use mathlib.Core.Path.{_≡_, refl, ap}
+use mathlib.Core.List.{List, []}
+use mathlib.Core.Bool.{Bool, not}
+use Rattle.answer.specs.Outcome.{noneOpen}
+use Rattle.directory.specs.declared.Directory.{Directory}
+use Rattle.directory.specs.Directory.{backupOf}
+use Rattle.directory.proofs.Live.{next-live-below}
+use Rattle.protocol.specs.Release.{sizeOf, stepMemory}
+use Rattle.protocol.specs.Checks.{check}
+use Rattle.protocol.specs.Step.{stepChecks, step}
+use Rattle.protocol.specs.PastLimits.{belowLimits}
+use Rattle.protocol.proofs.Agreeing.{SameChecks, none, more}
+use Rattle.protocol.proofs.Fitting.{Fitting, fitting}
+use Rattle.protocol.proofs.Below.Directory.{open-below, next-below}
+use Rattle.protocol.proofs.Below.Checks.{running-then, live-then}
+use Rattle.protocol.proofs.Below.Writes.{step-memory-below}
+use Rattle.protocol.proofs.Below.Call.{CallBelow, by-checks, same-directory}
+
+module _ (d : Directory) (m : List ℕ) (c : ℕ) where
+  checks-below : SameChecks (stepChecks (belowLimits d) m c) (stepChecks d m c)
+  checks-below =
+      running-then d m
+      (live-then d m c (λ real.
+      more (ap (λ (taken : Bool). check (not taken) noneOpen) (open-below d (sizeOf d) m c real)) (λ _. none)))
+
+  memory-below : Fitting d
+      → stepMemory (belowLimits d) (backupOf (belowLimits d) c) m c ≡ stepMemory d (backupOf d c) m c
+  memory-below fit =
+      rw (next-below d c)
+      (step-memory-below d fit (backupOf d c)
+      (next-live-below (d .live) (d .cards) c (fit .up) (fit .up-below) (fit .up-live)) m c)
+
+  pub step-below : CallBelow d (step (belowLimits d) m c) (step d m c)
+  unfolding step
+  step-below =
+      by-checks d m _ _ [] checks-below refl refl refl (λ _. refl)
+      (λ p. same-directory refl refl (memory-below (fitting d m (p .1 .0))) refl)
