@@ -1,6 +1,5 @@
 -- What each call reads of a directory stands below its cards and pages.
 pub mod Directory
-pub mod Changes
 pub mod Checks
 pub mod Call
 pub mod Formatting

@@ -5,6 +5,7 @@ pub mod Accepting
 pub mod Agreeing
 pub mod Fitting
 pub mod Refused
+pub mod Above
 pub mod Below
 pub mod PastLimits
 pub mod Writes

@@ -11,7 +11,7 @@ use Rattle.protocol.specs.PastLimits.{belowLimits, KeptPast}
 use Rattle.protocol.proofs.Accepting.{numbered, Passed, all-passed, outcome-of, when-accepted}
 use Rattle.protocol.proofs.Agreeing.{SameChecks, first-agree}
 use Rattle.protocol.proofs.Below.Directory.{below-twice}
-use Rattle.protocol.proofs.Below.Changes.{kept-same}
+use Rattle.protocol.proofs.Above.{kept-same}
 
 -- what a call leaves, by the directory cut off (`part`) and by the whole of it, which is d
 pub record LeftBelow (d : Directory) (part whole : Result) : Type 0 where

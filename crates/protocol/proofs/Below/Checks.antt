@@ -3,6 +3,7 @@ use Prim.Native.Nat.{ℕ, _<_}
 use mathlib.Core.Path.{_≡_, refl, ap}
 use mathlib.Core.List.{List, _∷_, _++_}
 use mathlib.Core.Bool.{Bool, not, _&&_}
+use native.Mathlib.Omega.{arith}
 use lib.Dec.{ltb}
 use Rattle.laws.specs.Search.{lowest, someBelow}
 use Rattle.answer.specs.Outcome.{unfit, noCard}
@@ -22,7 +23,8 @@ module _ (d : Directory) where
   few-below : fewLive (marksBelow d) (d .cards) ≡ fewLive (d .live) (d .cards)
   unfolding fewLive
   few-below =
-      ap (λ (n : ℕ). ltb n 2) (count-agree (liveAt (marksBelow d)) (liveAt (d .live)) (d .cards) (live-below d))
+      ap (λ (n : ℕ). ltb n 2)
+      (count-agree (liveAt (marksBelow d)) (liveAt (d .live)) _ (λ c below. live-below d c (omega arith)))
 
   home-below : (h : ℕ) → badHome (d .cards) (marksBelow d) (d .status) h ≡ badHome (d .cards) (d .live) (d .status) h
   unfolding badHome

@@ -13,7 +13,7 @@ use Rattle.protocol.specs.PastLimits.{belowLimits}
 use Rattle.protocol.proofs.Accepting.{live-card}
 use Rattle.protocol.proofs.Agreeing.{count-agree, SameChecks, none, more}
 use Rattle.protocol.proofs.Below.Directory.{live-below}
-use Rattle.protocol.proofs.Below.Changes.{status-kept, marked-same, marked-kept}
+use Rattle.protocol.proofs.Above.{status-kept, marked-same, marked-kept}
 use Rattle.protocol.proofs.Below.Checks.{running-then, live-then}
 use Rattle.protocol.proofs.Below.Call.{CallBelow, by-checks}
 

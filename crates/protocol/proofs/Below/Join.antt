@@ -13,7 +13,7 @@ use Rattle.protocol.specs.Join.{joinChecks, resetArea, copyDeadRecord, b
 use Rattle.protocol.specs.PastLimits.{belowLimits}
 use Rattle.protocol.proofs.Agreeing.{some-agree, in-turn-agree, SameChecks, none, more}
 use Rattle.protocol.proofs.Below.Directory.{live-below, open-below, next-below, backup-below}
-use Rattle.protocol.proofs.Below.Changes.{marked-same, marked-kept}
+use Rattle.protocol.proofs.Above.{marked-same, marked-kept}
 use Rattle.protocol.proofs.Below.Checks.{running-then}
 use Rattle.protocol.proofs.Below.Call.{CallBelow, by-checks}
 

@@ -18,7 +18,7 @@ use Rattle.protocol.proofs.Fitting.{Fitting}
 use Rattle.protocol.proofs.Below.Directory.{live-below, open-below, next-below, primary-below, secondary-below}
 use Rattle.protocol.proofs.Below.Directory.{backup-below}
 use Rattle.protocol.proofs.Below.Writes.{step-memory-below}
-use Rattle.protocol.proofs.Below.Changes.{lost-below, kept-below, new-below}
+use Rattle.protocol.proofs.Above.{lost-below, kept-below, new-below}
 
 module _ (d : Directory) (fit : Fitting d) (f : ℕ) (real : f < d .cards) (dead : isLive d f ≡ false) where
   -- ---- the open releases run to their close

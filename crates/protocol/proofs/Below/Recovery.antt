@@ -15,7 +15,7 @@ use Rattle.protocol.specs.PastLimits.{belowLimits}
 use Rattle.protocol.proofs.Accepting.{Passed}
 use Rattle.protocol.proofs.Agreeing.{SameChecks, none, more}
 use Rattle.protocol.proofs.Fitting.{fitting}
-use Rattle.protocol.proofs.Below.Changes.{recovered-same, recovered-kept}
+use Rattle.protocol.proofs.Above.{recovered-same, recovered-kept}
 use Rattle.protocol.proofs.Below.Checks.{fitting-then}
 use Rattle.protocol.proofs.Below.Call.{CallBelow, by-checks}
 use Rattle.protocol.proofs.Below.Recovered.{release-below, recovered-below}

@@ -1,4 +1,5 @@
--- The directories that calls hand back: below the cards and pages they go by what stood there, past them they are kept.
+-- What stands above a directory's cards and pages: the changes that calls make to a directory go by nothing there, and
+-- keep it.
 use Prim.Native.Nat.{ℕ, zero, suc, _≤_, _<_}
 use mathlib.Core.Path.{_≡_, refl, sym, ap, _∙_}
 use mathlib.Core.Bool.{Bool, true, false, cond}
