@@ -1,5 +1,4 @@
--- What stands above a directory's cards and pages: the changes that calls make to a directory go by nothing there, and
--- keep it.
+-- The changes that calls make to a directory go by nothing that stands past its cards and pages, and keep it.
 use Prim.Native.Nat.{ℕ, zero, suc, _≤_, _<_}
 use mathlib.Core.Path.{_≡_, refl, sym, ap, _∙_}
 use mathlib.Core.Bool.{Bool, true, false, cond}

@@ -20,7 +20,7 @@ use Rattle.protocol.proofs.Below.Directory.{backup-below}
 use Rattle.protocol.proofs.Below.Writes.{step-memory-below}
 use Rattle.protocol.proofs.Above.{lost-below, kept-below, new-below}
 
-module _ (d : Directory) (fit : Fitting d) (f : ℕ) (real : f < d .cards) (dead : isLive d f ≡ false) where
+module _ (d : Directory) (fit : Fitting d) (f : ℕ) (dead : isLive d f ≡ false) where
   -- ---- the open releases run to their close
 
   -- the backup before the failure is a card that the rack has

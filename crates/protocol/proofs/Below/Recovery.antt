@@ -1,5 +1,5 @@
 -- A recovery reads nothing past a directory's cards and pages, and keeps what stands there.
-use Prim.Native.Nat.{ℕ, _<_}
+use Prim.Native.Nat.{ℕ}
 use mathlib.Core.Path.{_≡_, refl, ap}
 use mathlib.Core.List.{List}
 use mathlib.Core.Bool.{false}
@@ -27,11 +27,11 @@ module _ (d : Directory) (m : List ℕ) where
   abbrev f : ℕ
   f = awaitedCard (d .status)
 
-  awaited : Passed (recoveryChecks d m) → (f < d .cards) × (isLive d f ≡ false)
-  awaited p = fitting d m (p .1 .0) .awaited (not-false (awaitsRecovery (d .status)) (p .1 .1 .0))
+  dead : Passed (recoveryChecks d m) → isLive d f ≡ false
+  dead p = fitting d m (p .1 .0) .awaited (not-false (awaitsRecovery (d .status)) (p .1 .1 .0)) .1
 
   same-release : Passed (recoveryChecks d m) → failedRelease (belowLimits d) f m ≡ failedRelease d f m
-  same-release p = release-below d (fitting d m (p .1 .0)) f (awaited p .0) (awaited p .1) m
+  same-release p = release-below d (fitting d m (p .1 .0)) f (dead p) m
 
   pub recovery-below : CallBelow d (recovery (belowLimits d) m) (recovery d m)
   unfolding recovery
@@ -41,7 +41,7 @@ module _ (d : Directory) (m : List ℕ) where
       (λ p.
       record {
         directory = recovered-same d f;
-        memory = recovered-below d (fitting d m (p .1 .0)) f (awaited p .0) (awaited p .1) m;
+        memory = recovered-below d (fitting d m (p .1 .0)) f (dead p) m;
         words = ap (λ (r : Release). r .desk) (same-release p);
         kept = recovered-kept d f;
       })
