@@ -1,16 +1,20 @@
--- The proof of demand 1: a refused call leaves memory, directory and buffers as they were.
+-- The proof of demand 1: a refused call leaves memory, directory and buffers as they were. It rests on the order of
+-- each call's checks, and for the list maker on its three tests.
 use Prim.Native.Nat.{ℕ}
 use mathlib.Core.Path.{_≡_, refl}
 use mathlib.Core.List.{List, [], _∷_}
 use mathlib.Core.Bool.{Bool, true, false, cond, true≢false}
 use borrow.Author.Tests.{eq-eqb}
 use lib.ListN.{length}
-use lib.Dec.{eqb}
+use lib.Dec.{ltb, eqb}
 use Rattle.memory.specs.Layout.{deskSize}
 use Rattle.memory.specs.Area.{zeros}
-use Rattle.answer.specs.Outcome.{limits, refusedAt}
+use Rattle.answer.specs.declared.Outcome.{Outcome}
+use Rattle.answer.specs.Outcome.{given, refused, refusedAt, limits, wrongBuffer}
 use Rattle.directory.specs.declared.Directory.{Directory}
 use Rattle.directory.specs.Directory.{emptyDirectory}
+use Rattle.diff.specs.Format.{mostWords}
+use Rattle.diff.specs.Making.{madeDiff, lentPages, makeDiff, bufferAfter}
 use Rattle.protocol.specs.Checks.{Check, check, firstRefusal, outsideLimits}
 use Rattle.protocol.specs.Result.{Result, accepted, resultOf}
 use Rattle.protocol.specs.Formatting.{formatting}
@@ -24,7 +28,7 @@ use Rattle.protocol.specs.DeskQuestion.{deskQuestion, deskChecks}
 use Rattle.protocol.specs.Book.{Call, open-release, make-step, fetch-page, fail-card, recover, join-card}
 use Rattle.protocol.specs.Book.{ask-desk}
 use Rattle.protocol.specs.Demand3.{perform}
-use Rattle.protocol.specs.Demand1.{refusalsOf, handedBack, isAmong, Unchanged, Demand1}
+use Rattle.protocol.specs.Demand1.{refusalsOf, handedBack, isAmong, Unchanged, BufferKept, Demand1}
 use Rattle.protocol.proofs.Accepting.{when-refused}
 
 abbrev pub numbersOf : List Check → List ℕ
@@ -77,6 +81,29 @@ refused-unchanged recover d m = by-checks (recoveryChecks d m) _ _ d m (zeros de
 refused-unchanged (join-card card) d m = by-checks (joinChecks d m card) 0 _ d m [] refl
 refused-unchanged (ask-desk card) d m = by-checks (deskChecks d m card) 0 _ d m (zeros deskSize) refl
 
+-- ---- the list maker
+
+refused-list : (working twins buffer : List ℕ) → accepted (makeDiff working twins (length buffer)) ≡ false
+    → BufferKept (1 ∷ 17 ∷ []) buffer (makeDiff working twins (length buffer)) (bufferAfter working twins buffer)
+unfolding makeDiff isAmong
+refused-list working twins buffer =
+    let words = length (madeDiff working twins) in
+    by-tests (lentPages (length working) (length twins)) (ltb mostWords words) (ltb (length buffer) words) words _
+  where
+    -- whether the lent pages are good, the list is too long, and the buffer too short for it
+    comesTo : Bool → Bool → Bool → ℕ → Outcome
+    comesTo lent long short words =
+        cond lent (cond long (refused wrongBuffer) (cond short (refused wrongBuffer) (given words))) (refused limits)
+
+    by-tests : (lent long short : Bool) (words : ℕ) (made : List ℕ)
+        → accepted (comesTo lent long short words) ≡ false
+        → BufferKept (1 ∷ 17 ∷ []) buffer (comesTo lent long short words)
+        (cond (eqb (comesTo lent long short words .number) 0) made buffer)
+    by-tests true true short words made is = record { numbered = refl; no-place = refl; words = refl }
+    by-tests true false true words made is = record { numbered = refl; no-place = refl; words = refl }
+    by-tests true false false words made is = absurd (true≢false is)
+    by-tests false long short words made is = record { numbered = refl; no-place = refl; words = refl }
+
 pub demand-1 : Demand1
 unfolding formatting
 demand-1 =
@@ -84,4 +111,5 @@ demand-1 =
       calls = refused-unchanged;
       formats = λ m cards pages.
           by-checks (check (outsideLimits (length m) cards pages) limits ∷ []) 0 _ emptyDirectory m [] refl;
+      lists = refused-list;
     }

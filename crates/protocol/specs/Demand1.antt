@@ -5,11 +5,14 @@ use Prim.Native.Nat.{ℕ}
 use mathlib.Core.Path.{_≡_}
 use mathlib.Core.List.{List, [], _∷_}
 use mathlib.Core.Bool.{Bool, true, false, cond}
+use lib.ListN.{length}
 use lib.Dec.{eqb}
+use Rattle.answer.specs.declared.Outcome.{Outcome}
 use Rattle.memory.specs.Layout.{deskSize}
 use Rattle.memory.specs.Area.{zeros}
 use Rattle.directory.specs.declared.Directory.{Directory}
 use Rattle.directory.specs.Directory.{emptyDirectory}
+use Rattle.diff.specs.Making.{makeDiff, bufferAfter}
 use Rattle.protocol.specs.Result.{Result, accepted}
 use Rattle.protocol.specs.Formatting.{formatting}
 use Rattle.protocol.specs.Book.{Call, open-release, make-step, fetch-page, fail-card, recover, join-card}
@@ -46,6 +49,12 @@ pub record Unchanged (refusals : List ℕ) (d : Directory) (m buffer : List ℕ)
   pub memory : result .memory ≡ m
   pub words : result .words ≡ buffer
 
+-- a refused making of a list: by one of these numbers, at no place, and the list buffer holds what it held
+pub record BufferKept (refusals buffer : List ℕ) (outcome : Outcome) (after : List ℕ) : Type 0 where
+  pub numbered : isAmong refusals (outcome .number) ≡ true
+  pub no-place : outcome .value ≡ 0
+  pub words : after ≡ buffer
+
 pub record Demand1 : Type 0 where
   pub calls :
       (call : Call) (d : Directory) (m : List ℕ) → accepted (perform call d m .outcome) ≡ false
@@ -54,3 +63,8 @@ pub record Demand1 : Type 0 where
   pub formats :
       (m : List ℕ) (cards pages : ℕ) → accepted (formatting m cards pages .outcome) ≡ false
       → Unchanged (1 ∷ []) emptyDirectory m [] (formatting m cards pages)
+  -- The list maker: 1 where the lent pages are of unequal length or not 32 words times 1 to 64, 17 where the list is
+  -- longer than its buffer or than 512 words.
+  pub lists :
+      (working twins buffer : List ℕ) → accepted (makeDiff working twins (length buffer)) ≡ false
+      → BufferKept (1 ∷ 17 ∷ []) buffer (makeDiff working twins (length buffer)) (bufferAfter working twins buffer)
