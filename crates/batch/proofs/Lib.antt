@@ -2,3 +2,4 @@
 pub mod Checked
 pub mod Fetching
 pub mod Stepping
+pub mod Refused

@@ -2,3 +2,4 @@
 pub mod Steps
 pub mod FetchAll
 pub mod Showing
+pub mod Demand1

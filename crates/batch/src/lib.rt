@@ -16,6 +16,7 @@ ghost use Rattle.release.specs.Stepping.{CardIn, HomesIn, GoodRelease, leftOf};
 ghost use Rattle.batch.specs.Steps.{steps, stoppedAt};
 ghost use Rattle.batch.specs.FetchAll.{fetchAllChecks, fetchAll, pagesOf};
 ghost use Rattle.batch.specs.Showing.{wordsAfter, showNext, primariesOf, PrimariesIn};
+ghost use Rattle.batch.specs.Demand1.{BatchedDemand1};
 use answer::Answer;
 use answer::Outcome;
 use directory::Directory;
@@ -248,3 +249,12 @@ pub fn fetch_all(memory: &[u32], directory: Directory, buffer: &mut [u32]) -> Fe
         shown,
     }
 }
+
+// ---- demand 1
+
+// A refused fetch of all pages changes nothing; where a refusal stops a batch of steps, the steps
+// made before it stand and it changes nothing more. The function does nothing when it is called: it
+// is where the gate shows the theorem.
+pub fn refused_keeps_steps_made()
+    ensures { λ _. ⌜ BatchedDemand1 ⌝ }
+{}
