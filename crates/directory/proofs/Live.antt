@@ -1,8 +1,8 @@
 -- Laws of the search for a live card, and of the next live card.
 use Prim.Native.Nat.{ℕ, zero, suc, _+_, _-_, _<_, _≤_}
-use mathlib.Core.Path.{_≡_, refl, sym, _∙_}
+use mathlib.Core.Path.{_≡_, refl, sym, ap, _∙_}
 use mathlib.Core.List.{List, [], _∷_}
-use mathlib.Core.Bool.{Bool, true, false, true≢false}
+use mathlib.Core.Bool.{Bool, true, false, cond, true≢false}
 use mathlib.Core.Logic.{_≢_}
 use native.Mathlib.Decide.{decLt, ℕ-discrete}
 use native.Mathlib.Omega.{arith}
@@ -53,13 +53,17 @@ first-live-stops marks from cards = lowest-stops (liveAt marks) from (cards - fr
 -- ---- the next live card, by its properties
 
 module _ (marks : List Bool) (cards c : ℕ) where
+  -- the next live card, by whether one above c is live
+  abbrev nextIf : Bool → ℕ
+  nextIf found = cond found (firstLive marks (c + 1) cards) (firstLive marks 0 cards)
+
   pub next-live-up : firstLive marks (c + 1) cards < cards → nextLive marks cards c ≡ firstLive marks (c + 1) cards
   unfolding nextLive
-  next-live-up h = rw (lt-ltb _ _ h)
+  next-live-up h = ap nextIf (lt-ltb _ _ h)
 
   pub next-live-round : cards ≤ firstLive marks (c + 1) cards → nextLive marks cards c ≡ firstLive marks 0 cards
   unfolding nextLive
-  next-live-round h = rw (le-ltb _ _ h)
+  next-live-round h = ap nextIf (le-ltb _ _ h)
 
 -- n is the next live card after c: no card passed on the way up from c to n is live
 pub record IsNext (marks : List Bool) (cards c n : ℕ) : Type 0 where

@@ -16,6 +16,12 @@ pub and-second : (a b : Bool) → a && b ≡ true → b ≡ true
 and-second true b e = e
 and-second false b e = absurd (false≢true e)
 
+pub and-both : (a b : Bool) → a ≡ true → b ≡ true → a && b ≡ true
+and-both a b first second = rw (first, second)
+
+pub and-rest : (a b : Bool) → a ≡ true → a && b ≡ false → b ≡ false
+and-rest a b first e = rw first at e
+
 pub neither : (a b : Bool) → a || b ≡ false → (a ≡ false) × (b ≡ false)
 neither true b e = absurd (true≢false e)
 neither false b e = (refl, e)

@@ -10,6 +10,7 @@ use native.Mathlib.Decide.{decLt}
 use borrow.Author.Tests.{eq-eqb, eqb-true, le-leb}
 use lib.ListN.{length, getD}
 use lib.Dec.{eqb}
+use Rattle.laws.proofs.Bools.{and-both}
 use Rattle.memory.specs.Layout.{committed, pageSize}
 use Rattle.memory.specs.Area.{load}
 use Rattle.memory.proofs.Runs.{load-run-is}
@@ -82,13 +83,11 @@ module _ (d : Directory) (m : List ℕ) (b : Book) (rack : RunningRack d m b) wh
 
         moving : countsAt (length (listPrices list)) ≤ s → inMotion (d .live) (d .pages) m page c ≡ true
         moving late =
-            rw (
-              is-open d m b rack c r list s is,
-              stands .1 .stands .prices,
-              stands .1 .stands .steps,
-              le-leb (countsAt (length (listPrices list))) s late,
-              page-named (d .pages) (listPrices list) page w on small named,
-            )
+            let prices = stands .1 .stands .prices in
+            and-both _ _ (is-open d m b rack c r list s is)
+            (and-both _ _
+            (rw (prices, stands .1 .stands .steps) (le-leb (countsAt (length (listPrices list))) s late))
+            (rw prices (page-named (d .pages) (listPrices list) page w on small named)))
 
     page-word : (w : ℕ) → w < 32
         → load (sizeOf d) m (primaryOf d page) (committed page + w) ≡ getD (pageIn b page) w 0

@@ -3,11 +3,12 @@ use Prim.Native.Nat.{ℕ, suc, _≤_}
 use mathlib.Core.Path.{_≡_, refl, sym, ap, _∙_, subst}
 use mathlib.Core.Logic.{_≢_}
 use mathlib.Core.List.{List, [], _∷_, append-nil}
-use mathlib.Core.Bool.{Bool, true, false, cond, true≢false}
+use mathlib.Core.Bool.{Bool, true, false, cond, not, true≢false}
 use native.Mathlib.Omega.{arith}
 use borrow.Author.Tests.{ne-eqb}
 use lib.ListN.{length}
 use lib.Dec.{eqb}
+use Rattle.laws.proofs.Bools.{and-rest}
 use Rattle.memory.specs.Area.{load}
 use Rattle.directory.specs.declared.Directory.{Directory}
 use Rattle.directory.specs.Directory.{isLive, backupOf}
@@ -125,8 +126,9 @@ module _ (d : Directory) (m : List ℕ) (b : Book) (rack : RunningRack d m b) (c
           apart : (isLive d x ≡ true) × OpenStands (d .pages) m x r′ list′ s
               → shareWord (listPrices list′) (listPrices list) ≡ false
           apart stands =
-              rw (ne-eqb x c other, is-open d m b rack x r′ list′ s is, stands .1 .stands .prices, list-prices) at
-              (passed .unshared x (rack .core .shape .below x (stands .0)))
+              rw (is-open d m b rack x r′ list′ s is, stands .1 .stands .prices, list-prices) at
+              (and-rest (not (eqb x c)) _ (ap not (ne-eqb x c other))
+              (passed .unshared x (rack .core .shape .below x (stands .0))))
 
   pub opening-runs : RunningRack d (openMemory (sizeOf d) m c r list) (setOpen b c (opened r list 0))
   opening-runs =

@@ -9,7 +9,7 @@ use native.Mathlib.Omega.{arith}
 use borrow.Author.Tests.{eq-eqb}
 use lib.ListN.{length}
 use Rattle.laws.specs.Search.{inTurn}
-use Rattle.laws.proofs.Bools.{and-first}
+use Rattle.laws.proofs.Bools.{and-first, and-both}
 use Rattle.memory.specs.Layout.{releaseOpen}
 use Rattle.memory.specs.Area.{load}
 use Rattle.directory.specs.declared.Directory.{Directory}
@@ -138,7 +138,7 @@ module _ (d : Directory) (x : ℕ) (m : List ℕ) (b : Book) (rack : RunningRack
       → Held c none (b .last c) (load (sizeOf d) m₃ x)
   backed-held c live its =
       rw (← (own₂ c live))
-      (backed .held c (shape .below c live) (rw (live, eq-eqb (backupOf (markedLive d x) c) x its)))
+      (backed .held c (shape .below c live) (and-both _ _ live (eq-eqb (backupOf (markedLive d x) c) x its)))
 
   pub joined : Joined d x b m (joinedMemory d x m)
   unfolding joinedMemory

@@ -71,7 +71,8 @@ module _ (size : ℕ) (m : List ℕ) (holder c : ℕ) where
 
   under-way-yes : underWay size m holder c ≡ true → stamp ≢ done
   unfolding underWay
-  under-way-yes is same = false≢true ((rw (eq-eqb stamp done same) at is))
+  under-way-yes is same =
+      false≢true (sym (ap (λ (agree : Bool). cond agree false true) (eq-eqb stamp done same)) ∙ is)
 
   under-way-no : underWay size m holder c ≡ false → stamp ≡ done
   unfolding underWay

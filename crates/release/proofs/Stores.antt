@@ -2,7 +2,7 @@
 use Prim.Native.Nat.{ℕ, _+_, _*_, _/_, _%_, _<_, _≤_}
 use mathlib.Core.Path.{_≡_, refl, sym, _∙_}
 use mathlib.Core.List.{List}
-use mathlib.Core.Bool.{Bool}
+use mathlib.Core.Bool.{Bool, true, false}
 use native.Mathlib.Nat.{add-zero}
 use native.Mathlib.Omega.{arith}
 use borrow.Author.Tests.{ltb-true, ltb-false}
@@ -14,6 +14,7 @@ use Rattle.memory.specs.Layout.{pageStart, tentativeHalf, committedHalf}
 use Rattle.memory.specs.Area.{AreaIn, load, store}
 use Rattle.memory.proofs.Runs.{getD-load-run, length-load-run}
 use Rattle.directory.specs.declared.Directory.{Directory}
+use Rattle.directory.specs.Live.{liveAt}
 use Rattle.diff.specs.declared.Price.{Price}
 use Rattle.protocol.specs.Release.{sizeOf, Release, openRelease, openPrices, stepsOf, Write, writeOf, noWrite}
 use Rattle.protocol.specs.Release.{priceWrites, makeWrite, close, stepMemory}
@@ -23,6 +24,18 @@ use Rattle.protocol.proofs.Stepped.{StandsIn, step-writes, step-closes}
 use Rattle.release.specs.Stepping.{CardIn, HomesIn, homesOf, storeAfter, homeAt, recordWrite}
 use Rattle.release.proofs.Halves.{HalfFrom, tentative, committed}
 use Rattle.release.proofs.Prices.{PriceAt}
+
+-- ---- a store by the mark of its card
+
+module _ (marks : List Bool) (size : ℕ) (m : List ℕ) (w : Write) where
+  pub write-made : liveAt marks (w .card) ≡ true
+      → makeWrite marks size m w ≡ store size m (w .card) (w .offset) (w .value)
+  unfolding makeWrite
+  write-made live = rw live
+
+  pub write-dropped : liveAt marks (w .card) ≡ false → makeWrite marks size m w ≡ m
+  unfolding makeWrite
+  write-dropped dead = rw dead
 
 -- ---- the desk of the open release: 8 words, from word 12 on
 

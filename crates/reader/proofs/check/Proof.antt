@@ -1,22 +1,33 @@
--- `reader::check` meets its contract: it goes by what `read` finds.
-use mathlib.Core.Path.{sym, _∙_}
+-- `reader::check` meets its contract: it goes by what `read` finds, and refuses a list that is longer than that.
+use Prim.Native.Nat.{ℕ, _<_, _≤_}
+use mathlib.Core.Path.{_≡_, sym, _∙_}
+use native.Mathlib.Omega.{arith}
 use borrow.Author.Tests.{lt-ltb, le-ltb}
-use Rattle.diff.specs.Reading.{checkDiff}
 use borrow.Author.Needs.{needs}
+use Rattle.answer.specs.declared.Answer.the-variants.{Given, Refused}
+use Rattle.answer.specs.Outcome.{answerOf, faultyList}
+use Rattle.diff.specs.declared.Verdict.the-variants.{Good}
+use Rattle.diff.specs.Reading.{wholeDiff, checkDiff}
 use Rattle.reader.proofs.check.Statement.{statement}
 use Rattle.reader.proofs.check.Tie as tie
+
+longer : (prices end words : ℕ) → end < words → answerOf (wholeDiff words (Good prices end)) ≡ Refused faultyList end
+longer prices end words more = rw (lt-ltb end words more)
+
+whole : (prices end words : ℕ) → words ≤ end → answerOf (wholeDiff words (Good prices end)) ≡ Given prices
+whole prices end words none = rw (le-ltb end words none)
 
 returns : tie.Need-returns
 unfolding checkDiff
 returns c =
     let read = sym (c .before .before .prices .given .1) ∙ c .before .before .before .before .read .ensures in
-    rw (← read) (simp (lt-ltb _ _ (c .if1 .taken)))
+    rw (← read) (sym (longer _ _ _ (omega (arith, c .if1 .taken))))
 
 returns-2 : tie.Need-returns-2
 unfolding checkDiff
 returns-2 c =
     let read = sym (c .before .before .prices .given .1) ∙ c .before .before .before .before .read .ensures in
-    rw (← read) (simp (le-ltb _ _ (c .if1 .left)))
+    rw (← read) (sym (whole _ _ _ (c .if1 .left)))
 
 returns-3 : tie.Need-returns-3
 unfolding checkDiff

@@ -1,16 +1,16 @@
 -- Rests on the mark of the card: a store to a live card is made, one to a dead card is not.
+use mathlib.Core.Path.{sym, _∙_}
 use borrow.Author.Needs.{needs}
-use Rattle.protocol.specs.Release.{makeWrite}
+use Rattle.release.proofs.Stores.{write-made, write-dropped}
 use Rattle.release.proofs.write_price.Statement.{statement}
 use Rattle.release.proofs.write_price.Tie as tie
 
 returns : tie.Need-returns
-unfolding makeWrite
-returns c = rw (c .before .before .before .before .if1 .taken) (c .before .before .store-price .ensures)
+returns c =
+    c .before .before .store-price .ensures ∙ sym (write-made _ _ _ _ (c .before .before .before .before .if1 .taken))
 
 returns-2 : tie.Need-returns-2
-unfolding makeWrite
-returns-2 c = rw (c .if1 .left)
+returns-2 c = sym (write-dropped _ _ _ _ (c .if1 .left))
 
 pub write-price-spec : {M : Type 1} → statement M
 write-price-spec =
