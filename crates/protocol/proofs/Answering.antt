@@ -9,7 +9,7 @@ use native.Mathlib.Omega.{arith}
 use native.Mathlib.Decide.{decLt}
 use borrow.Author.Tests.{eq-eqb, eqb-true, le-leb}
 use lib.ListN.{length, getD}
-use lib.Dec.{eqb}
+use lib.Dec.{eqb, leb}
 use Rattle.laws.proofs.Bools.{and-both}
 use Rattle.memory.specs.Layout.{committed, pageSize}
 use Rattle.memory.specs.Area.{load}
@@ -20,7 +20,7 @@ use Rattle.directory.proofs.Table.{table-length, table-read}
 use Rattle.diff.specs.declared.Price.{Price}
 use Rattle.diff.specs.Prices.{labelOf, names}
 use Rattle.diff.proofs.Stored.{OnPages, prices-on-pages}
-use Rattle.protocol.specs.Release.{Release, sizeOf, ownRelease, openList, countsAt}
+use Rattle.protocol.specs.Release.{Release, sizeOf, ownRelease, openList, openPrices, stepsOf, countsAt}
 use Rattle.protocol.specs.Record.{recordedRelease}
 use Rattle.protocol.specs.Fetch.{namesPage, inMotion, committedPage}
 use Rattle.protocol.specs.DeskQuestion.{deskOf}
@@ -84,10 +84,13 @@ module _ (d : Directory) (m : List ℕ) (b : Book) (rack : RunningRack d m b) wh
         moving : countsAt (length (listPrices list)) ≤ s → inMotion (d .live) (d .pages) m page c ≡ true
         moving late =
             let prices = stands .1 .stands .prices in
-            and-both _ _ (is-open d m b rack c r list s is)
-            (and-both _ _
-            (rw (prices, stands .1 .stands .steps) (le-leb (countsAt (length (listPrices list))) s late))
-            (rw prices (page-named (d .pages) (listPrices list) page w on small named)))
+            let counts : leb (countsAt (length (openPrices (d .pages) m c))) (stepsOf (sizeOf d) m c) ≡ true
+            = rw (prices, stands .1 .stands .steps) (le-leb (countsAt (length (listPrices list))) s late)
+            in
+            let on-it : namesPage (openPrices (d .pages) m c) page ≡ true
+            = rw prices (page-named (d .pages) (listPrices list) page w on small named)
+            in
+            and-both _ _ (is-open d m b rack c r list s is) (and-both _ _ counts on-it)
 
     page-word : (w : ℕ) → w < 32
         → load (sizeOf d) m (primaryOf d page) (committed page + w) ≡ getD (pageIn b page) w 0
