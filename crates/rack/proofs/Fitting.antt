@@ -2,27 +2,24 @@
 use Prim.Native.Nat.{ℕ, _<_}
 use mathlib.Core.Path.{_≡_}
 use mathlib.Core.List.{List}
-use mathlib.Core.Bool.{Bool, true, false, false≢true}
+use mathlib.Core.Bool.{Bool, true, false}
 use native.Mathlib.Omega.{arith}
-use borrow.Author.Tests.{leb-false, ltb-false}
 use lib.ListN.{length}
-use lib.Dec.{ltb, leb, eqb}
-use Rattle.laws.specs.Search.{someBelow, countBelow}
+use lib.Dec.{ltb}
+use Rattle.laws.specs.Search.{someBelow}
 use Rattle.laws.proofs.Bools.{neither, and-first, and-second}
 use Rattle.laws.proofs.Search.{none-below}
 use Rattle.memory.specs.Layout.{areaSize, releaseOpen}
 use Rattle.memory.specs.Area.{load}
 use Rattle.directory.specs.declared.Directory.{Directory}
-use Rattle.directory.specs.declared.Status.{Status}
-use Rattle.directory.specs.declared.Status.the-variants.{Running, Awaiting}
 use Rattle.directory.specs.Live.{liveAt}
 use Rattle.directory.specs.Directory.{primaryOf, secondaryOf, nextLiveOf}
 use Rattle.directory.proofs.Live.{next-live-below}
 use Rattle.protocol.specs.Release.{sizeOf, isOpen}
-use Rattle.protocol.specs.Checks.{fewLive, badHome, badPage, badStatus, badCard, unfitRack, awaitsRecovery}
+use Rattle.protocol.specs.Checks.{fewLive, badPage, badStatus, badCard, unfitRack, awaitsRecovery}
 use Rattle.protocol.specs.Recovery.{awaitedCard}
 use Rattle.protocol.proofs.Accepting.{Fits}
-use Rattle.protocol.proofs.Counting.{highest}
+use Rattle.protocol.proofs.Fitting as check-2
 use Rattle.protocol.proofs.Limits.{Within, within-limits}
 use Rattle.release.specs.Stepping.{CardIn, HomesIn, GoodRelease}
 use Rattle.release.proofs.Callers.{card-in, good-release}
@@ -39,18 +36,6 @@ pub record Fitting (d : Directory) (m : List ℕ) : Type 0 where
 
 -- ---- each part of check 2
 
-home-below : (cards : ℕ) (marks : List Bool) (status : Status) (h : ℕ)
-    → badHome cards marks status h ≡ false → h < cards
-unfolding badHome
-home-below cards marks status h passed = leb-false cards h (neither (leb cards h) _ passed .0)
-
-homes-below : (d : Directory) (p : ℕ) → badPage d p ≡ false → (primaryOf d p < d .cards) × (secondaryOf d p < d .cards)
-unfolding badPage
-homes-below d p passed =
-    let apart = neither (eqb (primaryOf d p) (secondaryOf d p)) _ passed in
-    let homes = neither (badHome (d .cards) (d .live) (d .status) (primaryOf d p)) _ (apart .1) in
-    (home-below _ (d .live) (d .status) _ (homes .0), home-below _ (d .live) (d .status) _ (homes .1))
-
 open-good : (marks : List Bool) (pages : ℕ) (m : List ℕ) (c : ℕ) → badCard marks pages m c ≡ false
     → isOpen marks (areaSize pages) m c ≡ true → GoodRelease pages m c
 unfolding badCard isOpen
@@ -60,18 +45,6 @@ open-good marks pages m c passed opened =
     let release = neither (ltb 1 (load (areaSize pages) m c releaseOpen)) _ (rw live at passed) in
     good-release pages m c (rw one at (release .1))
 
-some-live : (marks : List Bool) (cards : ℕ) → fewLive marks cards ≡ false → SomeLive marks cards
-unfolding fewLive
-some-live marks cards passed =
-    let x = highest (liveAt marks) 1 cards (ltb-false (countBelow (liveAt marks) cards) 2 passed) in
-    record { card = x .index; below = x .below; up = x .passes }
-
-awaited-below : (cards : ℕ) (marks : List Bool) (status : Status) → badStatus cards marks status ≡ false
-    → awaitsRecovery status ≡ true → awaitedCard status < cards
-unfolding badStatus awaitsRecovery awaitedCard
-awaited-below cards marks Running passed awaits = absurd (false≢true awaits)
-awaited-below cards marks (Awaiting f) passed awaits = leb-false cards f (neither (leb cards f) _ passed .0)
-
 -- ---- the whole
 
 pub fitting : {d : Directory} {m : List ℕ} → Fits d m → Fitting d m
@@ -80,17 +53,14 @@ fitting {d} {m} fits =
     let live = neither (fewLive (d .live) (d .cards)) _ (fits .fit) in
     let pages = neither (someBelow (badPage d) (d .pages)) _ (live .1) in
     let cards = neither (badStatus (d .cards) (d .live) (d .status)) _ (pages .1) in
-    let homes : (p : ℕ) → p < d .pages → (primaryOf d p < d .cards) × (secondaryOf d p < d .cards)
-    = λ p below. homes-below d p (none-below (badPage d) _ (pages .0) p below)
-    in
-    let some = some-live (d .live) (d .cards) (live .0) in
+    let keeps = check-2.fitting d m (fits .fit) in
     record {
       within = within-limits _ _ _ (fits .limits);
-      primary-below = λ p below. homes p below .0;
-      secondary-below = λ p below. homes p below .1;
-      some = some;
-      next-below = λ c. next-live-below (d .live) (d .cards) c (some .card) (some .below) (some .up);
-      awaited = awaited-below (d .cards) (d .live) (d .status) (cards .0);
+      primary-below = keeps .primary-in;
+      secondary-below = keeps .secondary-in;
+      some = record { card = keeps .up; below = keeps .up-below; up = keeps .up-live };
+      next-below = λ c. next-live-below (d .live) (d .cards) c (keeps .up) (keeps .up-below) (keeps .up-live);
+      awaited = λ awaits. keeps .awaited awaits .0;
       good = λ c below.
           open-good (d .live) (d .pages) m c (none-below (badCard (d .live) (d .pages) m) _ (cards .1) c below);
     }
