@@ -47,11 +47,11 @@ pub struct Ended {
 // The line has ended: its command is executed, and its answer put at the end of the output.
 fn end_line(memory: &mut [u32], session: Session, output: &mut [u8], written: usize) -> Ended
     requires { ⌜ written + 80 ≤ length (now output) ⌝ }
-    ensures room { λ r. ⌜ r .written ≤ length (now (output .entry)) ⌝ }
-    ensures end { λ r. ⌜ r .written
-        ≡ written + length (answered session (now (memory .entry))) ⌝ }
     ensures answer { λ _. ⌜ now (output .exit)
         ≡ sets (now (output .entry)) written (answered session (now (memory .entry))) ⌝ }
+    ensures end { λ r. ⌜ r .written
+        ≡ written + length (answered session (now (memory .entry))) ⌝ }
+    ensures room { λ r. ⌜ r .written ≤ length (now (output .entry)) ⌝ }
     ensures session { λ r. ⌜ r .session ≡ nextLine session (now (memory .entry)) ⌝ }
     ensures memory { λ _. ⌜ now (memory .exit) ≡ executed session (now (memory .entry)) .memory ⌝ }
 {

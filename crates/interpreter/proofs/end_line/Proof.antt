@@ -14,11 +14,11 @@ returns c =
     let done = executing .execute .ensures in
     let letter = appending .before .before .letter-of .ensures in
     let appended = appending .append-answer .ensures in (
-      appended .0,
+      appended .1 .1 ∙ rw (letter, done .0, read),
       (
         appended .1 .0 ∙ rw (letter, done .0, read),
         (
-          appended .1 .1 ∙ rw (letter, done .0, read),
+          appended .0,
           (rw (done .1 .0, c .before .wrapping-add-u64 .ensures, c .fresh .ensures, read), done .1 .1 ∙ rw read),
         ),
       ),

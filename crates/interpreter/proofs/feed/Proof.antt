@@ -1,8 +1,9 @@
 -- Rests on the laws of `Parts`: the part read, and at a line feed the answer.
-use mathlib.Core.Path.{_∙_}
+use mathlib.Core.Path.{sym, ap, _∙_}
 use native.Mathlib.Nat.{add-zero}
 use native.Mathlib.Omega.{arith}
 use borrow.Author.Needs.{needs}
+use Rattle.interpreter.specs.Transcript.{stateOf}
 use Rattle.interpreter.proofs.Parts.{ends, part-places, line-state, line-printed}
 use Rattle.interpreter.proofs.feed.Statement.{statement}
 use Rattle.interpreter.proofs.feed.Tie as tie
@@ -27,10 +28,10 @@ returns c =
     let places = part-places s m input (a .from) (part .result) (part .ensures) (start .pre .0) in
     let state = line-state s m input (a .from) (part .result) (part .ensures) (start .pre .0) (test .if1 .taken) in
     let answer = line-printed s m input (a .from) (part .result) (part .ensures) (start .pre .0) (test .if1 .taken) in (
-      (omega arith, omega arith, ended .0),
+      (omega arith, omega arith, ended .1 .1 .0),
       (
         rw (ended .1 .1 .1 .0, ended .1 .1 .1 .1, read, state),
-        (rw answer (ended .1 .0 ∙ rw read), rw answer (ended .1 .1 .0 ∙ rw read)),
+        (rw answer (ended .1 .0 ∙ rw read), rw answer (ended .0 ∙ rw read)),
       ),
     )
 
@@ -46,7 +47,10 @@ returns-2 c =
     let places = part-places s m input (a .from) (part .result) (part .ensures) (start .pre .0) in
     let passed = ends s m input (a .from) (part .result) (part .ensures) (start .pre .0) in (
       (omega arith, omega arith, omega arith),
-      (rw (read, passed .state), (rw (passed .silent, add-zero), rw (passed .silent))),
+      (
+        ap (λ t. stateOf t m) read ∙ sym (passed .state),
+        (rw (passed .silent, add-zero), rw (passed .silent)),
+      ),
     )
 
 pub feed-spec : {M : Type 1} → statement M

@@ -10,7 +10,7 @@ returns c =
     let ended = c .before .before .end-line .ensures in
     let test = c .before .before .before .before .before in
     let begun = sym (test .before .has-begun .ensures) ∙ test .if1 .taken in
-    (search needs, (rw begun (ended .1 .0 ∙ zero-add _), (rw begun (ended .1 .1 .0), rw begun (ended .1 .1 .1 .1))))
+    (search needs, (rw begun (ended .1 .0 ∙ zero-add _), (rw begun (ended .0), rw begun (ended .1 .1 .1 .1))))
 
 returns-2 : tie.Need-returns-2
 returns-2 c =
