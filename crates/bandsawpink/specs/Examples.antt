@@ -29,19 +29,21 @@ examples =
     computed (wordsOf formatted) (3 ∷ 4 ∷ 4294967295 ∷ 1 ∷ 1 ∷ 1 ∷ replicate 5 0 ++ homes)
     ∷ computed (wordsOf failed) (3 ∷ 4 ∷ 1 ∷ 1 ∷ 0 ∷ 1 ∷ replicate 5 0 ++ homes)
     -- any words are a directory: each stands where it stood, and a mark is any word but 0
-    ∷ computed (wordsOf (directoryIn (tableFrom (λ word. word) 0 139))) (0 ∷ 1 ∷ 2 ∷ replicate 8 1 ++ tableFrom (λ word. word) 11 128)
+    ∷ computed (wordsOf (directoryIn (tableFrom (λ word. word) 0 139)))
+    (0 ∷ 1 ∷ 2 ∷ replicate 8 1 ++ tableFrom (λ word. word) 11 128)
     ∷ computed (wordsOf (directoryIn (5 ∷ 6 ∷ 4294967295 ∷ 0 ∷ 2 ∷ replicate 6 0 ++ replicate 128 9)))
     (5 ∷ 6 ∷ 4294967295 ∷ 0 ∷ 1 ∷ replicate 6 0 ++ replicate 128 9)
     -- a refusal keeps the words, whatever they are; an accepted call writes those of its directory
     ∷ computed
-    (directoryAfter (replicate 139 2) (record { outcome = refusedAt 5 9; directory = formatted; memory = []; words = [] }))
+    (directoryAfter (replicate 139 2)
+    (record { outcome = refusedAt 5 9; directory = formatted; memory = []; words = [] }))
     (replicate 139 2)
     ∷ computed
     (directoryAfter (replicate 139 2) (record { outcome = given 0; directory = failed; memory = []; words = [] }))
     (3 ∷ 4 ∷ 1 ∷ 1 ∷ 0 ∷ 1 ∷ replicate 5 0 ++ homes)
     -- an answer is the number and the place, or 0 and the value
     ∷ computed
-    (answered (refusedAt 5 9) .number ∷ answered (refusedAt 5 9) .value ∷ answered (given 7) .number ∷ answered (given 7) .value
-    ∷ [])
+    (answered (refusedAt 5 9) .number ∷ answered (refusedAt 5 9) .value
+    ∷ answered (given 7) .number ∷ answered (given 7) .value ∷ [])
     (5 ∷ 9 ∷ 0 ∷ 7 ∷ [])
     ∷ []

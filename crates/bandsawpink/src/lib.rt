@@ -261,7 +261,8 @@ pub extern "C" fn rack_make_list(working: &[u32], twins: &[u32], buffer: &mut [u
     answers::in_numbers(answer)
 }
 
-// Worked examples of what crosses to C, computed from the definitions. It does nothing when it is called.
+// Worked examples of what crosses to C, computed from the definitions. It does nothing when it is
+// called.
 pub fn examples_hold()
     ensures { λ _. ⌜ AllHold examples ⌝ }
 {}

@@ -29,13 +29,13 @@ use Rattle.commands.specs.Execute.{openOne, makeSteps, failAndRecover, f
 use Rattle.commands.specs.Examples.{newRack, next, shownBy, examples}
 
 pub examples-hold : AllHold examples
-unfolding sameWords failuresFrom Claims bytesOf lowestFrom countBelow inTurn load store loadRun overwrite storeRun clearRun
-    copyRun zeros formattedDirectory emptyDirectory tableFrom nextLive pricesOf pricesFrom names readFrom wordStep
-    checkDiff ownRelease openRelease openList stepsOf isOpen releaseWrites makeWrite close stepMemory recordedRelease
-    underWay settledRecord writeRecord writeOwnRecord firstRefusal outsideLimits fewLive badHome badPage badStatus
-    badRelease badCard unfitRack awaitsRecovery formatting shareWord sharesWith openMemory opening step namesPage
-    inMotion committedPage fetch failure stepTimes runToClose closeReleases restoreHome restorePage restorePages
-    lostHome keptHome newHome copyToNewHome copyToNewHomes moveHome recoveredDirectory writeFailed writeRecords
-    failedRelease restoredMemory recoveredMemory awaitedCard recovery resetArea copyDeadRecord joinedMemory join
-    stepsFrom openOne makeSteps failAndRecover fetchWord execute newRack next shownBy
+unfolding sameWords failuresFrom Claims bytesOf lowestFrom countBelow inTurn load store loadRun overwrite storeRun
+    clearRun copyRun zeros formattedDirectory emptyDirectory tableFrom nextLive pricesOf pricesFrom names readFrom
+    wordStep checkDiff ownRelease openRelease openList stepsOf isOpen releaseWrites makeWrite close stepMemory
+    recordedRelease underWay settledRecord writeRecord writeOwnRecord firstRefusal outsideLimits fewLive badHome
+    badPage badStatus badRelease badCard unfitRack awaitsRecovery formatting shareWord sharesWith openMemory opening
+    step namesPage inMotion committedPage fetch failure stepTimes runToClose closeReleases restoreHome restorePage
+    restorePages lostHome keptHome newHome copyToNewHome copyToNewHomes moveHome recoveredDirectory writeFailed
+    writeRecords failedRelease restoredMemory recoveredMemory awaitedCard recovery resetArea copyDeadRecord
+    joinedMemory join stepsFrom openOne makeSteps failAndRecover fetchWord execute newRack next shownBy
 examples-hold = all-hold examples refl tt

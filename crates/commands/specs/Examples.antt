@@ -33,8 +33,8 @@ examples =
     (letterOf (Open 0 0 0 0 0) ∷ letterOf (Step 0 0) ∷ letterOf (Fail 0) ∷ letterOf (Join 0) ∷ letterOf (Fetch 0 0)
     ∷ letterOf Unreadable ∷ [])
     (bytesOf "BSXJF-")
-    -- Card 1 fails once its stamp is stored: S shows the steps made, F of a page in motion the card, X the stamp, F the
-    -- price, and a number that is used the stamp.
+    -- Card 1 fails once its stamp is stored: S shows the steps made, F of a page in motion the card, X the stamp, F
+    -- the price, and a number that is used the stamp.
     ∷ computed
     (shownBy (Open 1 1 1 2 250 ∷ Step 1 11 ∷ Fetch 1 2 ∷ Fail 1 ∷ Fetch 1 2 ∷ Join 1 ∷ Open 1 1 1 2 225 ∷ []) newRack)
     (0 ∷ 0 ∷ 0 ∷ 11 ∷ 10 ∷ 1 ∷ 0 ∷ 1 ∷ 0 ∷ 250 ∷ 0 ∷ 0 ∷ 5 ∷ 1 ∷ [])

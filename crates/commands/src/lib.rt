@@ -188,7 +188,8 @@ pub fn letter_of(command: Command) -> u8
     }
 }
 
-// Worked examples of shelfrun's commands, computed from the definitions. It does nothing when it is called.
+// Worked examples of shelfrun's commands, computed from the definitions. It does nothing when it
+// is called.
 pub fn examples_hold()
     ensures { λ _. ⌜ AllHold examples ⌝ }
 {}

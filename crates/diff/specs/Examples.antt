@@ -1,5 +1,5 @@
--- Worked examples of diffs, computed from the definitions: where a faulty one is refused, how long one may be, and what
--- the list maker writes. No theorem on diffs sees the place of a fault or the longest list.
+-- Worked examples of diffs, computed from the definitions: where a faulty one is refused, how long one may be, and
+-- what the list maker writes. No theorem on diffs sees the place of a fault or the longest list.
 -- Assumes nothing: these are definitions.
 use Prim.Native.Nat.{ℕ}
 use mathlib.Core.List.{List, [], _∷_, _++_}

@@ -1,5 +1,5 @@
--- Worked examples of the directory, computed from the definitions: the next live card, and the directories that formatting
--- gives.
+-- Worked examples of the directory, computed from the definitions: the next live card, and the directories that
+-- formatting gives.
 -- Assumes nothing: these are definitions.
 use Prim.Native.Nat.{ℕ}
 use mathlib.Core.List.{List, [], _∷_, _++_}
@@ -36,15 +36,17 @@ examples =
     (1 ∷ 2 ∷ 4 ∷ 4 ∷ 1 ∷ [])
     -- a card that alone is live follows itself; where none is, the number of cards
     ∷ computed (nextLive marks 2 1 ∷ nextLive marks 1 0 ∷ []) (1 ∷ 1 ∷ [])
-    -- Three cards and four pages: page p is on card p mod 3 and the next. Marks past the cards are dead, homes past the
-    -- pages 0.
+    -- Three cards and four pages: page p is on card p mod 3 and the next. Marks past the cards are dead, homes past
+    -- the pages 0.
     ∷ computed (wordsOf (formattedDirectory 3 4))
     (3 ∷ 4 ∷ 0 ∷ 1 ∷ 1 ∷ 1 ∷ replicate 5 0 ++ 0 ∷ 1 ∷ 2 ∷ 0 ∷ replicate 60 0 ++ 1 ∷ 2 ∷ 0 ∷ 1 ∷ replicate 60 0)
     -- the directory of a refused formatting
     ∷ computed (wordsOf emptyDirectory) (0 ∷ 0 ∷ 0 ∷ replicate 136 0)
     -- a card marked dead, one marked live, a page moved and a recovery awaited: each changes that and nothing else
-    ∷ computed (wordsOf (withStatus (withHomes (markedLive (markedDead (formattedDirectory 3 4) 1) 7) 2 5 6) (Awaiting 1)))
+    ∷ computed
+    (wordsOf (withStatus (withHomes (markedLive (markedDead (formattedDirectory 3 4) 1) 7) 2 5 6) (Awaiting 1)))
     (3 ∷ 4 ∷ 1 ∷ 1 ∷ 1 ∷ 0 ∷ 1 ∷ 0 ∷ 0 ∷ 0 ∷ 0 ∷ 1 ∷ 0 ∷ 1 ∷ 5 ∷ 0 ∷ replicate 60 0 ++ 1 ∷ 2 ∷ 6 ∷ 1 ∷ replicate 60 0)
     -- a backup is the next live card
-    ∷ computed (backupOf (markedDead (formattedDirectory 3 4) 1) 0 ∷ backupOf (formattedDirectory 3 4) 0 ∷ []) (2 ∷ 1 ∷ [])
+    ∷ computed (backupOf (markedDead (formattedDirectory 3 4) 1) 0 ∷ backupOf (formattedDirectory 3 4) 0 ∷ [])
+    (2 ∷ 1 ∷ [])
     ∷ []

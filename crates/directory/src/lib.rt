@@ -190,8 +190,8 @@ impl Directory {
     }
 }
 
-// Worked examples of the directory, computed from the definitions. It does nothing when it
-// is called.
+// Worked examples of the directory, computed from the definitions. It does nothing when it is
+// called.
 pub fn examples_hold()
     ensures { λ _. ⌜ AllHold examples ⌝ }
 {}

@@ -10,6 +10,6 @@ use Rattle.lines.specs.Answer.{digitsBefore, answerLine}
 use Rattle.lines.specs.Examples.{examples}
 
 pub examples-hold : AllHold examples
-unfolding sameWords failuresFrom Claims bytesOf isLabel openForm stepForm failForm joinForm fetchForm formOf breakAt linesOf
-    fieldsOf allDigits numberFrom allNumbers valuesOf commandIn digitsBefore answerLine
+unfolding sameWords failuresFrom Claims bytesOf isLabel openForm stepForm failForm joinForm fetchForm formOf breakAt
+    linesOf fieldsOf allDigits numberFrom allNumbers valuesOf commandIn digitsBefore answerLine
 examples-hold = all-hold examples refl tt

@@ -1,5 +1,5 @@
--- Worked examples of shelfrun's lines, computed from the definitions: which lines are commands, and what an answer looks
--- like.
+-- Worked examples of shelfrun's lines, computed from the definitions: which lines are commands, and what an answer
+-- looks like.
 -- Assumes nothing: these are definitions.
 use Prim.Native.Nat.{ℕ}
 use Prim.Native.String.{String}

@@ -372,7 +372,8 @@ pub fn append_answer(
     written + (80 - start)
 }
 
-// Worked examples of shelfrun's lines, computed from the definitions. It does nothing when it is called.
+// Worked examples of shelfrun's lines, computed from the definitions. It does nothing when it is
+// called.
 pub fn examples_hold()
     ensures { λ _. ⌜ AllHold examples ⌝ }
 {}

@@ -1,5 +1,5 @@
--- Worked examples of the layout and of words stored, computed from the definitions: each row of document 01's table of a
--- card's area, which no theorem sees.
+-- Worked examples of the layout and of words stored, computed from the definitions: each row of document 01's table
+-- of a card's area, which no theorem sees.
 -- Assumes nothing: these are definitions.
 use Prim.Native.Nat.{ℕ}
 use mathlib.Core.List.{List, [], _∷_}

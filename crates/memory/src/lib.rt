@@ -230,8 +230,8 @@ pub fn copy_prices(
     copy_run(memory, size, card, page + from, card, page + to, &mut words);
 }
 
-// Worked examples of the layout and of words stored, computed from the definitions. It does nothing when it
-// is called.
+// Worked examples of the layout and of words stored, computed from the definitions. It does
+// nothing when it is called.
 pub fn examples_hold()
     ensures { λ _. ⌜ AllHold examples ⌝ }
 {}

@@ -44,8 +44,8 @@ pub fn releases_count_once()
     ensures { λ _. ⌜ CountsOnce ⌝ }
 {}
 
-// Worked examples of the calls, computed from the definitions: the words, numbers and places that no
-// theorem sees.
+// Worked examples of the calls, computed from the definitions: the words, numbers and places that
+// no theorem sees.
 pub fn examples_hold()
     ensures releases { λ _. ⌜ AllHold releaseExamples ⌝ }
     ensures refusals { λ _. ⌜ AllHold refusalExamples ⌝ }

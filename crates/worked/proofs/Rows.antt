@@ -2,7 +2,7 @@
 -- stamp are proved.
 use Prim.Native.Nat.{ℕ, _≤_}
 use mathlib.Core.Path.{_≡_, refl, ap, _∙_}
-use mathlib.Core.List.{List, []}
+use mathlib.Core.List.{List, [], _∷_}
 use native.Mathlib.Omega.{arith}
 use borrow.Author.Tests.{le-leb, lt-leb}
 use Rattle.laws.specs.Search.{lowestFrom, countBelow, inTurn}
@@ -36,7 +36,7 @@ use Rattle.protocol.specs.Recovery.{writeFailed, writeRecords, failedRelease, r
 use Rattle.protocol.specs.Recovery.{awaitedCard, recovery}
 use Rattle.protocol.proofs.Accepting.{outcome-of}
 use Rattle.worked.specs.Rows.{newRack, changedPages, twoPrices, noPrice, opened, stepped, recoveredFrom}
-use Rattle.worked.specs.Rows.{shownAfter, Idle, rows, shown}
+use Rattle.worked.specs.Rows.{shownAfter, homesAfter, completed, Idle, rows, shown}
 
 -- ---- a number at or below the stamp
 
@@ -59,32 +59,29 @@ used d m card r list idle low =
       le-leb (r .number) (ownRelease (sizeOf d) m card .number) low,
     )
 
--- ---- the lists
+-- ---- the lists, computed at once
 
-pub rows-hold : AllHold rows
-unfolding sameWords failuresFrom Claims lowestFrom countBelow inTurn load store loadRun overwrite storeRun clearRun copyRun
-    zeros formattedDirectory emptyDirectory tableFrom nextLive changesFrom encodeFrom madeDiff runLength header lentPages
-    makeDiff pricesOf pricesFrom names readFrom wordStep checkDiff ownRelease openRelease openList stepsOf isOpen
-    releaseWrites makeWrite close stepMemory recordedRelease underWay settledRecord writeRecord writeOwnRecord
-    firstRefusal outsideLimits fewLive badHome badPage badStatus badRelease badCard unfitRack awaitsRecovery
-    formatting shareWord sharesWith openMemory opening step namesPage inMotion committedPage fetch failure
-    stepTimes runToClose closeReleases restoreHome restorePage restorePages lostHome keptHome newHome copyToNewHome
-    copyToNewHomes moveHome recoveredDirectory writeFailed writeRecords failedRelease restoredMemory recoveredMemory
-    awaitedCard recovery newRack changedPages twoPrices noPrice opened stepped recoveredFrom shownAfter
-rows-hold =
-    all-hold rows refl (
+all-shown : AllHold (completed ∷ rows)
+unfolding sameWords failuresFrom Claims lowestFrom countBelow inTurn load store loadRun overwrite storeRun clearRun
+    copyRun zeros formattedDirectory emptyDirectory tableFrom nextLive changesFrom encodeFrom madeDiff runLength
+    header lentPages makeDiff pricesOf pricesFrom names readFrom wordStep checkDiff ownRelease openRelease openList
+    stepsOf isOpen releaseWrites makeWrite close stepMemory recordedRelease underWay settledRecord writeRecord
+    writeOwnRecord firstRefusal outsideLimits fewLive badHome badPage badStatus badRelease badCard unfitRack
+    awaitsRecovery formatting shareWord sharesWith openMemory opening step namesPage inMotion committedPage fetch
+    failure stepTimes runToClose closeReleases restoreHome restorePage restorePages lostHome keptHome newHome
+    copyToNewHome copyToNewHomes moveHome recoveredDirectory writeFailed writeRecords failedRelease restoredMemory
+    recoveredMemory awaitedCard recovery newRack changedPages twoPrices noPrice opened stepped recoveredFrom
+    shownAfter homesAfter
+all-shown =
+    all-hold (completed ∷ rows) refl (
       (λ d m card r list idle stamp small. used d m card r list idle (omega arith) ∙ ap (refusedAt numberUsed) stamp),
       ((λ d m card r list idle zero. used d m card r list idle (omega arith)), tt),
     )
 
+pub rows-hold : AllHold rows
+unfolding AllHold
+rows-hold = all-shown .1
+
 pub shown-holds : AllHold shown
-unfolding sameWords failuresFrom Claims lowestFrom countBelow inTurn load store loadRun overwrite storeRun clearRun copyRun
-    zeros formattedDirectory emptyDirectory tableFrom nextLive changesFrom encodeFrom madeDiff runLength header lentPages
-    makeDiff pricesOf pricesFrom names readFrom wordStep checkDiff ownRelease openRelease openList stepsOf isOpen
-    releaseWrites makeWrite close stepMemory recordedRelease underWay settledRecord writeRecord writeOwnRecord
-    firstRefusal outsideLimits fewLive badHome badPage badStatus badRelease badCard unfitRack awaitsRecovery
-    formatting shareWord sharesWith openMemory opening step namesPage inMotion committedPage fetch failure
-    stepTimes runToClose closeReleases restoreHome restorePage restorePages lostHome keptHome newHome copyToNewHome
-    copyToNewHomes moveHome recoveredDirectory writeFailed writeRecords failedRelease restoredMemory recoveredMemory
-    awaitedCard recovery newRack changedPages twoPrices noPrice opened stepped recoveredFrom shownAfter
-shown-holds = all-hold shown refl tt
+unfolding AllHold
+shown-holds = (rows-hold .1 .1 .1 .1 .1 .0, (rows-hold .1 .1 .1 .1 .0, (all-shown .0, tt)))

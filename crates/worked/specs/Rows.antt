@@ -1,6 +1,6 @@
--- Document 01's worked numbers with ◆ ("Numbers to hold it against"), as rows of one list, computed from the definitions
--- that the calls' contracts cite. A row shows the outcome beside the words, and buffers that are lent hold sevens, so that
--- a refused call meets none.
+-- Document 01's worked numbers with ◆ ("Numbers to hold it against"), as rows of one list, computed from the
+-- definitions that the calls' contracts cite. A row shows the outcome beside the words, and buffers that are lent
+-- hold sevens, so that a refused call meets none.
 -- Assumes nothing: these are definitions.
 use Prim.Native.Nat.{ℕ, zero, suc, _≤_, _<_}
 use mathlib.Core.Path.{_≡_}
@@ -91,6 +91,10 @@ shownAfter r =
     let fetched : Result = fetch (r .directory) (r .memory) 1 (sevens 32) in
     inWords (fetched .outcome) ++ fetched .words
 
+-- what a recovery comes to, and the homes of the four pages after it
+unfoldable pub homesAfter : Result → List ℕ
+homesAfter r = inWords (r .outcome) ++ take 4 (r .directory .primary) ++ take 4 (r .directory .secondary)
+
 -- accepted, and the page with these prices for words 2 and 3
 abbrev pub pageOf : ℕ → ℕ → List ℕ
 pageOf third fourth = 0 ∷ 0 ∷ 0 ∷ 0 ∷ third ∷ fourth ∷ zeros 28
@@ -142,17 +146,15 @@ rows =
     (0 ∷ 1 ∷ 1 ∷ 18 ∷ 1 ∷ 0 ∷ 0 ∷ 0 ∷ [])
     -- "No change: F0000000, 11 steps, stamp at step 9."
     ∷ computed
-    (made (zeros 128) ++ stampAfter noPrice 8 ∷ stampAfter noPrice 9 ∷ releaseAfter noPrice 10 ++ releaseAfter noPrice 11)
+    (made (zeros 128) ++ stampAfter noPrice 8 ∷ stampAfter noPrice 9
+    ∷ releaseAfter noPrice 10 ++ releaseAfter noPrice 11)
     (0 ∷ 1 ∷ noPrice ++ sevens 5 ++ 0 ∷ 1 ∷ 1 ∷ 10 ∷ 1 ∷ 0 ∷ 0 ∷ 0 ∷ [])
     -- "The list with 250 and 199, released .. by card 1, which dies after 12 steps: page 1 is zero."
     ∷ takenBack
     -- "After 13: 250 and 199."
     ∷ takenForward
     -- "Homes then: page 0 on 0 and 2, 1 on 2 and 0, 2 on 2 and 0, 3 on 0 and 2."
-    ∷ computed
-    (inWords (recoveredFrom 13 1 .outcome) ++ take 4 (recoveredFrom 13 1 .directory .primary)
-    ++ take 4 (recoveredFrom 13 1 .directory .secondary))
-    (0 ∷ 1 ∷ 0 ∷ 2 ∷ 2 ∷ 0 ∷ 2 ∷ 0 ∷ 0 ∷ 2 ∷ [])
+    ∷ computed (homesAfter (recoveredFrom 13 1)) (0 ∷ 1 ∷ 0 ∷ 2 ∷ 2 ∷ 0 ∷ 2 ∷ 0 ∷ 0 ∷ 2 ∷ [])
     -- "Run offset 31 count 1 is allowed"
     ∷ computed (openedWith (0x10000000 ∷ 0x201F0001 ∷ 7 ∷ 0xF0000003 ∷ [])) (0 ∷ 0 ∷ [])
     -- "count 2 is refused at its index."

@@ -15,8 +15,8 @@ use Rattle.protocol.specs.DeskQuestion.{deskOf}
 use Rattle.protocol.specs.examples.Joins.{joinExamples}
 
 pub joins-hold : AllHold joinExamples
-unfolding sameWords failuresFrom Claims lowestFrom countBelow inTurn load loadRun overwrite storeRun clearRun copyRun zeros
-    formattedDirectory tableFrom nextLive ownRelease isOpen recordedRelease settledRecord writeRecord writeOwnRecord
-    firstRefusal outsideLimits fewLive badHome badPage badStatus badRelease badCard unfitRack awaitsRecovery
-    resetArea copyDeadRecord joinedMemory join deskOf
+unfolding sameWords failuresFrom Claims lowestFrom countBelow inTurn load loadRun overwrite storeRun clearRun copyRun
+    zeros formattedDirectory tableFrom nextLive ownRelease isOpen recordedRelease settledRecord writeRecord
+    writeOwnRecord firstRefusal outsideLimits fewLive badHome badPage badStatus badRelease badCard unfitRack
+    awaitsRecovery resetArea copyDeadRecord joinedMemory join deskOf
 joins-hold = all-hold joinExamples refl tt

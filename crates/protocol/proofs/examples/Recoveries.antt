@@ -23,11 +23,12 @@ use Rattle.protocol.specs.examples.Recoveries.{rolledForward, rolledBack
 use Rattle.protocol.specs.examples.Recoveries.{recoveryExamples}
 
 pub recoveries-hold : AllHold recoveryExamples
-unfolding sameWords failuresFrom Claims lowestFrom countBelow inTurn load store loadRun overwrite storeRun clearRun copyRun zeros
-    formattedDirectory tableFrom nextLive wordStep readFrom pricesFrom pricesOf ownRelease openRelease openList
-    stepsOf isOpen releaseWrites makeWrite close stepMemory recordedRelease underWay settledRecord writeRecord
-    writeOwnRecord firstRefusal outsideLimits fewLive badHome badPage badStatus badRelease badCard unfitRack
-    awaitsRecovery openMemory stepTimes runToClose closeReleases restoreHome restorePage restorePages lostHome
-    keptHome newHome copyToNewHome copyToNewHomes moveHome recoveredDirectory writeFailed writeRecords failedRelease
-    restoredMemory recoveredMemory awaitedCard recovery smallMemory rolledForward rolledBack closedWithout1 recovered
+unfolding sameWords failuresFrom Claims lowestFrom countBelow inTurn load store loadRun overwrite storeRun clearRun
+    copyRun zeros formattedDirectory tableFrom nextLive wordStep readFrom pricesFrom pricesOf ownRelease openRelease
+    openList stepsOf isOpen releaseWrites makeWrite close stepMemory recordedRelease underWay settledRecord
+    writeRecord writeOwnRecord firstRefusal outsideLimits fewLive badHome badPage badStatus badRelease badCard
+    unfitRack awaitsRecovery openMemory stepTimes runToClose closeReleases restoreHome restorePage restorePages
+    lostHome keptHome newHome copyToNewHome copyToNewHomes moveHome recoveredDirectory writeFailed writeRecords
+    failedRelease restoredMemory recoveredMemory awaitedCard recovery smallMemory rolledForward rolledBack
+    closedWithout1 recovered
 recoveries-hold = all-hold recoveryExamples refl tt

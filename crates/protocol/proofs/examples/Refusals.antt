@@ -24,10 +24,10 @@ use Rattle.protocol.specs.examples.Racks.{smallMemory}
 use Rattle.protocol.specs.examples.Refusals.{twoOpen, nineClosed, fourCopies, refusalExamples}
 
 pub refusals-hold : AllHold refusalExamples
-unfolding sameWords failuresFrom Claims lowestFrom countBelow inTurn load store loadRun overwrite storeRun clearRun copyRun zeros
-    formattedDirectory tableFrom nextLive wordStep readFrom checkDiff pricesFrom pricesOf names ownRelease openRelease
-    openList stepsOf isOpen releaseWrites makeWrite close stepMemory recordedRelease firstRefusal outsideLimits
-    fewLive badHome badPage badStatus badRelease badCard unfitRack awaitsRecovery shareWord sharesWith openMemory
-    opening step namesPage inMotion committedPage fetch failure recovery join deskQuestion smallMemory twoOpen
-    nineClosed fourCopies
+unfolding sameWords failuresFrom Claims lowestFrom countBelow inTurn load store loadRun overwrite storeRun clearRun
+    copyRun zeros formattedDirectory tableFrom nextLive wordStep readFrom checkDiff pricesFrom pricesOf names
+    ownRelease openRelease openList stepsOf isOpen releaseWrites makeWrite close stepMemory recordedRelease
+    firstRefusal outsideLimits fewLive badHome badPage badStatus badRelease badCard unfitRack awaitsRecovery shareWord
+    sharesWith openMemory opening step namesPage inMotion committedPage fetch failure recovery join deskQuestion
+    smallMemory twoOpen nineClosed fourCopies
 refusals-hold = all-hold refusalExamples refl tt

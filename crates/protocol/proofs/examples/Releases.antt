@@ -22,6 +22,6 @@ pub releases-hold : AllHold releaseExamples
 unfolding sameWords failuresFrom Claims lowestFrom countBelow load store loadRun overwrite storeRun clearRun zeros
     formattedDirectory tableFrom nextLive wordStep readFrom checkDiff pricesFrom pricesOf names ownRelease openRelease
     openList stepsOf isOpen releaseWrites makeWrite close stepMemory recordedRelease underWay settledRecord
-    firstRefusal outsideLimits fewLive badHome badPage badStatus badRelease badCard unfitRack awaitsRecovery
-    shareWord sharesWith openMemory opening step smallMemory beforeOpening opened steppedOnce steppedTwice
+    firstRefusal outsideLimits fewLive badHome badPage badStatus badRelease badCard unfitRack awaitsRecovery shareWord
+    sharesWith openMemory opening step smallMemory beforeOpening opened steppedOnce steppedTwice
 releases-hold = all-hold releaseExamples refl tt

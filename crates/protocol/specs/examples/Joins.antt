@@ -1,5 +1,5 @@
--- Joins and desk questions: worked examples. Every word of the memory is its own index, so that it shows where each word
--- comes from.
+-- Joins and desk questions: worked examples. Every word of the memory is its own index, so that it shows where each
+-- word comes from.
 -- Assumes nothing: these are definitions.
 use mathlib.Core.List.{List, [], _∷_, _++_}
 use Rattle.laws.specs.Examples.{Example, computed}
@@ -16,9 +16,9 @@ twoDead = markedDead (markedDead (withHomes (formattedDirectory 4 1) 0 3 0) 1) 2
 
 abbrev pub joinExamples : List Example
 joinExamples =
-    -- A join zeroes the whole area of card 1, and gives it stamp and desk of its record on card 3, its next live; on it
-    -- stand the record of card 2, whole, from card 3, and that of card 0, made from its own stamp and desk. No other
-    -- area changes.
+    -- A join zeroes the whole area of card 1, and gives it stamp and desk of its record on card 3, its next live; on
+    -- it stand the record of card 2, whole, from card 3, and that of card 0, made from its own stamp and desk. No
+    -- other area changes.
     computed (joinedMemory twoDead 1 (numbersFrom 0 2960))
     (numbersFrom 0 740 ++ 2258 ∷ numbersFrom 2260 8 ++ zeros 11 ++ 0 ∷ 0 ∷ numbersFrom 1 8 ++ zeros 26
     ++ numbersFrom 2276 18 ++ zeros 666 ++ numbersFrom 1480 1480)

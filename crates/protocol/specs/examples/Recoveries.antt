@@ -53,8 +53,8 @@ recovered =
 
 abbrev pub recoveryExamples : List Example
 recoveryExamples =
-    -- A lost primary is replaced by the secondary, a lost secondary by the next live card after the primary. A page that
-    -- lost no home stays, though its secondary is not the next live card.
+    -- A lost primary is replaced by the secondary, a lost secondary by the next live card after the primary. A page
+    -- that lost no home stays, though its secondary is not the next live card.
     computed (directoryWords (recoveredDirectory threePages 1))
     (1 ∷ 0 ∷ 1 ∷ 1 ∷ 0 ∷ 2 ∷ 0 ∷ 3 ∷ 3 ∷ 2 ∷ 0 ∷ 0 ∷ [])
     -- Rolled forward, each live home of each page has the tentative words in both halves, and card 2, the new home of

@@ -99,7 +99,8 @@ refusalExamples =
     (1 ∷ 1 ∷ 1 ∷ 1 ∷ 0 ∷ [])
     -- an awaited card that is live, or that does not exist
     ∷ computed
-    (unfitIs (withStatus smallRack (Awaiting 2)) smallMemory ∷ unfitIs (withStatus twoCards (Awaiting 3)) smallMemory ∷ [])
+    (unfitIs (withStatus smallRack (Awaiting 2)) smallMemory
+    ∷ unfitIs (withStatus twoCards (Awaiting 3)) smallMemory ∷ [])
     (1 ∷ 1 ∷ [])
     -- "release open" of a live card is 0 or 1; what a dead card's area says is not looked at
     ∷ computed
@@ -109,8 +110,8 @@ refusalExamples =
     (unfitIs smallRack (withOpen 2 4 14 smallMemory) ∷ unfitIs smallRack (withOpen 2 4 15 smallMemory)
     ∷ unfitIs smallRack (store 740 (withOpen 2 4 0 smallMemory) 2 167 0) ∷ [])
     (0 ∷ 1 ∷ 1 ∷ [])
-    -- An opening under the next number is taken. One at or below the stamp is refused with 5 at the stamp, one further
-    -- on with 6, both before the list is looked at; a faulty list with 7 at its faulty word.
+    -- An opening under the next number is taken. One at or below the stamp is refused with 5 at the stamp, one
+    -- further on with 6, both before the list is looked at; a faulty list with 7 at its faulty word.
     ∷ computed
     (outcomeOf (openThree 10 nineClosed) ++ outcomeOf (openFaulty 9) ++ outcomeOf (openFaulty 0)
     ++ outcomeOf (openFaulty 11) ++ outcomeOf (openFaulty 10))
@@ -128,7 +129,8 @@ refusalExamples =
     (4 ∷ 0 ∷ 0 ∷ 0 ∷ 16 ∷ 0 ∷ [])
     -- A fetch is of the committed words at the primary.
     ∷ computed (outcomeOf (fetchFives fourCopies 32) ++ fetchFives fourCopies 32 .words) (0 ∷ 0 ∷ numbersFrom 200 32)
-    -- A page is in motion once a release counts that prices a word of it, not before; the place is the lowest such card.
+    -- A page is in motion once a release counts that prices a word of it, not before; the place is the lowest such
+    -- card.
     ∷ computed
     (outcomeOf (fetchFives (bothAt 10) 32) ++ outcomeOf (fetchFives (bothAt 11) 32)
     ++ outcomeOf (fetchFives (withOpen 2 4 11 smallMemory) 32))
@@ -138,13 +140,15 @@ refusalExamples =
     (outcomeOf (fetch smallRack (bothAt 11) 1 []) ++ outcomeOf (fetchFives (bothAt 11) 31)
     ++ outcomeOf (fetchFives smallMemory 31) ++ fetchFives smallMemory 31 .words)
     (9 ∷ 0 ∷ 10 ∷ 1 ∷ 17 ∷ 0 ∷ replicate 31 5)
-    -- Of three live cards one may fail: it is dead, and its recovery awaited. Of two none may; a dead card fails no more.
-    ∷ computed (outcomeOf (failure smallRack smallMemory 1) ++ directoryWords (failure smallRack smallMemory 1 .directory))
+    -- Of three live cards one may fail: it is dead, and its recovery awaited. Of two none may; a dead card fails no
+    -- more.
+    ∷ computed
+    (outcomeOf (failure smallRack smallMemory 1) ++ directoryWords (failure smallRack smallMemory 1 .directory))
     (0 ∷ 0 ∷ 1 ∷ 0 ∷ 1 ∷ 0 ∷ 1 ∷ 1 ∷ 1 ∷ [])
     ∷ computed (outcomeOf (failure twoCards smallMemory 1) ++ outcomeOf (failure twoCards smallMemory 2))
     (13 ∷ 0 ∷ 3 ∷ 0 ∷ [])
-    -- While a recovery is awaited every other call is refused with 11, before its card is looked at; no recovery without
-    -- a failure. Neither is said of a rack that does not fit.
+    -- While a recovery is awaited every other call is refused with 11, before its card is looked at; no recovery
+    -- without a failure. Neither is said of a rack that does not fit.
     ∷ computed
     (outcomeOf (step awaitingCard2 smallMemory 9) ++ outcomeOf (deskQuestion awaitingCard2 smallMemory 0)
     ++ outcomeOf (recovery smallRack smallMemory) ++ outcomeOf (recovery smallRack (store 740 smallMemory 2 9 2))

@@ -53,15 +53,15 @@ differs stamp done = bit (underWay 740 (store 740 (store 740 smallMemory 0 38 st
 
 abbrev pub releaseExamples : List Example
 releaseExamples =
-    -- An opening is taken; it says so and counts 0 steps, and copies number, desk and list. What stood behind the list
-    -- is kept, and so is the own stamp.
+    -- An opening is taken; it says so and counts 0 steps, and copies number, desk and list. What stood behind the
+    -- list is kept, and so is the own stamp.
     computed
     (outcomeOf opened
     ++ wordsAt 740 (opened .memory) 1 0 2 ++ wordsAt 740 (opened .memory) 1 9 11
     ++ wordsAt 740 (opened .memory) 1 164 7)
     (0 ∷ 0 ∷ 4 ∷ 0 ∷ 1 ∷ 0 ∷ 5 ∷ (desk ++ twoPriceList ++ 8 ∷ 8 ∷ []))
-    -- The first step stores the first price, tentatively, at the secondary, card 1, and nothing else but the count; the
-    -- second at the primary, card 0.
+    -- The first step stores the first price, tentatively, at the secondary, card 1, and nothing else but the count;
+    -- the second at the primary, card 0.
     ∷ computed
     (outcomeOf steppedOnce
     ++ wordsAt 740 (steppedOnce .memory) 0 680 2 ++ wordsAt 740 (steppedOnce .memory) 1 680 2
