@@ -41,7 +41,7 @@ examples =
     -- S stops at a refusal, and shows the steps made before it; of no steps no call is made, so that none is refused.
     ∷ computed (shownBy (Open 1 1 1 2 250 ∷ Step 1 20 ∷ Step 1 20 ∷ Step 9 0 ∷ Step 9 1 ∷ []) newRack)
     (0 ∷ 0 ∷ 16 ∷ 15 ∷ 16 ∷ 0 ∷ 0 ∷ 0 ∷ 3 ∷ 0 ∷ [])
-    -- a page that the rack has not, in B and in F; a card that it has not; an unreadable line
+    -- a page that the rack has not, in B and in F; a card that it has not; a join of a live card; an unreadable line
     ∷ computed (shownBy (Open 1 1 4 0 5 ∷ Fetch 4 0 ∷ Fail 3 ∷ Join 1 ∷ Unreadable ∷ []) newRack)
     (7 ∷ 0 ∷ 9 ∷ 0 ∷ 3 ∷ 0 ∷ 14 ∷ 0 ∷ 18 ∷ 0 ∷ [])
     -- B opens release 1 with a list of one price and a desk of zeros

@@ -3,7 +3,7 @@
 -- Assumes nothing: these are definitions.
 use Prim.Native.Nat.{ℕ}
 use mathlib.Core.List.{List, [], _∷_, _++_}
-use lib.ListN.{length, replicate}
+use lib.ListN.{replicate}
 use Rattle.laws.specs.Examples.{Example, computed}
 use Rattle.answer.specs.Outcome.{inWords}
 use Rattle.diff.specs.Reading.{checkDiff}
@@ -63,6 +63,8 @@ examples =
     -- 512 words are a list, 513 are refused at 512
     ∷ computed (inWords (checkDiff 64 (madeDiff fullPages noPrices))) (0 ∷ 479 ∷ [])
     ∷ computed (inWords (checkDiff 64 (madeDiff overfullPages noPrices))) (7 ∷ 512 ∷ [])
+    -- of a longer list the first fault is the place all the same
+    ∷ computed (checked (replicate 600 0) ++ checked (0xF0000000 ∷ replicate 599 0)) (7 ∷ 0 ∷ 7 ∷ 1 ∷ [])
     -- the maker makes the one of 512 words in as many, and in no fewer; it does not make the other
     ∷ computed (inWords (makeDiff fullPages noPrices 512)) (0 ∷ 512 ∷ [])
     ∷ computed (inWords (makeDiff fullPages noPrices 511)) (17 ∷ 0 ∷ [])

@@ -4,10 +4,10 @@
 use Prim.Native.Nat.{ℕ}
 use mathlib.Core.List.{List, [], _∷_, _++_}
 use mathlib.Core.Bool.{Bool, true, false, cond}
-use lib.ListN.{length, replicate}
+use lib.ListN.{replicate}
 use Rattle.laws.specs.Examples.{Example, computed}
 use Rattle.directory.specs.Live.{nextLive}
-use Rattle.directory.specs.Directory.{Directory, Status, isLive, table, formattedDirectory, emptyDirectory}
+use Rattle.directory.specs.Directory.{Directory, Status, formattedDirectory, emptyDirectory}
 use Rattle.directory.specs.Directory.{markedDead, markedLive, withHomes, withStatus, backupOf}
 use Rattle.directory.specs.declared.Status.the-variants.{Running, Awaiting}
 

@@ -1,8 +1,8 @@
 -- A list of examples holds if none of the computed ones fails and each claim is shown.
 use Prim.Native.Nat.{ℕ, suc}
-use mathlib.Core.Path.{_≡_, refl, ap}
-use mathlib.Core.List.{List, [], _∷_, _++_, cons≢nil}
-use mathlib.Core.Bool.{Bool, true, false, cond, _&&_, false≢true}
+use mathlib.Core.Path.{_≡_, refl}
+use mathlib.Core.List.{List, [], _∷_, cons≢nil}
+use mathlib.Core.Bool.{Bool, true, false, false≢true}
 use borrow.Author.Tests.{eqb-true}
 use lib.Dec.{eqb}
 use Rattle.laws.proofs.Bools.{and-first, and-second}

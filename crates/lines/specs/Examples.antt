@@ -23,10 +23,10 @@ commandWords Unreadable = 0 ∷ []
 abbrev pub readAs : String → List ℕ
 readAs line = commandWords (command (bytesOf line))
 
--- each line, with 10 behind it
-abbrev pub joined : List (List ℕ) → List ℕ
-joined [] = []
-joined (line ∷ lines) = line ++ 10 ∷ joined lines
+-- each line, with a line feed (10) behind it
+abbrev pub withFeeds : List (List ℕ) → List ℕ
+withFeeds [] = []
+withFeeds (line ∷ lines) = line ++ 10 ∷ withFeeds lines
 
 abbrev pub examples : List Example
 examples =
@@ -36,7 +36,7 @@ examples =
     ∷ computed (readAs "X 2") (3 ∷ 2 ∷ [])
     ∷ computed (readAs "J 2") (4 ∷ 2 ∷ [])
     ∷ computed (readAs "F 1 2") (5 ∷ 1 ∷ 2 ∷ [])
-    -- no other letter, none in lower case, no word, and no letter without its numbers
+    -- no other letter, none in lower case, no word, and no letter with fewer or more numbers than its form has
     ∷ computed (readAs "A 1" ++ readAs "x 2" ++ readAs "XX 2" ++ readAs "X" ++ readAs "S 1" ++ readAs "F 1 2 3")
     (0 ∷ 0 ∷ 0 ∷ 0 ∷ 0 ∷ 0 ∷ [])
     -- pages to 63 and words to 31 are read, in B and in F; no higher ones
@@ -50,9 +50,9 @@ examples =
     -- one space between fields, none before or behind them
     ∷ computed (readAs "X  2" ++ readAs " X 2" ++ readAs "X 2 " ++ readAs "X\t2" ++ readAs "") (0 ∷ 0 ∷ 0 ∷ 0 ∷ 0 ∷ [])
     -- a line ends at a line feed or at the end; nothing behind the last line feed is no line
-    ∷ computed (joined (linesOf (bytesOf "ab\n\nc"))) (bytesOf "ab\n\nc\n")
-    ∷ computed (joined (linesOf (bytesOf "ab\n\nc\n"))) (bytesOf "ab\n\nc\n")
-    ∷ computed (joined (linesOf [])) []
+    ∷ computed (withFeeds (linesOf (bytesOf "ab\n\nc"))) (bytesOf "ab\n\nc\n")
+    ∷ computed (withFeeds (linesOf (bytesOf "ab\n\nc\n"))) (bytesOf "ab\n\nc\n")
+    ∷ computed (withFeeds (linesOf [])) []
     -- an answer: line number, letter (B is 66, - is 45), refusal and value, with no leading zeros
     ∷ computed (answerLine 7 66 5 1 ++ answerLine 10 45 18 0) (bytesOf "7 B 5 1\n10 - 18 0\n")
     ∷ computed (answerLine 18446744073709551615 70 0 4294967295) (bytesOf "18446744073709551615 F 0 4294967295\n")

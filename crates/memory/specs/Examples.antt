@@ -16,7 +16,7 @@ threeAreas = 10 ∷ 11 ∷ 12 ∷ 13 ∷ 20 ∷ 21 ∷ 22 ∷ 23 ∷ 30 ∷ 31 �
 
 abbrev pub examples : List Example
 examples =
-    -- own stamp and desk, the open release: whether, steps, number, desk; how many words the last four take
+    -- own stamp and desk, the open release: whether, steps, number, desk; how many words the last four take, and a desk
     computed
     (ownStamp ∷ ownDesk ∷ releaseOpen ∷ stepsMade ∷ releaseNumber ∷ releaseDesk ∷ releaseSize ∷ deskSize ∷ [])
     (0 ∷ 1 ∷ 9 ∷ 10 ∷ 11 ∷ 12 ∷ 11 ∷ 8 ∷ [])

@@ -1,6 +1,6 @@
 -- Document 01's worked numbers with ◆ ("Numbers to hold it against"), as rows of one list, computed from the
--- definitions that the calls' contracts cite. A row shows the outcome beside the words, and buffers that are lent
--- hold sevens, so that a refused call meets none.
+-- definitions that the calls' contracts cite. A row shows outcomes beside words, or words that an accepted call alone
+-- changes, and buffers that are lent hold sevens: a call that is refused meets none.
 -- Assumes nothing: these are definitions.
 use Prim.Native.Nat.{ℕ, zero, suc, _≤_, _<_}
 use mathlib.Core.Path.{_≡_}
@@ -85,31 +85,31 @@ recoveredFrom steps card =
     let dead : Result = failure (after .directory) (after .memory) card in
     recovery (dead .directory) (dead .memory)
 
--- what a fetch of page 1 then comes to, and the buffer
+-- what the recovery comes to, what a fetch of page 1 then comes to, and the buffer
 unfoldable pub shownAfter : Result → List ℕ
 shownAfter r =
     let fetched : Result = fetch (r .directory) (r .memory) 1 (sevens 32) in
-    inWords (fetched .outcome) ++ fetched .words
+    inWords (r .outcome) ++ inWords (fetched .outcome) ++ fetched .words
 
 -- what a recovery comes to, and the homes of the four pages after it
 unfoldable pub homesAfter : Result → List ℕ
 homesAfter r = inWords (r .outcome) ++ take 4 (r .directory .primary) ++ take 4 (r .directory .secondary)
 
--- accepted, and the page with these prices for words 2 and 3
-abbrev pub pageOf : ℕ → ℕ → List ℕ
-pageOf third fourth = 0 ∷ 0 ∷ 0 ∷ 0 ∷ third ∷ fourth ∷ zeros 28
+-- the recovery found this stamp; the fetch is accepted, and shows these prices as words 2 and 3
+abbrev pub found : ℕ → ℕ → ℕ → List ℕ
+found stamp third fourth = 0 ∷ stamp ∷ 0 ∷ 0 ∷ 0 ∷ 0 ∷ third ∷ fourth ∷ zeros 28
 
--- card 1 died after 12 steps, all tentative words and the desk being stored: the recovery took the release back
-abbrev pub takenBack : Example
-takenBack = computed (shownAfter (recoveredFrom 12 1)) (pageOf 0 0)
+-- card 1 died after 12 steps, all tentative words and the desk being stored: the recovery rolled the release back
+abbrev pub rolledBack : Example
+rolledBack = computed (shownAfter (recoveredFrom 12 1)) (found 0 0 0)
 
--- it died after 13, its stamp being stored: the recovery took the release forward
-abbrev pub takenForward : Example
-takenForward = computed (shownAfter (recoveredFrom 13 1)) (pageOf 250 199)
+-- it died after 13, its stamp being stored: the recovery rolled the release forward
+abbrev pub rolledForward : Example
+rolledForward = computed (shownAfter (recoveredFrom 13 1)) (found 1 250 199)
 
 -- card 2 died while card 1's release had made 5 steps: the recovery completed it
 abbrev pub completed : Example
-completed = computed (shownAfter (recoveredFrom 5 2)) (pageOf 250 199)
+completed = computed (shownAfter (recoveredFrom 5 2)) (found 0 250 199)
 
 -- ---- "On a live card of a running rack with no release open"
 
@@ -150,9 +150,9 @@ rows =
     ∷ releaseAfter noPrice 10 ++ releaseAfter noPrice 11)
     (0 ∷ 1 ∷ noPrice ++ sevens 5 ++ 0 ∷ 1 ∷ 1 ∷ 10 ∷ 1 ∷ 0 ∷ 0 ∷ 0 ∷ [])
     -- "The list with 250 and 199, released .. by card 1, which dies after 12 steps: page 1 is zero."
-    ∷ takenBack
+    ∷ rolledBack
     -- "After 13: 250 and 199."
-    ∷ takenForward
+    ∷ rolledForward
     -- "Homes then: page 0 on 0 and 2, 1 on 2 and 0, 2 on 2 and 0, 3 on 0 and 2."
     ∷ computed (homesAfter (recoveredFrom 13 1)) (0 ∷ 1 ∷ 0 ∷ 2 ∷ 2 ∷ 0 ∷ 2 ∷ 0 ∷ 0 ∷ 2 ∷ [])
     -- "Run offset 31 count 1 is allowed"
@@ -170,4 +170,4 @@ rows =
 -- ---- demand 3 is not empty: what accepted fetches show after a recovery
 
 abbrev pub shown : List Example
-shown = takenForward ∷ takenBack ∷ completed ∷ []
+shown = rolledForward ∷ rolledBack ∷ completed ∷ []

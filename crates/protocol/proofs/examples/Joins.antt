@@ -12,11 +12,11 @@ use Rattle.protocol.specs.Checks.{firstRefusal, outsideLimits, fewLive, 
 use Rattle.protocol.specs.Checks.{badCard, unfitRack, awaitsRecovery}
 use Rattle.protocol.specs.Join.{resetArea, copyDeadRecord, joinedMemory, join}
 use Rattle.protocol.specs.DeskQuestion.{deskOf}
-use Rattle.protocol.specs.examples.Joins.{joinExamples}
+use Rattle.protocol.specs.examples.Joins.{joined, joinExamples}
 
 pub joins-hold : AllHold joinExamples
 unfolding sameWords failuresFrom Claims lowestFrom countBelow inTurn load loadRun overwrite storeRun clearRun copyRun
     zeros formattedDirectory tableFrom nextLive ownRelease isOpen recordedRelease settledRecord writeRecord
     writeOwnRecord firstRefusal outsideLimits fewLive badHome badPage badStatus badRelease badCard unfitRack
-    awaitsRecovery resetArea copyDeadRecord joinedMemory join deskOf
+    awaitsRecovery resetArea copyDeadRecord joinedMemory join deskOf joined
 joins-hold = all-hold joinExamples refl tt

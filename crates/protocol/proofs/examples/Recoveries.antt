@@ -19,7 +19,8 @@ use Rattle.protocol.specs.Recovery.{lostHome, keptHome, newHome, copyToN
 use Rattle.protocol.specs.Recovery.{recoveredDirectory, writeFailed, writeRecords, failedRelease, restoredMemory}
 use Rattle.protocol.specs.Recovery.{recoveredMemory, awaitedCard, recovery}
 use Rattle.protocol.specs.examples.Racks.{smallMemory}
-use Rattle.protocol.specs.examples.Recoveries.{rolledForward, rolledBack, closedWithout1, recovered}
+use Rattle.protocol.specs.examples.Recoveries.{rolledForward, rolledBack, deadArea, closedWithout1}
+use Rattle.protocol.specs.examples.Recoveries.{closedInTurn, recovered}
 use Rattle.protocol.specs.examples.Recoveries.{recoveryExamples}
 
 pub recoveries-hold : AllHold recoveryExamples
@@ -30,5 +31,5 @@ unfolding sameWords failuresFrom Claims lowestFrom countBelow inTurn load store 
     unfitRack awaitsRecovery openMemory stepTimes runToClose closeReleases restoreHome restorePage restorePages
     lostHome keptHome newHome copyToNewHome copyToNewHomes moveHome recoveredDirectory writeFailed writeRecords
     failedRelease restoredMemory recoveredMemory awaitedCard recovery smallMemory rolledForward rolledBack
-    closedWithout1 recovered
+    deadArea closedWithout1 closedInTurn recovered
 recoveries-hold = all-hold recoveryExamples refl tt

@@ -4,7 +4,7 @@ use Rattle.laws.specs.Search.{lowestFrom, countBelow, inTurn}
 use Rattle.laws.specs.Examples.{AllHold, sameWords, failuresFrom, Claims}
 use Rattle.laws.proofs.Examples.{all-hold}
 use Rattle.memory.specs.Area.{load, store, loadRun, overwrite, storeRun, clearRun, copyRun, zeros}
-use Rattle.directory.specs.Directory.{formattedDirectory, tableFrom}
+use Rattle.directory.specs.Directory.{formattedDirectory, emptyDirectory, tableFrom}
 use Rattle.directory.specs.Live.{nextLive}
 use Rattle.diff.specs.Reading.{wordStep, readFrom, checkDiff}
 use Rattle.diff.specs.Prices.{pricesFrom, pricesOf, names}
@@ -13,6 +13,7 @@ use Rattle.protocol.specs.Release.{makeWrite, close, stepMemory}
 use Rattle.protocol.specs.Record.{recordedRelease}
 use Rattle.protocol.specs.Checks.{firstRefusal, outsideLimits, fewLive, badHome, badPage, badStatus, badRelease}
 use Rattle.protocol.specs.Checks.{badCard, unfitRack, awaitsRecovery}
+use Rattle.protocol.specs.Formatting.{formatting}
 use Rattle.protocol.specs.Opening.{shareWord, sharesWith, openMemory, opening}
 use Rattle.protocol.specs.Step.{step}
 use Rattle.protocol.specs.Fetch.{namesPage, inMotion, committedPage, fetch}
@@ -25,9 +26,9 @@ use Rattle.protocol.specs.examples.Refusals.{twoOpen, nineClosed, fourCo
 
 pub refusals-hold : AllHold refusalExamples
 unfolding sameWords failuresFrom Claims lowestFrom countBelow inTurn load store loadRun overwrite storeRun clearRun
-    copyRun zeros formattedDirectory tableFrom nextLive wordStep readFrom checkDiff pricesFrom pricesOf names
+    copyRun zeros formattedDirectory emptyDirectory tableFrom nextLive wordStep readFrom checkDiff pricesFrom pricesOf names
     ownRelease openRelease openList stepsOf isOpen releaseWrites makeWrite close stepMemory recordedRelease
-    firstRefusal outsideLimits fewLive badHome badPage badStatus badRelease badCard unfitRack awaitsRecovery shareWord
+    firstRefusal outsideLimits fewLive badHome badPage badStatus badRelease badCard unfitRack awaitsRecovery formatting shareWord
     sharesWith openMemory opening step namesPage inMotion committedPage fetch failure recovery join deskQuestion
     smallMemory twoOpen nineClosed fourCopies
 refusals-hold = all-hold refusalExamples refl tt

@@ -15,13 +15,15 @@ use Rattle.protocol.specs.Checks.{firstRefusal, outsideLimits, fewLive, 
 use Rattle.protocol.specs.Checks.{badCard, unfitRack, awaitsRecovery}
 use Rattle.protocol.specs.Opening.{shareWord, sharesWith, openMemory, opening}
 use Rattle.protocol.specs.Step.{step}
+use Rattle.protocol.specs.DeskQuestion.{deskOf, deskQuestion}
 use Rattle.protocol.specs.examples.Racks.{smallMemory}
-use Rattle.protocol.specs.examples.Releases.{beforeOpening, opened, steppedOnce, steppedTwice, releaseExamples}
+use Rattle.protocol.specs.examples.Releases.{beforeOpening, opened, steppedOnce, steppedTwice, askedInMotion}
+use Rattle.protocol.specs.examples.Releases.{releaseExamples}
 
 pub releases-hold : AllHold releaseExamples
 unfolding sameWords failuresFrom Claims lowestFrom countBelow load store loadRun overwrite storeRun clearRun zeros
     formattedDirectory tableFrom nextLive wordStep readFrom checkDiff pricesFrom pricesOf names ownRelease openRelease
     openList stepsOf isOpen releaseWrites makeWrite close stepMemory recordedRelease underWay settledRecord
     firstRefusal outsideLimits fewLive badHome badPage badStatus badRelease badCard unfitRack awaitsRecovery shareWord
-    sharesWith openMemory opening step smallMemory beforeOpening opened steppedOnce steppedTwice
+    sharesWith openMemory opening step smallMemory beforeOpening opened steppedOnce steppedTwice askedInMotion deskOf deskQuestion
 releases-hold = all-hold releaseExamples refl tt

@@ -2,17 +2,23 @@
 -- word comes from.
 -- Assumes nothing: these are definitions.
 use mathlib.Core.List.{List, [], _∷_, _++_}
+use lib.ListN.{replicate}
 use Rattle.laws.specs.Examples.{Example, computed}
 use Rattle.memory.specs.Area.{zeros}
 use Rattle.directory.specs.declared.Directory.{Directory}
 use Rattle.directory.specs.Directory.{formattedDirectory, markedDead, withHomes}
+use Rattle.protocol.specs.Result.{Result}
 use Rattle.protocol.specs.Join.{joinedMemory, join}
 use Rattle.protocol.specs.DeskQuestion.{deskOf}
-use Rattle.protocol.specs.examples.Racks.{numbersFrom, directoryWords}
+use Rattle.protocol.specs.examples.Racks.{numbersFrom, outcomeOf, directoryWords}
 
 -- Cards 1 and 2 of four are dead; one page, on cards 3 and 0. An area has 740 words.
 abbrev pub twoDead : Directory
 twoDead = markedDead (markedDead (withHomes (formattedDirectory 4 1) 0 3 0) 1) 2
+
+-- Card 1 joins, in whose area are threes.
+unfoldable pub joined : Result
+joined = join twoDead (zeros 740 ++ replicate 740 3 ++ zeros 1480) 1
 
 abbrev pub joinExamples : List Example
 joinExamples =
@@ -22,8 +28,9 @@ joinExamples =
     computed (joinedMemory twoDead 1 (numbersFrom 0 2960))
     (numbersFrom 0 740 ++ 2258 ∷ numbersFrom 2260 8 ++ zeros 11 ++ 0 ∷ 0 ∷ numbersFrom 1 8 ++ zeros 26
     ++ numbersFrom 2276 18 ++ zeros 666 ++ numbersFrom 1480 1480)
-    -- It moves no home.
-    ∷ computed (directoryWords (join twoDead (zeros 2960) 1 .directory)) (1 ∷ 1 ∷ 0 ∷ 1 ∷ 3 ∷ 0 ∷ 0 ∷ 0 ∷ [])
+    -- It marks the card live and moves no home; where all records are zero, so is the whole area.
+    ∷ computed (outcomeOf joined ++ directoryWords (joined .directory)) (0 ∷ 0 ∷ 1 ∷ 1 ∷ 0 ∷ 1 ∷ 3 ∷ 0 ∷ 0 ∷ [])
+    ∷ computed (joined .memory) (zeros 2960)
     -- A desk question gives the own desk of a live card, and the desk of a dead one's record on its next live card.
     ∷ computed (deskOf twoDead (numbersFrom 0 2960) 3 ++ deskOf twoDead (numbersFrom 0 2960) 1)
     (numbersFrom 2221 8 ++ numbersFrom 2260 8)

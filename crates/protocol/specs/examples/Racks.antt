@@ -3,13 +3,12 @@
 use Prim.Native.Nat.{ℕ, _+_, _*_}
 use mathlib.Core.List.{List, [], _∷_, _++_}
 use mathlib.Core.Bool.{Bool, cond}
-use lib.ListN.{length, take, drop}
+use lib.ListN.{take, drop}
 use Rattle.answer.specs.Outcome.{inWords}
 use Rattle.memory.specs.Area.{zeros}
 use Rattle.directory.specs.declared.Directory.{Directory}
-use Rattle.directory.specs.declared.Status.{Status}
-use Rattle.directory.specs.declared.Status.the-variants.{Running, Awaiting}
 use Rattle.directory.specs.Directory.{isLive, formattedDirectory, table, tableFrom}
+use Rattle.directory.specs.Examples.{statusWords}
 use Rattle.protocol.specs.Result.{Result}
 
 -- Three live cards and one page, on cards 0 and 1. An area has 740 words.
@@ -36,11 +35,6 @@ bit test = cond test 1 0
 -- number and value
 abbrev pub outcomeOf : Result → List ℕ
 outcomeOf r = inWords (r .outcome)
-
--- the awaited card and 1, or zeros
-abbrev pub statusWords : Status → List ℕ
-statusWords Running = 0 ∷ 0 ∷ []
-statusWords (Awaiting card) = 1 ∷ card ∷ []
 
 -- marks, primaries, secondaries and status, as far as cards and pages go
 abbrev pub directoryWords : Directory → List ℕ

@@ -7,11 +7,12 @@ use Rattle.laws.specs.Examples.{Example, computed}
 use Rattle.memory.specs.Area.{store, storeRun, zeros}
 use Rattle.directory.specs.declared.Directory.{Directory}
 use Rattle.directory.specs.declared.Status.the-variants.{Awaiting}
-use Rattle.directory.specs.Directory.{formattedDirectory, markedDead, withHomes, withStatus}
+use Rattle.directory.specs.Directory.{markedDead, withHomes, withStatus}
 use Rattle.diff.specs.Format.{runWord}
 use Rattle.protocol.specs.Release.{releaseOf}
 use Rattle.protocol.specs.Checks.{outsideLimits, unfitRack}
 use Rattle.protocol.specs.Result.{Result}
+use Rattle.protocol.specs.Formatting.{formatting}
 use Rattle.protocol.specs.Opening.{openMemory, opening}
 use Rattle.protocol.specs.Step.{step}
 use Rattle.protocol.specs.Fetch.{fetch}
@@ -60,10 +61,14 @@ abbrev pub openThree : ℕ → List ℕ → Result
 openThree number m =
     opening smallRack m 1 (releaseOf number (zeros 8)) (0x10000000 ∷ 0x20040003 ∷ 1 ∷ 2 ∷ 3 ∷ 0xF0000005 ∷ [])
 
--- release 10 by card 1, of a list whose word 3 is faulty
-abbrev pub openFaulty : ℕ → Result
-openFaulty number =
-    opening smallRack nineClosed 1 (releaseOf number (zeros 8)) (0x10000000 ∷ 0x20040001 ∷ 1 ∷ 9 ∷ [])
+-- a release by card 1 of a list whose word 3 is faulty, behind a price of word 4
+abbrev pub openFaulty : ℕ → List ℕ → Result
+openFaulty number m =
+    opening smallRack m 1 (releaseOf number (zeros 8)) (0x10000000 ∷ 0x20040001 ∷ 1 ∷ 9 ∷ [])
+
+-- release 0 of a list of no words, by a card
+abbrev pub openNothing : Directory → ℕ → Result
+openNothing d card = opening d smallMemory card (releaseOf 0 (zeros 8)) []
 
 -- page 0 fetched into a buffer of fives
 abbrev pub fetchFives : List ℕ → ℕ → Result
@@ -87,6 +92,12 @@ refusalExamples =
     ∷ limitsRefuse 2028 3 0 ∷ limitsRefuse 14316 3 64 ∷ limitsRefuse 14508 3 65 ∷ limitsRefuse 2219 3 1
     ∷ limitsRefuse 2221 3 1 ∷ [])
     (1 ∷ 0 ∷ 0 ∷ 1 ∷ 1 ∷ 0 ∷ 1 ∷ 1 ∷ 1 ∷ [])
+    -- Formatting zeroes every word; a refused one keeps them.
+    ∷ computed
+    (outcomeOf (formatting (replicate 2220 7) 3 1) ++ formatting (replicate 2220 7) 3 1 .memory) (0 ∷ 0 ∷ zeros 2220)
+    ∷ computed
+    (outcomeOf (formatting (replicate 2219 7) 3 1) ++ formatting (replicate 2219 7) 3 1 .memory)
+    (1 ∷ 0 ∷ replicate 2219 7)
     -- two live cards fit; one does not, though the other home is awaited
     ∷ computed
     (unfitIs twoCards smallMemory ∷ unfitIs (withStatus (markedDead twoCards 1) (Awaiting 1)) smallMemory ∷ [])
@@ -113,20 +124,25 @@ refusalExamples =
     -- An opening under the next number is taken. One at or below the stamp is refused with 5 at the stamp, one
     -- further on with 6, both before the list is looked at; a faulty list with 7 at its faulty word.
     ∷ computed
-    (outcomeOf (openThree 10 nineClosed) ++ outcomeOf (openFaulty 9) ++ outcomeOf (openFaulty 0)
-    ++ outcomeOf (openFaulty 11) ++ outcomeOf (openFaulty 10))
+    (outcomeOf (openThree 10 nineClosed) ++ outcomeOf (openFaulty 9 nineClosed) ++ outcomeOf (openFaulty 0 nineClosed)
+    ++ outcomeOf (openFaulty 11 nineClosed) ++ outcomeOf (openFaulty 10 nineClosed))
     (0 ∷ 0 ∷ 5 ∷ 9 ∷ 5 ∷ 9 ∷ 6 ∷ 0 ∷ 7 ∷ 3 ∷ [])
+    -- Neither a card that is not there nor a dead one opens a release, whatever the number and the list; one with a
+    -- release open opens no other, whatever the number. A faulty list is refused with 7, though it shares a word.
+    ∷ computed
+    (outcomeOf (openNothing smallRack 3) ++ outcomeOf (openNothing twoCards 2)
+    ++ outcomeOf (openFaulty 0 (withOpen 1 9 0 smallMemory)) ++ outcomeOf (openFaulty 1 twoOpen))
+    (3 ∷ 0 ∷ 3 ∷ 0 ∷ 4 ∷ 0 ∷ 7 ∷ 3 ∷ [])
     -- Words in other cards' open releases: the place is the lowest such card, not the one of the list's first word. A
     -- release of another word of the page stands in nobody's way.
     ∷ computed
     (outcomeOf (openThree 1 twoOpen) ++ outcomeOf (openThree 1 (withOpen 2 4 0 smallMemory))
     ++ outcomeOf (openThree 1 (withOpen 2 7 0 smallMemory)))
     (8 ∷ 0 ∷ 8 ∷ 2 ∷ 0 ∷ 0 ∷ [])
-    -- a card with a release open opens no other, and steps it; one with none open has no step to make
-    ∷ computed
-    (outcomeOf (openThree 2 (withOpen 1 9 0 smallMemory)) ++ outcomeOf (step smallRack twoOpen 2)
-    ++ outcomeOf (step smallRack twoOpen 1))
-    (4 ∷ 0 ∷ 0 ∷ 0 ∷ 16 ∷ 0 ∷ [])
+    -- A card with a release open steps it; one with none open has no step to make, and a dead one makes none.
+    ∷ computed (outcomeOf (step smallRack twoOpen 2) ++ outcomeOf (step smallRack twoOpen 1)
+    ++ outcomeOf (step twoCards smallMemory 2))
+    (0 ∷ 0 ∷ 16 ∷ 0 ∷ 3 ∷ 0 ∷ [])
     -- A fetch is of the committed words at the primary.
     ∷ computed (outcomeOf (fetchFives fourCopies 32) ++ fetchFives fourCopies 32 .words) (0 ∷ 0 ∷ numbersFrom 200 32)
     -- A page is in motion once a release counts that prices a word of it, not before; the place is the lowest such
@@ -145,15 +161,23 @@ refusalExamples =
     ∷ computed
     (outcomeOf (failure smallRack smallMemory 1) ++ directoryWords (failure smallRack smallMemory 1 .directory))
     (0 ∷ 0 ∷ 1 ∷ 0 ∷ 1 ∷ 0 ∷ 1 ∷ 1 ∷ 1 ∷ [])
+    -- It keeps every word, those of the dead card too.
+    ∷ computed (failure smallRack fourCopies 1 .memory) fourCopies
     ∷ computed (outcomeOf (failure twoCards smallMemory 1) ++ outcomeOf (failure twoCards smallMemory 2))
     (13 ∷ 0 ∷ 3 ∷ 0 ∷ [])
-    -- While a recovery is awaited every other call is refused with 11, before its card is looked at; no recovery
-    -- without a failure. Neither is said of a rack that does not fit.
+    -- While a recovery is awaited every other call is refused with 11, before its card or page is looked at.
     ∷ computed
-    (outcomeOf (step awaitingCard2 smallMemory 9) ++ outcomeOf (deskQuestion awaitingCard2 smallMemory 0)
-    ++ outcomeOf (recovery smallRack smallMemory) ++ outcomeOf (recovery smallRack (store 740 smallMemory 2 9 2))
-    ++ outcomeOf (step awaitingCard2 (store 740 smallMemory 1 9 2) 9))
-    (11 ∷ 0 ∷ 11 ∷ 0 ∷ 12 ∷ 0 ∷ 2 ∷ 0 ∷ 2 ∷ 0 ∷ [])
+    (outcomeOf (openNothing awaitingCard2 9) ++ outcomeOf (step awaitingCard2 smallMemory 9)
+    ++ outcomeOf (fetch awaitingCard2 smallMemory 9 []) ++ outcomeOf (failure awaitingCard2 smallMemory 9)
+    ++ outcomeOf (join awaitingCard2 smallMemory 9) ++ outcomeOf (deskQuestion awaitingCard2 smallMemory 9))
+    (11 ∷ 0 ∷ 11 ∷ 0 ∷ 11 ∷ 0 ∷ 11 ∷ 0 ∷ 11 ∷ 0 ∷ 11 ∷ 0 ∷ [])
+    -- There is no recovery without a failure. Of a rack that does not fit neither is said, and 2 not of a memory of
+    -- another length.
+    ∷ computed
+    (outcomeOf (recovery smallRack smallMemory) ++ outcomeOf (recovery smallRack (store 740 smallMemory 2 9 2))
+    ++ outcomeOf (step awaitingCard2 (store 740 smallMemory 1 9 2) 9)
+    ++ outcomeOf (step (withHomes smallRack 0 1 1) (zeros 2219) 0))
+    (12 ∷ 0 ∷ 2 ∷ 0 ∷ 2 ∷ 0 ∷ 1 ∷ 0 ∷ [])
     -- A live card does not join, whatever is open; a dead one not while a release is open on another.
     ∷ computed
     (outcomeOf (join twoCards twoOpen 0) ++ outcomeOf (join twoCards twoOpen 2)

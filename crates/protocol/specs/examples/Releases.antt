@@ -10,7 +10,8 @@ use Rattle.protocol.specs.Record.{recordedRelease, underWay, settledReco
 use Rattle.protocol.specs.Result.{Result}
 use Rattle.protocol.specs.Opening.{opening}
 use Rattle.protocol.specs.Step.{step}
-use Rattle.protocol.specs.examples.Racks.{smallRack, smallMemory, numbersFrom, wordsAt, bit, outcomeOf}
+use Rattle.protocol.specs.DeskQuestion.{deskQuestion}
+use Rattle.protocol.specs.examples.Racks.{smallRack, smallMemory, numbersFrom, bit, outcomeOf}
 
 -- the desk words 50 to 57
 abbrev pub desk : List ℕ
@@ -28,10 +29,12 @@ twoPrices = record { page = 0; word = 4; price = 250 } ∷ record { page = 0; wo
 abbrev pub twoPriceList : List ℕ
 twoPriceList = 0x10000000 ∷ 0x20040002 ∷ 250 ∷ 199 ∷ 0xF0000004 ∷ []
 
--- ---- opened on card 1, which has closed release 4, and whose area holds a number of steps and words past the list
+-- ---- opened on card 1, which has closed release 4 with the desk words 30 to 37, and whose area holds a number of steps
+-- and words past the list
 
 unfoldable pub beforeOpening : List ℕ
-beforeOpening = storeRun 740 (store 740 (store 740 smallMemory 1 0 4) 1 10 9) 1 169 (8 ∷ 8 ∷ [])
+beforeOpening =
+    storeRun 740 (store 740 (storeRun 740 smallMemory 1 0 (4 ∷ numbersFrom 30 8)) 1 10 9) 1 169 (8 ∷ 8 ∷ [])
 
 unfoldable pub opened : Result
 opened = opening smallRack beforeOpening 1 (releaseOf 5 desk) twoPriceList
@@ -41,6 +44,10 @@ steppedOnce = step smallRack (opened .memory) 1
 
 unfoldable pub steppedTwice : Result
 steppedTwice = step smallRack (steppedOnce .memory) 1
+
+-- after 13 steps the release counts
+unfoldable pub askedInMotion : Result
+askedInMotion = deskQuestion smallRack (store 740 (opened .memory) 1 10 13) 1
 
 -- ---- an area and a record of words that all differ
 
@@ -53,24 +60,20 @@ differs stamp done = bit (underWay 740 (store 740 (store 740 smallMemory 0 38 st
 
 abbrev pub releaseExamples : List Example
 releaseExamples =
-    -- An opening is taken; it says so and counts 0 steps, and copies number, desk and list. What stood behind the
-    -- list is kept, and so is the own stamp.
-    computed
-    (outcomeOf opened
-    ++ wordsAt 740 (opened .memory) 1 0 2 ++ wordsAt 740 (opened .memory) 1 9 11
-    ++ wordsAt 740 (opened .memory) 1 164 7)
-    (0 ∷ 0 ∷ 4 ∷ 0 ∷ 1 ∷ 0 ∷ 5 ∷ (desk ++ twoPriceList ++ 8 ∷ 8 ∷ []))
+    -- An opening is taken; it says so and counts 0 steps, and copies number, desk and list. All else is kept: own
+    -- stamp and desk, and what stood behind the list.
+    computed (outcomeOf opened ++ opened .memory)
+    (0 ∷ 0 ∷ zeros 740
+    ++ 4 ∷ numbersFrom 30 8 ++ 1 ∷ 0 ∷ 5 ∷ desk ++ zeros 144 ++ twoPriceList ++ 8 ∷ 8 ∷ zeros 569
+    ++ zeros 740)
     -- The first step stores the first price, tentatively, at the secondary, card 1, and nothing else but the count;
     -- the second at the primary, card 0.
-    ∷ computed
-    (outcomeOf steppedOnce
-    ++ wordsAt 740 (steppedOnce .memory) 0 680 2 ++ wordsAt 740 (steppedOnce .memory) 1 680 2
-    ++ wordsAt 740 (steppedOnce .memory) 1 712 2 ++ wordsAt 740 (steppedOnce .memory) 1 9 3)
-    (0 ∷ 0 ∷ 0 ∷ 0 ∷ 250 ∷ 0 ∷ 0 ∷ 0 ∷ 1 ∷ 1 ∷ 5 ∷ [])
-    ∷ computed
-    (wordsAt 740 (steppedTwice .memory) 0 680 2 ++ wordsAt 740 (steppedTwice .memory) 1 680 2
-    ++ wordsAt 740 (steppedTwice .memory) 1 9 3)
-    (250 ∷ 0 ∷ 250 ∷ 0 ∷ 1 ∷ 2 ∷ 5 ∷ [])
+    ∷ computed (outcomeOf steppedOnce ++ steppedOnce .memory)
+    (0 ∷ 0 ∷ store 740 (store 740 (opened .memory) 1 680 250) 1 10 1)
+    ∷ computed (outcomeOf steppedTwice ++ steppedTwice .memory)
+    (0 ∷ 0 ∷ store 740 (store 740 (steppedOnce .memory) 0 680 250) 1 10 2)
+    -- Asked for its desk, a card with a release open answers the own one, though the release counts.
+    ∷ computed (outcomeOf askedInMotion ++ askedInMotion .words) (0 ∷ 0 ∷ numbersFrom 30 8)
     -- The stores of release 5 of card 1, whose backup is card 2: each price at the secondary, then at the primary; an
     -- odd number's desk to the odd desk, the stamp, the committed words, and last the done mark.
     ∷ computed (inOrder (releaseWrites smallRack 2 1 (releaseOf 5 desk) twoPrices))
