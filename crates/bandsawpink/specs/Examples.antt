@@ -8,7 +8,6 @@ use Rattle.answer.specs.Outcome.{given, refusedAt}
 use Rattle.directory.specs.declared.Directory.{Directory}
 use Rattle.directory.specs.declared.Status.the-variants.{Awaiting}
 use Rattle.directory.specs.Directory.{formattedDirectory, markedDead, withStatus, tableFrom}
-use Rattle.protocol.specs.Result.{Result}
 use Rattle.bandsawpink.specs.Words.{directoryIn, wordsOf}
 use Rattle.bandsawpink.specs.Answers.{answered, directoryAfter}
 
