@@ -33,9 +33,7 @@ impl Sender {
 
 fn main() -> Result<(), Refusal> {
     let mut rack = Rack::format(3, 4)?;
-    let mut sender = Sender {
-        shelf: vec![0; rack.pages() as usize * PAGE_WORDS],
-    };
+    let mut sender = Sender { shelf: vec![0; rack.pages() as usize * PAGE_WORDS] };
     let desk: Desk = [1; 8];
 
     let mut working = sender.shelf.clone();
@@ -59,11 +57,7 @@ fn main() -> Result<(), Refusal> {
 
     rack.join(1)?;
     match rack.release(1, 2, &desk, &list) {
-        Err(refusal) => println!(
-            "refusal {}, place {}: {refusal}",
-            refusal.number(),
-            refusal.place()
-        ),
+        Err(refusal) => println!("refusal {}, place {}: {refusal}", refusal.number(), refusal.place()),
         Ok(_) => println!("released twice"),
     }
     sender.send_all(&rack)

@@ -66,13 +66,7 @@ const _: () = {
 };
 
 extern "C" {
-    pub fn rack_format(
-        memory: *mut u32,
-        words: usize,
-        cards: u32,
-        pages: u32,
-        directory: *mut Directory,
-    ) -> Answer;
+    pub fn rack_format(memory: *mut u32, words: usize, cards: u32, pages: u32, directory: *mut Directory) -> Answer;
     pub fn rack_open(
         memory: *mut u32,
         words: usize,
@@ -83,12 +77,7 @@ extern "C" {
         list: *const u32,
         list_words: usize,
     ) -> Answer;
-    pub fn rack_step(
-        memory: *mut u32,
-        words: usize,
-        directory: *const Directory,
-        card: u32,
-    ) -> Answer;
+    pub fn rack_step(memory: *mut u32, words: usize, directory: *const Directory, card: u32) -> Answer;
     pub fn rack_steps(
         memory: *mut u32,
         words: usize,
@@ -111,25 +100,10 @@ extern "C" {
         buffer: *mut u32,
         buffer_words: usize,
     ) -> FetchAllAnswer;
-    pub fn rack_fail(
-        memory: *const u32,
-        words: usize,
-        directory: *mut Directory,
-        card: u32,
-    ) -> Answer;
+    pub fn rack_fail(memory: *const u32, words: usize, directory: *mut Directory, card: u32) -> Answer;
     pub fn rack_recover(memory: *mut u32, words: usize, directory: *mut Directory) -> DeskAnswer;
-    pub fn rack_join(
-        memory: *mut u32,
-        words: usize,
-        directory: *mut Directory,
-        card: u32,
-    ) -> Answer;
-    pub fn rack_desk(
-        memory: *const u32,
-        words: usize,
-        directory: *const Directory,
-        card: u32,
-    ) -> DeskAnswer;
+    pub fn rack_join(memory: *mut u32, words: usize, directory: *mut Directory, card: u32) -> Answer;
+    pub fn rack_desk(memory: *const u32, words: usize, directory: *const Directory, card: u32) -> DeskAnswer;
     pub fn rack_make_list(
         working: *const u32,
         working_words: usize,

@@ -42,10 +42,7 @@ fn accepted(answer: Answer) -> Result<u64, Refusal> {
 }
 
 fn accepted_desk(answer: DeskAnswer) -> Result<Recovered, Refusal> {
-    let found = Recovered {
-        stamp: answer.value,
-        desk: answer.desk,
-    };
+    let found = Recovered { stamp: answer.value, desk: answer.desk };
     Refusal::of(answer.number, answer.value).map_or(Ok(found), Err)
 }
 
@@ -60,18 +57,10 @@ impl Rack {
         }
         let words = cards as usize * (676 + 64 * pages as usize);
         let mut memory = vec![0; words];
-        let mut directory = Directory {
-            cards: 0,
-            pages: 0,
-            awaited: RUNNING,
-            live: [0; 8],
-            primary: [0; 64],
-            secondary: [0; 64],
-        };
+        let mut directory =
+            Directory { cards: 0, pages: 0, awaited: RUNNING, live: [0; 8], primary: [0; 64], secondary: [0; 64] };
         // SAFETY: see above.
-        accepted(unsafe {
-            calls::rack_format(memory.as_mut_ptr(), words, cards, pages, &mut directory)
-        })?;
+        accepted(unsafe { calls::rack_format(memory.as_mut_ptr(), words, cards, pages, &mut directory) })?;
         Ok(Rack { memory, directory })
     }
 
@@ -99,27 +88,12 @@ impl Rack {
     }
 
     /// Opens a release on a card. Its number is the one after the card's last.
-    pub fn open(
-        &mut self,
-        card: u32,
-        number: u32,
-        desk: &Desk,
-        list: &[u32],
-    ) -> Result<(), Refusal> {
+    pub fn open(&mut self, card: u32, number: u32, desk: &Desk, list: &[u32]) -> Result<(), Refusal> {
         let words = self.memory.len();
         // SAFETY: see above.
         accepted(unsafe {
             let memory = self.memory.as_mut_ptr();
-            calls::rack_open(
-                memory,
-                words,
-                &self.directory,
-                card,
-                number,
-                desk,
-                list.as_ptr(),
-                list.len(),
-            )
+            calls::rack_open(memory, words, &self.directory, card, number, desk, list.as_ptr(), list.len())
         })
         .map(|_| ())
     }
@@ -128,10 +102,7 @@ impl Rack {
     pub fn step(&mut self, card: u32) -> Result<(), Refusal> {
         let words = self.memory.len();
         // SAFETY: see above.
-        accepted(unsafe {
-            calls::rack_step(self.memory.as_mut_ptr(), words, &self.directory, card)
-        })
-        .map(|_| ())
+        accepted(unsafe { calls::rack_step(self.memory.as_mut_ptr(), words, &self.directory, card) }).map(|_| ())
     }
 
     /// Makes so many steps of the release that is open on a card; gives the count. A refusal stops
@@ -139,28 +110,13 @@ impl Rack {
     pub fn steps(&mut self, card: u32, count: u32) -> Result<u32, Stopped> {
         let words = self.memory.len();
         // SAFETY: see above.
-        let answer = unsafe {
-            calls::rack_steps(
-                self.memory.as_mut_ptr(),
-                words,
-                &self.directory,
-                card,
-                count,
-            )
-        };
+        let answer = unsafe { calls::rack_steps(self.memory.as_mut_ptr(), words, &self.directory, card, count) };
         let made = answer.made;
-        Refusal::of(answer.number, answer.value)
-            .map_or(Ok(made), |refusal| Err(Stopped { made, refusal }))
+        Refusal::of(answer.number, answer.value).map_or(Ok(made), |refusal| Err(Stopped { made, refusal }))
     }
 
     /// Opens a release and makes its steps to the close; gives their number.
-    pub fn release(
-        &mut self,
-        card: u32,
-        number: u32,
-        desk: &Desk,
-        list: &[u32],
-    ) -> Result<u32, Refusal> {
+    pub fn release(&mut self, card: u32, number: u32, desk: &Desk, list: &[u32]) -> Result<u32, Refusal> {
         self.open(card, number, desk, list)?;
         match self.steps(card, u32::MAX) {
             Ok(made) => Ok(made),
@@ -174,17 +130,8 @@ impl Rack {
         let mut prices = [0; PAGE_WORDS];
         let (memory, words) = (self.memory.as_ptr(), self.memory.len());
         // SAFETY: see above.
-        accepted(unsafe {
-            calls::rack_fetch(
-                memory,
-                words,
-                &self.directory,
-                page,
-                prices.as_mut_ptr(),
-                PAGE_WORDS,
-            )
-        })
-        .map(|_| prices)
+        accepted(unsafe { calls::rack_fetch(memory, words, &self.directory, page, prices.as_mut_ptr(), PAGE_WORDS) })
+            .map(|_| prices)
     }
 
     /// The prices of every page; none of a page in motion, which a single fetch would refuse.
@@ -201,9 +148,7 @@ impl Rack {
             return Err(refusal);
         }
         let pages = prices.into_iter().zip(answer.shown);
-        Ok(pages
-            .map(|(page, shown)| (shown != 0).then_some(page))
-            .collect())
+        Ok(pages.map(|(page, shown)| (shown != 0).then_some(page)).collect())
     }
 
     /// A card fails: it is dead, and its recovery awaited.
@@ -217,27 +162,21 @@ impl Rack {
     pub fn recover(&mut self) -> Result<Recovered, Refusal> {
         let words = self.memory.len();
         // SAFETY: see above.
-        accepted_desk(unsafe {
-            calls::rack_recover(self.memory.as_mut_ptr(), words, &mut self.directory)
-        })
+        accepted_desk(unsafe { calls::rack_recover(self.memory.as_mut_ptr(), words, &mut self.directory) })
     }
 
     /// A dead card joins again.
     pub fn join(&mut self, card: u32) -> Result<(), Refusal> {
         let words = self.memory.len();
         // SAFETY: see above.
-        accepted(unsafe {
-            calls::rack_join(self.memory.as_mut_ptr(), words, &mut self.directory, card)
-        })
-        .map(|_| ())
+        accepted(unsafe { calls::rack_join(self.memory.as_mut_ptr(), words, &mut self.directory, card) }).map(|_| ())
     }
 
     /// The desk of a card's last release.
     pub fn desk(&self, card: u32) -> Result<Desk, Refusal> {
         let (memory, words) = (self.memory.as_ptr(), self.memory.len());
         // SAFETY: see above.
-        accepted_desk(unsafe { calls::rack_desk(memory, words, &self.directory, card) })
-            .map(|found| found.desk)
+        accepted_desk(unsafe { calls::rack_desk(memory, words, &self.directory, card) }).map(|found| found.desk)
     }
 }
 

@@ -106,27 +106,18 @@ impl fmt::Display for Refusal {
             Refusal::NoCard => write!(f, "there is no such card, or it is dead"),
             Refusal::ReleaseOpen => write!(f, "a release is open on the card"),
             Refusal::NumberUsed { stamp } => {
-                write!(
-                    f,
-                    "the release's number is used: the card's last is {stamp}"
-                )
+                write!(f, "the release's number is used: the card's last is {stamp}")
             }
             Refusal::NumberAhead => write!(f, "the release's number is not the card's next"),
             Refusal::FaultyList { word } => {
                 write!(f, "the list of changes is faulty at word {word}")
             }
             Refusal::WordInUse { card } => {
-                write!(
-                    f,
-                    "a label of the list is in the open release of card {card}"
-                )
+                write!(f, "a label of the list is in the open release of card {card}")
             }
             Refusal::NoPage => write!(f, "there is no such page"),
             Refusal::PageInMotion { card } => {
-                write!(
-                    f,
-                    "the page is in motion: the release of card {card} is being committed"
-                )
+                write!(f, "the page is in motion: the release of card {card} is being committed")
             }
             Refusal::RecoveryAwaited => write!(f, "a card has failed and awaits recovery"),
             Refusal::NoneAwaited => write!(f, "no recovery is awaited"),

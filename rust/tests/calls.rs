@@ -46,14 +46,7 @@ fn formatting() {
     assert_eq!(rack.homes(2), Some((2, 0)));
     assert_eq!(rack.homes(4), None);
     assert!(rack.is_live(2) && !rack.is_live(3));
-    for (cards, pages) in [
-        (2, 4),
-        (9, 4),
-        (3, 0),
-        (3, 65),
-        (0, 0),
-        (u32::MAX, u32::MAX),
-    ] {
+    for (cards, pages) in [(2, 4), (9, 4), (3, 0), (3, 65), (0, 0), (u32::MAX, u32::MAX)] {
         assert_eq!(Rack::format(cards, pages), Err(Refusal::Limits));
     }
     assert!(Rack::format(8, 64).is_ok());
@@ -85,23 +78,14 @@ fn several_steps_are_single_steps() {
         assert!(rack == opened(count as usize));
     }
     let mut rack = opened(0);
-    let closed = Stopped {
-        made: 19,
-        refusal: Refusal::NoneOpen,
-    };
+    let closed = Stopped { made: 19, refusal: Refusal::NoneOpen };
     assert_eq!(rack.steps(1, 20), Err(closed));
     assert!(rack == opened(19));
     assert_eq!(rack.steps(1, 0), Ok(0));
     for (card, refusal) in [(1, Refusal::NoneOpen), (3, Refusal::NoCard)] {
-        assert_eq!(
-            refused(&mut rack, |r| r.steps(card, 1).map_err(none_made)),
-            refusal
-        );
+        assert_eq!(refused(&mut rack, |r| r.steps(card, 1).map_err(none_made)), refusal);
     }
-    assert_eq!(
-        closed.to_string(),
-        "stopped after 19 steps: no release is open on the card"
-    );
+    assert_eq!(closed.to_string(), "stopped after 19 steps: no release is open on the card");
     assert_eq!(Refusal::from(closed), Refusal::NoneOpen);
 }
 
@@ -116,33 +100,15 @@ fn all_pages_are_single_pages() {
     let shown = [Some(empty), Some(page_1()), Some(empty), Some(empty)];
     assert_eq!(rack.fetch_all().unwrap(), shown);
     rack.fail(1).unwrap();
-    assert_eq!(
-        refused(&mut rack, |r| r.fetch_all()),
-        Refusal::RecoveryAwaited
-    );
+    assert_eq!(refused(&mut rack, |r| r.fetch_all()), Refusal::RecoveryAwaited);
     assert_eq!(Rack::format(8, 64).unwrap().fetch_all().unwrap().len(), 64);
 }
 
 #[test]
 fn a_card_fails_between_two_steps() {
-    for (steps, shown, found) in [
-        (
-            12,
-            [0; 32],
-            Recovered {
-                stamp: 0,
-                desk: [0; 8],
-            },
-        ),
-        (
-            13,
-            page_1(),
-            Recovered {
-                stamp: 1,
-                desk: DESK,
-            },
-        ),
-    ] {
+    for (steps, shown, found) in
+        [(12, [0; 32], Recovered { stamp: 0, desk: [0; 8] }), (13, page_1(), Recovered { stamp: 1, desk: DESK })]
+    {
         let mut rack = opened(steps);
         rack.fail(1).unwrap();
         assert_eq!((rack.awaited(), rack.is_live(1)), (Some(1), false));
@@ -160,43 +126,19 @@ fn a_card_fails_between_two_steps() {
 #[test]
 fn refusals_of_a_desk() {
     let mut rack = rack();
-    assert_eq!(
-        refused(&mut rack, |r| r.open(3, 1, &DESK, &LIST)),
-        Refusal::NoCard
-    );
-    assert_eq!(
-        refused(&mut rack, |r| r.open(1, 0, &DESK, &LIST)),
-        Refusal::NumberUsed { stamp: 0 }
-    );
-    assert_eq!(
-        refused(&mut rack, |r| r.open(1, 2, &DESK, &LIST)),
-        Refusal::NumberAhead
-    );
-    assert_eq!(
-        refused(&mut rack, |r| r.open(1, 1, &DESK, &[])),
-        Refusal::FaultyList { word: 0 }
-    );
+    assert_eq!(refused(&mut rack, |r| r.open(3, 1, &DESK, &LIST)), Refusal::NoCard);
+    assert_eq!(refused(&mut rack, |r| r.open(1, 0, &DESK, &LIST)), Refusal::NumberUsed { stamp: 0 });
+    assert_eq!(refused(&mut rack, |r| r.open(1, 2, &DESK, &LIST)), Refusal::NumberAhead);
+    assert_eq!(refused(&mut rack, |r| r.open(1, 1, &DESK, &[])), Refusal::FaultyList { word: 0 });
     let late = Refusal::FaultyList { word: 4 };
-    assert_eq!(
-        refused(&mut rack, |r| r.open(1, 1, &DESK, &LIST[..4])),
-        late
-    );
+    assert_eq!(refused(&mut rack, |r| r.open(1, 1, &DESK, &LIST[..4])), late);
     assert_eq!(refused(&mut rack, |r| r.step(1)), Refusal::NoneOpen);
     assert_eq!(refused(&mut rack, |r| r.desk(3)), Refusal::NoCard);
 
     let mut rack = opened(13);
-    assert_eq!(
-        refused(&mut rack, |r| r.open(1, 1, &DESK, &LIST)),
-        Refusal::ReleaseOpen
-    );
-    assert_eq!(
-        refused(&mut rack, |r| r.open(2, 1, &DESK, &LIST)),
-        Refusal::WordInUse { card: 1 }
-    );
-    assert_eq!(
-        refused(&mut rack, |r| r.fetch(1)),
-        Refusal::PageInMotion { card: 1 }
-    );
+    assert_eq!(refused(&mut rack, |r| r.open(1, 1, &DESK, &LIST)), Refusal::ReleaseOpen);
+    assert_eq!(refused(&mut rack, |r| r.open(2, 1, &DESK, &LIST)), Refusal::WordInUse { card: 1 });
+    assert_eq!(refused(&mut rack, |r| r.fetch(1)), Refusal::PageInMotion { card: 1 });
     assert_eq!(refused(&mut rack, |r| r.fetch(4)), Refusal::NoPage);
 }
 
@@ -216,8 +158,5 @@ fn refusals_of_the_rack() {
 fn a_refusal_has_a_number_a_place_and_a_sentence() {
     let refusal = Refusal::NumberUsed { stamp: 7 };
     assert_eq!((refusal.number(), refusal.place()), (5, 7));
-    assert_eq!(
-        refusal.to_string(),
-        "the release's number is used: the card's last is 7"
-    );
+    assert_eq!(refusal.to_string(), "the release's number is used: the card's last is 7");
 }

@@ -9,28 +9,13 @@ use crate::release::{all_steps, counting_steps};
 /// list.
 #[derive(Clone, PartialEq, Eq, Debug)]
 pub enum Call {
-    Open {
-        card: u32,
-        number: u32,
-        desk: [u32; 8],
-        list: Vec<u32>,
-    },
-    Step {
-        card: u32,
-    },
-    Fetch {
-        page: u32,
-    },
-    Fail {
-        card: u32,
-    },
+    Open { card: u32, number: u32, desk: [u32; 8], list: Vec<u32> },
+    Step { card: u32 },
+    Fetch { page: u32 },
+    Fail { card: u32 },
     Recover,
-    Join {
-        card: u32,
-    },
-    AskDesk {
-        card: u32,
-    },
+    Join { card: u32 },
+    AskDesk { card: u32 },
 }
 
 /// An open release: number, desk, list and steps.
@@ -73,11 +58,7 @@ impl Default for Book {
 impl Book {
     /// "It starts with zeros and none open."
     pub fn new() -> Book {
-        Book {
-            pages: [[0; PAGE_WORDS]; MOST_PAGES],
-            cards: Default::default(),
-            failed: 0,
-        }
+        Book { pages: [[0; PAGE_WORDS]; MOST_PAGES], cards: Default::default(), failed: 0 }
     }
 
     /// Takes a call into the book. "Fetches, joins, desk questions and refused
@@ -87,18 +68,8 @@ impl Book {
             return;
         }
         match call {
-            Call::Open {
-                card,
-                number,
-                desk,
-                list,
-            } => {
-                let open = Open {
-                    number: *number,
-                    desk: *desk,
-                    list: list.clone(),
-                    steps: 0,
-                };
+            Call::Open { card, number, desk, list } => {
+                let open = Open { number: *number, desk: *desk, list: list.clone(), steps: 0 };
                 self.set_open(*card, Some(open));
             }
             Call::Step { card } => self.step(*card),
@@ -113,10 +84,7 @@ impl Book {
 
     /// The 32 prices of a page.
     pub fn page(&self, page: u32) -> [u32; 32] {
-        self.pages
-            .get(page as usize)
-            .copied()
-            .unwrap_or([0; PAGE_WORDS])
+        self.pages.get(page as usize).copied().unwrap_or([0; PAGE_WORDS])
     }
 
     /// The last number and desk of a card.
@@ -126,9 +94,7 @@ impl Book {
     }
 
     pub fn is_open(&self, card: u32) -> bool {
-        self.cards
-            .get(card as usize)
-            .is_some_and(|card| card.open.is_some())
+        self.cards.get(card as usize).is_some_and(|card| card.open.is_some())
     }
 
     /// The card that failed last.
@@ -145,11 +111,7 @@ impl Book {
     /// "Steps grow by 1; at 2k + 9 the release is counted, at 4k + 11 struck
     /// out."
     fn step(&mut self, card: u32) {
-        let Some(open) = self
-            .cards
-            .get_mut(card as usize)
-            .and_then(|card| card.open.as_mut())
-        else {
+        let Some(open) = self.cards.get_mut(card as usize).and_then(|card| card.open.as_mut()) else {
             return;
         };
         open.steps += 1;

@@ -6,12 +6,7 @@ use crate::calls;
 use crate::directory::Directory;
 
 #[inline(never)]
-pub fn format_rack(
-    memory: &mut [u32],
-    cards: u32,
-    pages: u32,
-    directory: &mut Directory,
-) -> Answer {
+pub fn format_rack(memory: &mut [u32], cards: u32, pages: u32, directory: &mut Directory) -> Answer {
     calls::format_rack(memory, cards, pages, directory)
 }
 
@@ -33,12 +28,7 @@ pub fn make_step(memory: &mut [u32], directory: &Directory, card: u32) -> Answer
 }
 
 #[inline(never)]
-pub fn make_steps(
-    memory: &mut [u32],
-    directory: &Directory,
-    card: u32,
-    count: u32,
-) -> (Answer, u32) {
+pub fn make_steps(memory: &mut [u32], directory: &Directory, card: u32, count: u32) -> (Answer, u32) {
     calls::make_steps(memory, directory, card, count)
 }
 
@@ -48,11 +38,7 @@ pub fn fetch_page(memory: &[u32], directory: &Directory, page: u32, buffer: &mut
 }
 
 #[inline(never)]
-pub fn fetch_all(
-    memory: &[u32],
-    directory: &Directory,
-    buffer: &mut [u32],
-) -> (Answer, [bool; 64]) {
+pub fn fetch_all(memory: &[u32], directory: &Directory, buffer: &mut [u32]) -> (Answer, [bool; 64]) {
     calls::fetch_all(memory, directory, buffer)
 }
 

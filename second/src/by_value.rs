@@ -32,33 +32,19 @@ pub fn make_step(memory: &mut [u32], directory: Directory, card: u32) -> (Direct
 }
 
 #[inline(never)]
-pub fn make_steps(
-    memory: &mut [u32],
-    directory: Directory,
-    card: u32,
-    count: u32,
-) -> (Directory, Answer, u32) {
+pub fn make_steps(memory: &mut [u32], directory: Directory, card: u32, count: u32) -> (Directory, Answer, u32) {
     let (answer, made) = calls::make_steps(memory, &directory, card, count);
     (directory, answer, made)
 }
 
 #[inline(never)]
-pub fn fetch_page(
-    memory: &[u32],
-    directory: Directory,
-    page: u32,
-    buffer: &mut [u32],
-) -> (Directory, Answer) {
+pub fn fetch_page(memory: &[u32], directory: Directory, page: u32, buffer: &mut [u32]) -> (Directory, Answer) {
     let answer = calls::fetch_page(memory, &directory, page, buffer);
     (directory, answer)
 }
 
 #[inline(never)]
-pub fn fetch_all(
-    memory: &[u32],
-    directory: Directory,
-    buffer: &mut [u32],
-) -> (Directory, Answer, [bool; 64]) {
+pub fn fetch_all(memory: &[u32], directory: Directory, buffer: &mut [u32]) -> (Directory, Answer, [bool; 64]) {
     let (answer, shown) = calls::fetch_all(memory, &directory, buffer);
     (directory, answer, shown)
 }

@@ -5,9 +5,7 @@
 use crate::answer::Answer;
 use crate::checks;
 use crate::directory::{Directory, Status};
-use crate::layout::{
-    area, area_mut, committed_at, desk_at, Desk, DESK_WORDS, MOST_PAGES, OWN_DESK, PAGE_WORDS,
-};
+use crate::layout::{area, area_mut, committed_at, desk_at, Desk, DESK_WORDS, MOST_PAGES, OWN_DESK, PAGE_WORDS};
 use crate::record::Record;
 use crate::recovery;
 use crate::release;
@@ -17,12 +15,7 @@ const NO_DESK: Desk = [0; DESK_WORDS];
 
 /// Formatting: zeroes the memory and makes all cards live.
 #[inline(always)]
-pub fn format_rack(
-    memory: &mut [u32],
-    cards: u32,
-    pages: u32,
-    directory: &mut Directory,
-) -> Answer {
+pub fn format_rack(memory: &mut [u32], cards: u32, pages: u32, directory: &mut Directory) -> Answer {
     if let Err(refusal) = checks::formatting(memory, cards, pages) {
         *directory = Directory::empty();
         return refusal.into();
@@ -62,12 +55,7 @@ pub fn make_step(memory: &mut [u32], directory: &Directory, card: u32) -> Answer
 /// Single steps until the count or a refusal, and how many were made. A count
 /// of 0 makes no call.
 #[inline(always)]
-pub fn make_steps(
-    memory: &mut [u32],
-    directory: &Directory,
-    card: u32,
-    count: u32,
-) -> (Answer, u32) {
+pub fn make_steps(memory: &mut [u32], directory: &Directory, card: u32, count: u32) -> (Answer, u32) {
     for made in 0..count {
         let answer = make_step(memory, directory, card);
         if answer != NOTHING {
@@ -90,11 +78,7 @@ pub fn fetch_page(memory: &[u32], directory: &Directory, page: u32, buffer: &mut
 /// Fetches every page into one buffer and marks the pages shown. The words of a
 /// page that a single fetch refuses with 10 are kept.
 #[inline(always)]
-pub fn fetch_all(
-    memory: &[u32],
-    directory: &Directory,
-    buffer: &mut [u32],
-) -> (Answer, [bool; 64]) {
+pub fn fetch_all(memory: &[u32], directory: &Directory, buffer: &mut [u32]) -> (Answer, [bool; 64]) {
     let mut shown = [false; MOST_PAGES];
     if let Err(refusal) = checks::fetch_of_all(memory, directory, buffer) {
         return (refusal.into(), shown);

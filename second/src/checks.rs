@@ -25,13 +25,7 @@ pub fn formatting(memory: &[u32], cards: u32, pages: u32) -> Checked {
 }
 
 /// Opening a release: 1, 2, 11, 3, 4, 5, 6, 7, 8.
-pub fn opening(
-    memory: &[u32],
-    directory: &Directory,
-    card: u32,
-    number: u32,
-    list: &[u32],
-) -> Checked {
+pub fn opening(memory: &[u32], directory: &Directory, card: u32, number: u32, list: &[u32]) -> Checked {
     running(memory, directory)?;
     refuse_if(!directory.is_live(card), 3)?;
     let own = area(memory, directory.pages, card);
@@ -48,10 +42,7 @@ pub fn opening(
 pub fn step(memory: &[u32], directory: &Directory, card: u32) -> Checked {
     running(memory, directory)?;
     refuse_if(!directory.is_live(card), 3)?;
-    refuse_if(
-        Release::read(area(memory, directory.pages, card)).is_none(),
-        16,
-    )
+    refuse_if(Release::read(area(memory, directory.pages, card)).is_none(), 16)
 }
 
 /// A fetch: 1, 2, 11, 9, 10, 17.
@@ -113,9 +104,7 @@ fn rack(memory: &[u32], directory: &Directory) -> Checked {
     let sound = directory.live_cards().count() >= 2
         && awaited_is_sound(directory)
         && (0..directory.pages).all(|page| homes_are_sound(directory, page))
-        && directory
-            .live_cards()
-            .all(|card| release_is_sound(area(memory, directory.pages, card), directory.pages));
+        && directory.live_cards().all(|card| release_is_sound(area(memory, directory.pages, card), directory.pages));
     refuse_if(!sound, 2)
 }
 
@@ -143,8 +132,9 @@ fn homes_are_sound(directory: &Directory, page: u32) -> bool {
 fn release_is_sound(area: &[u32], pages: u32) -> bool {
     match area[OPEN] {
         0 => true,
-        1 => read_list(list_of(area), pages)
-            .is_ok_and(|extent| area[STEPS] < all_steps(extent.prices) + LAST_STEP_AGAIN),
+        1 => {
+            read_list(list_of(area), pages).is_ok_and(|extent| area[STEPS] < all_steps(extent.prices) + LAST_STEP_AGAIN)
+        }
         _ => false,
     }
 }
@@ -158,13 +148,10 @@ fn release_number(stamp: u32, number: u32) -> Checked {
 }
 
 /// The releases open on live cards, ascending.
-fn open_releases<'a>(
-    memory: &'a [u32],
-    directory: &'a Directory,
-) -> impl Iterator<Item = (u32, Release<'a>)> {
-    directory.live_cards().filter_map(|card| {
-        Release::read(area(memory, directory.pages, card)).map(|release| (card, release))
-    })
+fn open_releases<'a>(memory: &'a [u32], directory: &'a Directory) -> impl Iterator<Item = (u32, Release<'a>)> {
+    directory
+        .live_cards()
+        .filter_map(|card| Release::read(area(memory, directory.pages, card)).map(|release| (card, release)))
 }
 
 /// The lowest other card whose open release shares a page word with the list.

@@ -36,11 +36,7 @@ impl Directory {
 
     /// What accepted formatting gives: all cards live, page p on p mod cards.
     pub(crate) fn formatted(cards: u32, pages: u32) -> Directory {
-        let mut directory = Directory {
-            cards,
-            pages,
-            ..Directory::empty()
-        };
+        let mut directory = Directory { cards, pages, ..Directory::empty() };
         for card in 0..cards {
             directory.mark_live(card);
         }
@@ -75,8 +71,7 @@ impl Directory {
 
     /// The live cards whose backup is the given card.
     pub(crate) fn backed_by(&self, card: u32) -> impl Iterator<Item = u32> + '_ {
-        self.live_cards()
-            .filter(move |&other| self.backup(other) == card)
+        self.live_cards().filter(move |&other| self.backup(other) == card)
     }
 
     /// "A dead card's record is the one on the next live after it": that card.

@@ -24,8 +24,7 @@ mod shelfrun;
 
 pub use answer::Answer;
 pub use by_value::{
-    ask_desk, fail_card, fetch_all, fetch_page, format_rack, join_card, make_step, make_steps,
-    open_release, recover,
+    ask_desk, fail_card, fetch_all, fetch_page, format_rack, join_card, make_step, make_steps, open_release, recover,
 };
 pub use directory::{Directory, Status};
 pub use layout::memory_words;

@@ -106,12 +106,7 @@ pub fn read_list(list: &[u32], pages: u32) -> Result<Extent, usize> {
         };
         match kind(word) {
             _ if !allowed => return Err(at),
-            END => {
-                return Ok(Extent {
-                    prices: reader.prices,
-                    words: at + 1,
-                })
-            }
+            END => return Ok(Extent { prices: reader.prices, words: at + 1 }),
             RUN => at += 1 + run_count(word) as usize,
             _ => at += 1,
         }
@@ -159,13 +154,7 @@ pub struct Prices<'a> {
 }
 
 pub fn prices(list: &[u32]) -> Prices<'_> {
-    Prices {
-        list,
-        at: 0,
-        page: 0,
-        word: 0,
-        left: 0,
-    }
+    Prices { list, at: 0, page: 0, word: 0, left: 0 }
 }
 
 impl Prices<'_> {
@@ -198,11 +187,7 @@ impl Iterator for Prices<'_> {
         let word = self.word;
         self.word += 1;
         self.left -= 1;
-        Some(Price {
-            page: self.page,
-            word,
-            price,
-        })
+        Some(Price { page: self.page, word, price })
     }
 }
 
@@ -251,9 +236,7 @@ fn changes(working: &[u32], twins: &[u32]) -> Vec<u32> {
 fn add_runs(list: &mut Vec<u32>, new: &[u32], old: &[u32]) {
     let mut at = 0;
     while at < PAGE_WORDS {
-        let count = (at..PAGE_WORDS)
-            .take_while(|&word| new[word] != old[word])
-            .count();
+        let count = (at..PAGE_WORDS).take_while(|&word| new[word] != old[word]).count();
         if count > 0 {
             list.push(run_word(at as u32, count as u32));
             list.extend_from_slice(&new[at..at + count]);

@@ -21,11 +21,7 @@ pub fn done_mark_at(card: u32) -> usize {
 /// Where an area holds the desk of a card's record for a release's number:
 /// "even desk if the number is even, else odd".
 pub fn desk_of_number_at(card: u32, number: u32) -> usize {
-    let desk = if number.is_multiple_of(2) {
-        EVEN_DESK
-    } else {
-        ODD_DESK
-    };
+    let desk = if number.is_multiple_of(2) { EVEN_DESK } else { ODD_DESK };
     record_at(card) + desk
 }
 
@@ -43,21 +39,13 @@ impl Record {
         let stamp = area[stamp_at(card)];
         let done_mark = area[done_mark_at(card)];
         let desk = desk_at(area, desk_of_number_at(card, stamp));
-        Record {
-            stamp,
-            done_mark,
-            desk,
-        }
+        Record { stamp, done_mark, desk }
     }
 
     /// A live card's record, made from its own stamp and desk.
     pub fn of_live(area: &[u32]) -> Record {
         let stamp = area[OWN_STAMP];
-        Record {
-            stamp,
-            done_mark: stamp,
-            desk: desk_at(area, OWN_DESK),
-        }
+        Record { stamp, done_mark: stamp, desk: desk_at(area, OWN_DESK) }
     }
 
     /// Writes the record of a card as recovery does: "stamp, done mark equal to

@@ -2,8 +2,8 @@
 
 use crate::directory::{Directory, Status};
 use crate::layout::{
-    area, area_at, area_mut, committed_at, put_desk, record_at, tentative_at, OWN_DESK, OWN_STAMP,
-    PAGE_WORDS, RECORD_WORDS,
+    area, area_at, area_mut, committed_at, put_desk, record_at, tentative_at, OWN_DESK, OWN_STAMP, PAGE_WORDS,
+    RECORD_WORDS,
 };
 use crate::record::Record;
 use crate::release::{all_steps, step, Release};
@@ -35,9 +35,7 @@ fn close_releases(memory: &mut [u32], now: &Directory, before: &Directory, faile
 
 /// The steps an area's open release has yet to make, 0 with none open.
 fn steps_left(area: &[u32]) -> u32 {
-    Release::read(area).map_or(0, |release| {
-        all_steps(release.prices).saturating_sub(release.steps)
-    })
+    Release::read(area).map_or(0, |release| all_steps(release.prices).saturating_sub(release.steps))
 }
 
 /// "If stamp and done mark differ": the failed card's release counts and its
@@ -98,13 +96,7 @@ fn copy_page(memory: &mut [u32], directory: &Directory, page: u32) {
 
 /// The failed card's record goes on every live card, and the record of each live
 /// card whose backup it was goes on that card's new backup.
-fn write_records(
-    memory: &mut [u32],
-    before: &Directory,
-    after: &Directory,
-    failed: u32,
-    record: &Record,
-) {
+fn write_records(memory: &mut [u32], before: &Directory, after: &Directory, failed: u32, record: &Record) {
     for card in after.live_cards() {
         record.write(area_mut(memory, after.pages, card), failed);
     }

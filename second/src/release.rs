@@ -2,8 +2,8 @@
 
 use crate::directory::Directory;
 use crate::layout::{
-    area, area_mut, committed_at, desk_at, put_desk, tentative_at, Desk, DESK, DESK_WORDS, LIST,
-    LIST_WORDS, NUMBER, OPEN, OWN_DESK, OWN_STAMP, PAGES, RECORDS, STEPS,
+    area, area_mut, committed_at, desk_at, put_desk, tentative_at, Desk, DESK, DESK_WORDS, LIST, LIST_WORDS, NUMBER,
+    OPEN, OWN_DESK, OWN_STAMP, PAGES, RECORDS, STEPS,
 };
 use crate::list::prices;
 use crate::record::{desk_of_number_at, done_mark_at, stamp_at};
@@ -74,13 +74,7 @@ impl Release<'_> {
     /// parts. `None` only for a price past the list's end.
     fn next_store(&self, card: u32, homes: &Directory) -> Option<Store> {
         let backup = homes.backup(card);
-        let to_backup = |at, word| {
-            Some(Store::Word {
-                card: backup,
-                at,
-                word,
-            })
-        };
+        let to_backup = |at, word| Some(Store::Word { card: backup, at, word });
         let stamping = 2 * self.prices + DESK_WORDS as u32;
         let marking = stamping + 1 + 2 * self.prices;
         let step = self.steps;
@@ -109,11 +103,7 @@ impl Release<'_> {
             _ => homes.primary_of(price.page),
         };
         let at = copy_at(price.page) + price.word as usize;
-        Some(Store::Word {
-            card,
-            at,
-            word: price.price,
-        })
+        Some(Store::Word { card, at, word: price.price })
     }
 }
 

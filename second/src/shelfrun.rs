@@ -3,9 +3,7 @@
 use std::io::{self, BufRead, ErrorKind, Write};
 
 use crate::answer::Answer;
-use crate::by_value::{
-    fail_card, fetch_page, format_rack, join_card, make_steps, open_release, recover,
-};
+use crate::by_value::{fail_card, fetch_page, format_rack, join_card, make_steps, open_release, recover};
 use crate::directory::Directory;
 use crate::layout::{DESK_WORDS, PAGE_WORDS};
 use crate::list::one_price;
@@ -42,10 +40,7 @@ impl Line {
     /// Reads to a line feed or the input's end. "Nothing after the last line
     /// feed is no line."
     fn read(input: &mut dyn BufRead) -> io::Result<Option<Line>> {
-        let mut line = Line {
-            kept: [0; KEPT_BYTES],
-            length: 0,
-        };
+        let mut line = Line { kept: [0; KEPT_BYTES], length: 0 };
         loop {
             let bytes = match input.fill_buf() {
                 Err(error) if error.kind() == ErrorKind::Interrupted => continue,
@@ -79,27 +74,11 @@ impl Line {
 
 /// What a readable line asks for.
 enum Command {
-    Open {
-        card: u32,
-        number: u32,
-        page: u32,
-        word: u32,
-        price: u32,
-    },
-    Steps {
-        card: u32,
-        count: u32,
-    },
-    Fail {
-        card: u32,
-    },
-    Join {
-        card: u32,
-    },
-    Fetch {
-        page: u32,
-        word: u32,
-    },
+    Open { card: u32, number: u32, page: u32, word: u32, price: u32 },
+    Steps { card: u32, count: u32 },
+    Fail { card: u32 },
+    Join { card: u32 },
+    Fetch { page: u32, word: u32 },
 }
 
 impl Command {
@@ -109,13 +88,7 @@ impl Command {
         let command = match fields.next()? {
             b"B" => {
                 let [card, number, page, word, price] = read_numbers(fields)?;
-                Command::Open {
-                    card,
-                    number,
-                    page,
-                    word,
-                    price,
-                }
+                Command::Open { card, number, page, word, price }
             }
             b"S" => {
                 let [card, count] = read_numbers(fields)?;
@@ -141,18 +114,14 @@ impl Command {
     /// Not "pages above 63, words above 31".
     fn is_within_limits(&self) -> bool {
         match self {
-            Command::Open { page, word, .. } | Command::Fetch { page, word } => {
-                *page <= 63 && *word <= 31
-            }
+            Command::Open { page, word, .. } | Command::Fetch { page, word } => *page <= 63 && *word <= 31,
             _ => true,
         }
     }
 }
 
 /// The numbers of exactly so many fields.
-fn read_numbers<'a, const COUNT: usize>(
-    mut fields: impl Iterator<Item = &'a [u8]>,
-) -> Option<[u32; COUNT]> {
+fn read_numbers<'a, const COUNT: usize>(mut fields: impl Iterator<Item = &'a [u8]>) -> Option<[u32; COUNT]> {
     let mut numbers = [0; COUNT];
     for number in &mut numbers {
         *number = read_number(fields.next()?)?;
@@ -165,9 +134,7 @@ fn read_number(field: &[u8]) -> Option<u32> {
     if !(1..=10).contains(&field.len()) || !field.iter().all(u8::is_ascii_digit) {
         return None;
     }
-    let number = field
-        .iter()
-        .fold(0, |number, digit| 10 * number + u64::from(digit - b'0'));
+    let number = field.iter().fold(0, |number, digit| 10 * number + u64::from(digit - b'0'));
     u32::try_from(number).ok()
 }
 
@@ -196,13 +163,9 @@ impl Rack {
     fn run(&mut self, line: &[u8]) -> Report {
         match Command::read(line) {
             None => ('-', 18, 0),
-            Some(Command::Open {
-                card,
-                number,
-                page,
-                word,
-                price,
-            }) => report('B', self.open(card, number, &one_price(page, word, price))),
+            Some(Command::Open { card, number, page, word, price }) => {
+                report('B', self.open(card, number, &one_price(page, word, price)))
+            }
             Some(Command::Steps { card, count }) => self.steps(card, count),
             Some(Command::Fail { card }) => report('X', self.fail(card)),
             Some(Command::Join { card }) => report('J', self.join(card)),
@@ -212,8 +175,7 @@ impl Rack {
 
     fn open(&mut self, card: u32, number: u32, list: &[u32]) -> Answer {
         let desk = [0; DESK_WORDS];
-        let (directory, answer) =
-            open_release(&mut self.memory, self.directory, card, number, desk, list);
+        let (directory, answer) = open_release(&mut self.memory, self.directory, card, number, desk, list);
         self.directory = directory;
         answer
     }

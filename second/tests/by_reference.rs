@@ -14,37 +14,25 @@ fn same_call(one: &mut Rack, other: &mut Rack, random: &mut Random) {
     match random.below(10) {
         0..=2 => {
             let number = memory[one.at(card % directory.cards, 0)].wrapping_add(1);
-            let (desk, list) = (
-                random.desk(),
-                list_of(&random_changes(random, directory.pages, 40)),
-            );
+            let (desk, list) = (random.desk(), list_of(&random_changes(random, directory.pages, 40)));
             let answer = lent::open_release(memory, directory, card, number, &desk, &list);
             assert_eq!(one.open(card, number, desk, &list), answer);
         }
         3 => assert_eq!(one.step(card), lent::make_step(memory, directory, card)),
         4 => {
             let count = random.below(60);
-            assert_eq!(
-                one.steps(card, count),
-                lent::make_steps(memory, directory, card, count)
-            );
+            assert_eq!(one.steps(card, count), lent::make_steps(memory, directory, card, count));
         }
         5 => {
             let mut buffers = [[3; 32]; 2];
             let answer = one.fetch(page, &mut buffers[0]);
-            assert_eq!(
-                answer,
-                lent::fetch_page(memory, directory, page, &mut buffers[1])
-            );
+            assert_eq!(answer, lent::fetch_page(memory, directory, page, &mut buffers[1]));
             assert_eq!(buffers[0], buffers[1]);
         }
         6 => {
             let mut buffers = vec![vec![3; 32 * directory.pages as usize]; 2];
             let (_, answer, shown) = fetch_all(&one.memory, one.directory, &mut buffers[0]);
-            assert_eq!(
-                (answer, shown),
-                lent::fetch_all(memory, directory, &mut buffers[1])
-            );
+            assert_eq!((answer, shown), lent::fetch_all(memory, directory, &mut buffers[1]));
             assert_eq!(buffers[0], buffers[1]);
         }
         7 => {

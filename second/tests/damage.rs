@@ -62,11 +62,7 @@ fn damage_directory(directory: &mut Directory, random: &mut Random) {
         5 => directory.secondary[page] = random.below(9),
         6 => directory.primary[random.below(64) as usize] = odd_word(random),
         _ => {
-            let card = if random.one_in(2) {
-                random.below(9)
-            } else {
-                odd_word(random)
-            };
+            let card = if random.one_in(2) { random.below(9) } else { odd_word(random) };
             directory.status = Status::Awaiting(card);
         }
     }
@@ -76,9 +72,7 @@ fn damage_directory(directory: &mut Directory, random: &mut Random) {
 fn any_rack(random: &mut Random) -> Rack {
     let (cards, pages) = (random.within(3, 8), random.within(1, 3));
     let mut rack = Rack::new(cards, pages);
-    rack.memory
-        .iter_mut()
-        .for_each(|word| *word = odd_word(random));
+    rack.memory.iter_mut().for_each(|word| *word = odd_word(random));
     rack.directory.live = std::array::from_fn(|_| !random.one_in(4));
     rack.directory.primary = std::array::from_fn(|_| random.below(cards));
     rack.directory.secondary = std::array::from_fn(|_| random.below(cards));
@@ -91,21 +85,9 @@ fn any_rack(random: &mut Random) -> Rack {
 
 /// One call of each kind on a copy of the rack; counts the accepted ones.
 fn all_calls(rack: &Rack, random: &mut Random) -> u32 {
-    let card = if random.one_in(9) {
-        odd_word(random)
-    } else {
-        random.below(8)
-    };
-    let page = if random.one_in(9) {
-        odd_word(random)
-    } else {
-        random.below(6)
-    };
-    let words = if random.one_in(9) {
-        random.below(70)
-    } else {
-        32
-    };
+    let card = if random.one_in(9) { odd_word(random) } else { random.below(8) };
+    let page = if random.one_in(9) { odd_word(random) } else { random.below(6) };
+    let words = if random.one_in(9) { random.below(70) } else { 32 };
     let mut buffer: Vec<u32> = (0..words).map(|_| random.word()).collect();
     let lent = buffer.clone();
     let number = match rack.memory.get(rack.at(card % 8, 0)) {
@@ -133,10 +115,7 @@ fn all_calls(rack: &Rack, random: &mut Random) -> u32 {
 }
 
 fn desk_or_zeros((answer, desk): (Answer, [u32; 8])) -> Answer {
-    assert!(
-        matches!(answer, Answer::Given(_)) || desk == [0; 8],
-        "a refusal with a desk"
-    );
+    assert!(matches!(answer, Answer::Given(_)) || desk == [0; 8], "a refusal with a desk");
     answer
 }
 
@@ -145,10 +124,7 @@ fn desk_or_zeros((answer, desk): (Answer, [u32; 8])) -> Answer {
 fn held(rack: &Rack, mut call: impl FnMut(&mut Rack) -> Answer) -> u32 {
     let mut made = rack.clone();
     let answer = call(&mut made);
-    assert!(
-        matches!(answer, Answer::Given(_)) || made == *rack,
-        "{answer:?} changed something"
-    );
+    assert!(matches!(answer, Answer::Given(_)) || made == *rack, "{answer:?} changed something");
     let mut other = rack.clone();
     turn_the_rest(&mut other.directory);
     assert_eq!(call(&mut other), answer);
@@ -161,21 +137,9 @@ fn held(rack: &Rack, mut call: impl FnMut(&mut Rack) -> Answer) -> u32 {
 /// them back.
 fn turn_the_rest(directory: &mut Directory) {
     let (cards, pages) = (directory.cards as usize, directory.pages as usize);
-    directory
-        .live
-        .iter_mut()
-        .skip(cards)
-        .for_each(|mark| *mark = !*mark);
-    directory
-        .primary
-        .iter_mut()
-        .skip(pages)
-        .for_each(|home| *home = !*home);
-    directory
-        .secondary
-        .iter_mut()
-        .skip(pages)
-        .for_each(|home| *home = !*home);
+    directory.live.iter_mut().skip(cards).for_each(|mark| *mark = !*mark);
+    directory.primary.iter_mut().skip(pages).for_each(|home| *home = !*home);
+    directory.secondary.iter_mut().skip(pages).for_each(|home| *home = !*home);
 }
 
 /// The batched calls equal single ones, one after the other.
@@ -242,11 +206,7 @@ fn calls_after_calls_on_damaged_racks() {
     let mut random = Random::new(12);
     let mut recovered = 0;
     for _ in 0..4_000 {
-        let mut rack = if random.one_in(2) {
-            any_rack(&mut random)
-        } else {
-            reached_rack(&mut random)
-        };
+        let mut rack = if random.one_in(2) { any_rack(&mut random) } else { reached_rack(&mut random) };
         for _ in 0..12 {
             let card = random.below(8);
             rack.fail(card);
@@ -287,20 +247,10 @@ fn formatting_on_anything() {
 
 fn formatted(directory: &Directory, cards: u32, pages: u32) {
     assert_eq!((directory.cards, directory.pages), (cards, pages));
-    assert_eq!(
-        directory.live,
-        std::array::from_fn(|card| card < cards as usize)
-    );
+    assert_eq!(directory.live, std::array::from_fn(|card| card < cards as usize));
     for page in 0..64 {
-        let homes = (
-            directory.primary[page as usize],
-            directory.secondary[page as usize],
-        );
-        let expected = if page < pages {
-            (page % cards, (page + 1) % cards)
-        } else {
-            (0, 0)
-        };
+        let homes = (directory.primary[page as usize], directory.secondary[page as usize]);
+        let expected = if page < pages { (page % cards, (page + 1) % cards) } else { (0, 0) };
         assert_eq!(homes, expected);
     }
 }

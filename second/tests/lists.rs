@@ -95,14 +95,8 @@ fn at_most_512_words() {
     // No end word in 512, a word after it, and more than that.
     list.push(P | 16);
     assert_eq!(check_list(&list, 64), refused_at(7, 512));
-    assert_eq!(
-        check_list(&[&whole[..], &[0]].concat(), 64),
-        refused_at(7, 512)
-    );
-    assert_eq!(
-        check_list(&[&whole[..], &[0; 100]].concat(), 64),
-        refused_at(7, 512)
-    );
+    assert_eq!(check_list(&[&whole[..], &[0]].concat(), 64), refused_at(7, 512));
+    assert_eq!(check_list(&[&whole[..], &[0; 100]].concat(), 64), refused_at(7, 512));
     assert_eq!(check_list(&ended(full_pages(15)), 64), Answer::Given(480));
     assert_eq!(check_list(&ended(full_pages(16)), 64), refused_at(7, 512));
     // A fault before comes first, one after does not count.
@@ -129,11 +123,7 @@ fn slow_place(list: &[u32], pages: u32) -> Option<usize> {
             return (at + 1 < list.len()).then_some(at + 1);
         }
         marks.push(at);
-        at += 1 + if list[at] >> 28 == 2 {
-            (list[at] & 0xFFFF) as usize
-        } else {
-            0
-        };
+        at += 1 + if list[at] >> 28 == 2 { (list[at] & 0xFFFF) as usize } else { 0 };
     }
     Some(list_end)
 }
@@ -143,18 +133,13 @@ fn breaks_rule(word: u32, at: usize, before: &[u32], pages: u32) -> bool {
     let after_page = last_page.is_some_and(|page| page + 1 == before.len());
     match word >> 28 {
         1 => {
-            let lower = before
-                .iter()
-                .filter(|mark| *mark >> 28 == 1)
-                .any(|mark| *mark >= word);
+            let lower = before.iter().filter(|mark| *mark >> 28 == 1).any(|mark| *mark >= word);
             after_page || lower || word - P >= pages
         }
         2 => {
             let Some(page) = last_page else { return true };
             let (offset, count) = ((word - R) >> 16, word & 0xFFFF);
-            let near = before[page + 1..]
-                .iter()
-                .any(|run| offset <= ((run - R) >> 16) + (run & 0xFFFF));
+            let near = before[page + 1..].iter().any(|run| offset <= ((run - R) >> 16) + (run & 0xFFFF));
             near || count == 0 || !(0..=32).contains(&(offset + count))
         }
         15 => after_page || (word - E) as usize != at,
@@ -222,10 +207,7 @@ fn the_made_list_turns_twins_into_working_pages() {
         assert_eq!(answer, Answer::Given(list.len() as u64));
         assert_eq!(buffer[..list.len()], list);
         assert!(buffer[list.len()..].iter().all(|word| *word == 77));
-        assert_eq!(
-            check_list(&list, pages),
-            Answer::Given(changes.len() as u64)
-        );
+        assert_eq!(check_list(&list, pages), Answer::Given(changes.len() as u64));
     }
     assert!((100..3_900).contains(&too_long), "{too_long}");
 }
@@ -238,14 +220,8 @@ fn refusals_of_the_list_maker() {
     assert_eq!(make_list(&[], &[], &mut buffer), refused(1));
     assert_eq!(make_list(&[1; 31], &[1; 31], &mut buffer), refused(1));
     assert_eq!(make_list(&[1; 33], &[1; 33], &mut buffer), refused(1));
-    assert_eq!(
-        make_list(&[1; 65 * 32], &[1; 65 * 32], &mut buffer),
-        refused(1)
-    );
-    assert_eq!(
-        make_list(&[1; 64 * 32], &[1; 64 * 32], &mut buffer),
-        Answer::Given(1)
-    );
+    assert_eq!(make_list(&[1; 65 * 32], &[1; 65 * 32], &mut buffer), refused(1));
+    assert_eq!(make_list(&[1; 64 * 32], &[1; 64 * 32], &mut buffer), Answer::Given(1));
     assert_eq!(buffer, [E, 7, 7, 7]);
     let mut changed = page;
     changed[0] = 2;

@@ -5,13 +5,7 @@ mod common;
 use common::{refused, refused_at, Rack, OK};
 use second::*;
 
-const TWO_PRICES: [u32; 5] = [
-    0x1000_0001,
-    0x2002_0002,
-    0x0000_00FA,
-    0x0000_00C7,
-    0xF000_0004,
-];
+const TWO_PRICES: [u32; 5] = [0x1000_0001, 0x2002_0002, 0x0000_00FA, 0x0000_00C7, 0xF000_0004];
 const NO_DESK: [u32; 8] = [0; 8];
 
 #[test]
@@ -123,14 +117,8 @@ fn death_after_13_steps_leaves_250_and_199() {
 
 #[test]
 fn a_run_ends_with_its_page() {
-    assert_eq!(
-        check_list(&[0x1000_0001, 0x201F_0001, 5, 0xF000_0003], 4),
-        Answer::Given(1)
-    );
-    assert_eq!(
-        check_list(&[0x1000_0001, 0x201F_0002, 5, 6, 0xF000_0004], 4),
-        refused_at(7, 1)
-    );
+    assert_eq!(check_list(&[0x1000_0001, 0x201F_0001, 5, 0xF000_0003], 4), Answer::Given(1));
+    assert_eq!(check_list(&[0x1000_0001, 0x201F_0002, 5, 6, 0xF000_0004], 4), refused_at(7, 1));
     assert_eq!(check_list(&[], 4), refused_at(7, 0));
 }
 
@@ -149,10 +137,7 @@ fn number_0_is_too_low_at_each_stamp() {
     let mut rack = Rack::new(3, 4);
     for stamp in [0, 1, 2, 1 << 31, u32::MAX - 1, u32::MAX] {
         rack.set(1, 0, stamp);
-        assert_eq!(
-            rack.open(1, 0, NO_DESK, &TWO_PRICES),
-            refused_at(5, stamp.into())
-        );
+        assert_eq!(rack.open(1, 0, NO_DESK, &TWO_PRICES), refused_at(5, stamp.into()));
     }
 }
 

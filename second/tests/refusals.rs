@@ -44,12 +44,8 @@ fn refusal_1() {
 
 #[test]
 fn refusal_2() {
-    all_refuse(2, |rack| {
-        rack.directory.live = [false, false, true, false, true, true, true, true]
-    });
-    all_refuse(2, |rack| {
-        rack.directory.secondary[2] = rack.directory.primary[2]
-    });
+    all_refuse(2, |rack| rack.directory.live = [false, false, true, false, true, true, true, true]);
+    all_refuse(2, |rack| rack.directory.secondary[2] = rack.directory.primary[2]);
     all_refuse(2, |rack| rack.directory.primary[1] = 4);
     all_refuse(2, |rack| rack.directory.secondary[1] = u32::MAX);
     all_refuse(2, |rack| rack.directory.live[2] = false);
@@ -86,9 +82,7 @@ fn refusal_2() {
 fn open_on_3(rack: &mut Rack, list: &[u32], steps: u32) {
     rack.set(3, 9, 1);
     rack.set(3, 10, steps);
-    list.iter()
-        .enumerate()
-        .for_each(|(word, value)| rack.set(3, 164 + word, *value));
+    list.iter().enumerate().for_each(|(word, value)| rack.set(3, 164 + word, *value));
 }
 
 #[test]
@@ -156,32 +150,13 @@ fn refusals_of_an_opening_in_order() {
         assert_eq!(rack.open(1, number, NO_DESK, &[]), refused(6));
     }
     assert_eq!(rack.open(1, 7, NO_DESK, &[]), refused_at(7, 0));
-    assert_eq!(
-        rack.open(1, 7, NO_DESK, &list_of(&[(0, 3, 5), (2, 4, 6)])),
-        refused_at(7, 3)
-    );
-    assert_eq!(
-        rack.open(1, 7, NO_DESK, &list_of(&[(1, 4, 9)])),
-        refused_at(8, 2)
-    );
+    assert_eq!(rack.open(1, 7, NO_DESK, &list_of(&[(0, 3, 5), (2, 4, 6)])), refused_at(7, 3));
+    assert_eq!(rack.open(1, 7, NO_DESK, &list_of(&[(1, 4, 9)])), refused_at(8, 2));
     // A word next to it, the same word of another page, and the same price.
-    assert_eq!(
-        rack.clone()
-            .open(1, 7, NO_DESK, &list_of(&[(1, 3, 5), (1, 5, 6)])),
-        OK
-    );
-    assert_eq!(
-        rack.open(3, 1, NO_DESK, &list_of(&[(0, 4, 5), (1, 3, 6)])),
-        OK
-    );
-    assert_eq!(
-        rack.open(1, 7, NO_DESK, &list_of(&[(0, 4, 1)])),
-        refused_at(8, 3)
-    );
-    assert_eq!(
-        rack.open(1, 7, NO_DESK, &list_of(&[(0, 3, 1), (0, 4, 1)])),
-        refused_at(8, 2)
-    );
+    assert_eq!(rack.clone().open(1, 7, NO_DESK, &list_of(&[(1, 3, 5), (1, 5, 6)])), OK);
+    assert_eq!(rack.open(3, 1, NO_DESK, &list_of(&[(0, 4, 5), (1, 3, 6)])), OK);
+    assert_eq!(rack.open(1, 7, NO_DESK, &list_of(&[(0, 4, 1)])), refused_at(8, 3));
+    assert_eq!(rack.open(1, 7, NO_DESK, &list_of(&[(0, 3, 1), (0, 4, 1)])), refused_at(8, 2));
 }
 
 #[test]
@@ -243,10 +218,7 @@ fn a_fetch_of_all_pages() {
     for length in [0, 63, 65, 96] {
         let mut buffer = vec![9; length];
         let (directory, answer, shown) = fetch_all(&rack.memory, rack.directory, &mut buffer);
-        assert_eq!(
-            (directory, answer, shown),
-            (rack.directory, refused(17), [false; 64])
-        );
+        assert_eq!((directory, answer, shown), (rack.directory, refused(17), [false; 64]));
         assert_eq!(buffer, vec![9; length]);
     }
     let mut buffer = [9; 64];

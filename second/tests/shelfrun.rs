@@ -36,19 +36,13 @@ fn the_transcript() {
 
 #[test]
 fn the_program_itself() {
-    let mut program = Command::new(env!("CARGO_BIN_EXE_shelfrun"))
-        .stdin(Stdio::piped())
-        .stdout(Stdio::piped())
-        .spawn()
-        .unwrap();
+    let mut program =
+        Command::new(env!("CARGO_BIN_EXE_shelfrun")).stdin(Stdio::piped()).stdout(Stdio::piped()).spawn().unwrap();
     let input = b"B 1 1 1 2 250\n\0\nS 1 99\nF 1 2";
     program.stdin.take().unwrap().write_all(input).unwrap();
     let output = program.wait_with_output().unwrap();
     assert!(output.status.success());
-    assert_eq!(
-        output.stdout,
-        b"rack 3 4\n1 B 0 0\n2 - 18 0\n3 S 16 15\n4 F 0 250\n"
-    );
+    assert_eq!(output.stdout, b"rack 3 4\n1 B 0 0\n2 - 18 0\n3 S 16 15\n4 F 0 250\n");
 }
 
 #[test]
@@ -128,10 +122,7 @@ fn readable_lines_at_the_edges() {
         (b"B 0 2 0 0 1", "B 6 0"),
         (b"B 0 1 4 0 1", "B 7 0"),
         (b"B 0 1 63 31 1", "B 7 0"),
-        (
-            b"B 0000000002 0000000001 0000000003 0000000031 4294967295",
-            "B 0 0",
-        ),
+        (b"B 0000000002 0000000001 0000000003 0000000031 4294967295", "B 0 0"),
     ];
     for (line, printed) in rows {
         assert_eq!(lines(line), [printed], "{}", String::from_utf8_lossy(line));

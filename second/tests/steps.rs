@@ -16,19 +16,12 @@ fn stores(
     changes: &[Change],
 ) -> Vec<(u32, usize, u32)> {
     let record = 20 + 18 * card as usize;
-    let desk_words = if number.is_multiple_of(2) {
-        record + 2
-    } else {
-        record + 10
-    };
+    let desk_words = if number.is_multiple_of(2) { record + 2 } else { record + 10 };
     let to_homes = |copy: usize| {
         changes.iter().flat_map(move |&(page, word, price)| {
             let at = 676 + 64 * page as usize + copy + word as usize;
             let page = page as usize;
-            [
-                (directory.secondary[page], at, price),
-                (directory.primary[page], at, price),
-            ]
+            [(directory.secondary[page], at, price), (directory.primary[page], at, price)]
         })
     };
     let mut stores: Vec<_> = to_homes(0).collect();
@@ -42,10 +35,7 @@ fn stores(
 /// The first live card above, round the end, found another way.
 fn backup_of(directory: &Directory, card: u32) -> u32 {
     let live = |card: &u32| directory.live[*card as usize];
-    (card + 1..directory.cards)
-        .find(live)
-        .or((0..card).find(live))
-        .unwrap()
+    (card + 1..directory.cards).find(live).or((0..card).find(live)).unwrap()
 }
 
 /// Fails, recovers and joins cards so that homes and backups are mixed.
@@ -85,13 +75,7 @@ fn every_step_makes_its_one_store() {
     }
 }
 
-fn release_word_by_word(
-    rack: &mut Rack,
-    card: u32,
-    number: u32,
-    desk: [u32; 8],
-    changes: &[Change],
-) {
+fn release_word_by_word(rack: &mut Rack, card: u32, number: u32, desk: [u32; 8], changes: &[Change]) {
     let list = list_of(changes);
     let mut expected = rack.clone();
     assert_eq!(rack.open(card, number, desk, &list), OK);
@@ -128,10 +112,7 @@ fn release_word_by_word(
 fn two_releases() -> Rack {
     let mut rack = Rack::new(4, 4);
     assert_eq!(rack.open(0, 1, [40; 8], &list_of(&[(0, 5, 77)])), OK);
-    assert_eq!(
-        rack.open(1, 1, [41; 8], &list_of(&[(1, 2, 250), (1, 3, 199)])),
-        OK
-    );
+    assert_eq!(rack.open(1, 1, [41; 8], &list_of(&[(1, 2, 250), (1, 3, 199)])), OK);
     assert_eq!(rack.steps(0, 3), (OK, 3));
     assert_eq!(rack.steps(1, 13), (OK, 13));
     assert_eq!(rack.fail(1), OK);
@@ -201,10 +182,7 @@ fn every_word_of_a_join() {
     assert_eq!(rack.directory, expected.directory);
     let differing = (0..rack.memory.len()).find(|&at| rack.memory[at] != expected.memory[at]);
     assert_eq!(differing, None);
-    assert_eq!(
-        rack.ask(3),
-        (OK, std::array::from_fn(|word| 902 + word as u32))
-    );
+    assert_eq!(rack.ask(3), (OK, std::array::from_fn(|word| 902 + word as u32)));
 }
 
 #[test]
@@ -217,9 +195,7 @@ fn an_even_stamp_keeps_the_even_desk() {
     assert_eq!(rack.fail(2), OK);
     assert_eq!(rack.recover(), (Answer::Given(2), [32; 8]));
     for card in [0, 1] {
-        let record: Vec<u32> = (0..18)
-            .map(|word| rack.word(card, 20 + 18 * 2 + word))
-            .collect();
+        let record: Vec<u32> = (0..18).map(|word| rack.word(card, 20 + 18 * 2 + word)).collect();
         assert_eq!(record, [[2, 2].as_slice(), &[32; 8], &[0; 8]].concat());
     }
     assert_eq!(rack.ask(2), (OK, [32; 8]));
@@ -251,10 +227,7 @@ fn a_fetch_shows_the_committed_copy_at_the_primary() {
     assert_eq!(rack.page(2)[6], 21);
     let mut buffer = [0; 128];
     assert_eq!(fetch_all(&rack.memory, rack.directory, &mut buffer).1, OK);
-    assert_eq!(
-        [0, 1, 2, 3].map(|page| buffer[32 * page + 6]),
-        [1, 1011, 21, 3031]
-    );
+    assert_eq!([0, 1, 2, 3].map(|page| buffer[32 * page + 6]), [1, 1011, 21, 3031]);
 }
 
 #[test]

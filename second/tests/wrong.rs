@@ -13,9 +13,7 @@ use second::book::Call;
 fn random_calls_part_from_the_book() {
     let caught = (0..240).filter(|&seed| {
         let (cards, pages) = (3 + seed as u32 % 6, 1 + seed as u32 / 6 % 5);
-        Play::new(seed, cards, pages)
-            .run(1_500)
-            .is_err_and(|error| error.contains(", book "))
+        Play::new(seed, cards, pages).run(1_500).is_err_and(|error| error.contains(", book "))
     });
     let caught = caught.count();
     println!("caught in {caught} of 240 plays");
@@ -29,13 +27,7 @@ fn half_a_release_is_caught() {
     let mut play = Play::new(9, 3, 4);
     for (number, steps) in [(1, 19), (2, 2)] {
         let list = list_of(&[(1, 2, 200 + number), (1, 3, 300 + number)]);
-        play.call(&Call::Open {
-            card: 1,
-            number,
-            desk: [number; 8],
-            list,
-        })
-        .unwrap();
+        play.call(&Call::Open { card: 1, number, desk: [number; 8], list }).unwrap();
         (0..steps).for_each(|_| play.call(&Call::Step { card: 1 }).unwrap());
     }
     play.call(&Call::Fail { card: 1 }).unwrap();

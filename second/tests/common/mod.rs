@@ -81,8 +81,7 @@ impl Rack {
     }
 
     pub fn open(&mut self, card: u32, number: u32, desk: [u32; 8], list: &[u32]) -> Answer {
-        let (directory, answer) =
-            open_release(&mut self.memory, self.directory, card, number, desk, list);
+        let (directory, answer) = open_release(&mut self.memory, self.directory, card, number, desk, list);
         self.directory = directory;
         answer
     }
@@ -140,9 +139,7 @@ impl Rack {
     pub fn scramble(&mut self, card: u32, random: &mut Random) {
         let (start, end) = (self.at(card, 0), self.at(card + 1, 0));
         match random.below(3) {
-            0 => self.memory[start..end]
-                .iter_mut()
-                .for_each(|word| *word = odd_word(random)),
+            0 => self.memory[start..end].iter_mut().for_each(|word| *word = odd_word(random)),
             1 => self.memory[start..end].fill(random.word()),
             _ => {
                 let other = random.below(self.directory.cards);

@@ -70,8 +70,7 @@ impl Play {
     pub fn run(&mut self, calls: u32) -> Outcome {
         for number in 0..calls {
             let call = self.choose();
-            self.call(&call)
-                .map_err(|error| format!("call {number}, {call:?}: {error}"))?;
+            self.call(&call).map_err(|error| format!("call {number}, {call:?}: {error}"))?;
         }
         Ok(())
     }
@@ -80,21 +79,13 @@ impl Play {
     /// book.
     pub fn call(&mut self, call: &Call) -> Outcome {
         self.scramble_dead();
-        let buffer_words = if self.random.one_in(40) {
-            self.random.below(40)
-        } else {
-            32
-        };
+        let buffer_words = if self.random.one_in(40) { self.random.below(40) } else { 32 };
         let expected = self.expected(call, buffer_words as usize);
         let before = self.rack.clone();
         let (answer, beside) = self.make(call, buffer_words as usize);
         let accepted = matches!(answer, Answer::Given(_));
-        hold(answer == expected, || {
-            format!("{answer:?}, expected {expected:?}")
-        })?;
-        hold(accepted || self.rack == before, || {
-            "the refusal changed something".into()
-        })?;
+        hold(answer == expected, || format!("{answer:?}, expected {expected:?}"))?;
+        hold(accepted || self.rack == before, || "the refusal changed something".into())?;
         self.count(call, answer);
         self.book.feed(call, accepted);
         self.note(call, accepted);
@@ -110,23 +101,13 @@ impl Play {
         let mut buffer = vec![3; 32 * pages as usize];
         let (_, answer, shown) = fetch_all(&self.rack.memory, self.rack.directory, &mut buffer);
         if self.awaited.is_some() {
-            return hold(answer == Answer::Refused(11, 0), || {
-                "shown while awaiting".into()
-            });
+            return hold(answer == Answer::Refused(11, 0), || "shown while awaiting".into());
         }
         for (page, words) in (0..pages).zip(buffer.chunks(32)) {
             let hidden = self.counting_card(page).is_some();
-            hold(shown[page as usize] != hidden, || {
-                format!("page {page}: wrong mark")
-            })?;
-            let expected = if hidden {
-                [3; 32]
-            } else {
-                self.book.page(page)
-            };
-            hold(words == expected, || {
-                format!("page {page}: {words:?}, book {expected:?}")
-            })?;
+            hold(shown[page as usize] != hidden, || format!("page {page}: wrong mark"))?;
+            let expected = if hidden { [3; 32] } else { self.book.page(page) };
+            hold(words == expected, || format!("page {page}: {words:?}, book {expected:?}"))?;
         }
         Ok(())
     }
@@ -137,17 +118,13 @@ impl Play {
             Call::Fetch { page } => self.book.page(*page).into(),
             Call::Recover => {
                 let (number, desk) = self.book.last(self.book.failed());
-                hold(answer == Answer::Given(number.into()), || {
-                    format!("book {number}")
-                })?;
+                hold(answer == Answer::Given(number.into()), || format!("book {number}"))?;
                 desk.into()
             }
             Call::AskDesk { card } if !self.book.is_open(*card) => self.book.last(*card).1.into(),
             _ => return Ok(()),
         };
-        hold(beside == expected, || {
-            format!("{beside:?}, book {expected:?}")
-        })
+        hold(beside == expected, || format!("{beside:?}, book {expected:?}"))
     }
 
     /// The answer document 01 asks for, from what the test knows.
@@ -165,13 +142,9 @@ impl Play {
             return refused(11);
         }
         match call {
-            Call::Open { card, .. } | Call::Step { card } | Call::Fail { card } if !live(*card) => {
-                refused(3)
-            }
+            Call::Open { card, .. } | Call::Step { card } | Call::Fail { card } if !live(*card) => refused(3),
             Call::Join { card } | Call::AskDesk { card } if !known(*card) => refused(3),
-            Call::Open {
-                card, number, list, ..
-            } => self.expected_opening(*card, *number, list),
+            Call::Open { card, number, list, .. } => self.expected_opening(*card, *number, list),
             Call::Step { card } if self.open[*card as usize].is_none() => refused(16),
             Call::Fetch { page } => self.expected_fetch(*page, buffer_words),
             Call::Fail { .. } if self.live.iter().filter(|live| **live).count() == 2 => refused(13),
@@ -202,16 +175,8 @@ impl Play {
             return refused;
         }
         let mine = changes_of(list);
-        let shares = |open: &Open| {
-            open.changes
-                .iter()
-                .any(|a| mine.iter().any(|b| (a.0, a.1) == (b.0, b.1)))
-        };
-        match self
-            .open
-            .iter()
-            .position(|open| open.as_ref().is_some_and(shares))
-        {
+        let shares = |open: &Open| open.changes.iter().any(|a| mine.iter().any(|b| (a.0, a.1) == (b.0, b.1)));
+        match self.open.iter().position(|open| open.as_ref().is_some_and(shares)) {
             Some(other) => Answer::Refused(8, other as u64),
             None => Answer::Given(0),
         }
@@ -230,30 +195,20 @@ impl Play {
 
     fn counting_card(&self, page: u32) -> Option<usize> {
         let hides = |open: &Open| open.counts() && open.changes.iter().any(|a| a.0 == page);
-        self.open
-            .iter()
-            .position(|open| open.as_ref().is_some_and(hides))
+        self.open.iter().position(|open| open.as_ref().is_some_and(hides))
     }
 
     /// Makes the call.
     fn make(&mut self, call: &Call, buffer_words: usize) -> Answered {
         let rack = &mut self.rack;
         match call {
-            Call::Open {
-                card,
-                number,
-                desk,
-                list,
-            } => (rack.open(*card, *number, *desk, list), vec![]),
+            Call::Open { card, number, desk, list } => (rack.open(*card, *number, *desk, list), vec![]),
             Call::Step { card } => (rack.step(*card), vec![]),
             Call::Fetch { page } => {
                 let mut buffer = vec![9; buffer_words];
                 let answer = rack.fetch(*page, &mut buffer);
                 if let Answer::Refused(..) = answer {
-                    assert!(
-                        buffer.iter().all(|word| *word == 9),
-                        "a refused fetch wrote"
-                    );
+                    assert!(buffer.iter().all(|word| *word == 9), "a refused fetch wrote");
                 }
                 (answer, buffer)
             }
@@ -275,10 +230,7 @@ impl Play {
         match call {
             _ if !accepted => {}
             Call::Open { card, list, .. } => {
-                let open = Open {
-                    changes: changes_of(list),
-                    steps: 0,
-                };
+                let open = Open { changes: changes_of(list), steps: 0 };
                 self.open[*card as usize] = Some(open);
             }
             Call::Step { card } => self.note_step(*card as usize),
@@ -341,20 +293,12 @@ impl Play {
                 let idle = self.card_from(any, |live, open| live && !open);
                 self.choose_opening(idle)
             }
-            10..=81 => Call::Step {
-                card: self.card_from(any, |_, open| open),
-            },
-            82..=86 => Call::Fetch {
-                page: self.random.below(self.rack.directory.pages + 1),
-            },
+            10..=81 => Call::Step { card: self.card_from(any, |_, open| open) },
+            82..=86 => Call::Fetch { page: self.random.below(self.rack.directory.pages + 1) },
             87..=90 => Call::AskDesk { card: any },
-            91..=94 => Call::Fail {
-                card: self.card_from(any, |live, _| live),
-            },
+            91..=94 => Call::Fail { card: self.card_from(any, |live, _| live) },
             95 => Call::Recover,
-            _ => Call::Join {
-                card: self.card_from(any, |live, _| !live),
-            },
+            _ => Call::Join { card: self.card_from(any, |live, _| !live) },
         }
     }
 
@@ -362,12 +306,8 @@ impl Play {
     /// nearer, or a join.
     fn choose_towards_join(&mut self, any: u32) -> Call {
         match self.open.iter().any(Option::is_some) {
-            true => Call::Step {
-                card: self.card_from(any, |_, open| open),
-            },
-            false => Call::Join {
-                card: self.card_from(any, |live, _| !live),
-            },
+            true => Call::Step { card: self.card_from(any, |_, open| open) },
+            false => Call::Join { card: self.card_from(any, |live, _| !live) },
         }
     }
 
@@ -386,10 +326,7 @@ impl Play {
             return card;
         }
         let is_such = |card: usize| such(self.live[card], self.open[card].is_some());
-        (card..cards)
-            .chain(0..card)
-            .find(|card| is_such(*card as usize))
-            .unwrap_or(card)
+        (card..cards).chain(0..card).find(|card| is_such(*card as usize)).unwrap_or(card)
     }
 
     fn choose_opening(&mut self, card: u32) -> Call {
@@ -407,12 +344,7 @@ impl Play {
             2 => odd_word(random),
             _ => last.wrapping_add(1),
         };
-        Call::Open {
-            card,
-            number,
-            desk: random.desk(),
-            list,
-        }
+        Call::Open { card, number, desk: random.desk(), list }
     }
 }
 
