@@ -2,7 +2,7 @@
 //! call that is refused, but for `check`, ends the program.
 
 use crate::racks::Rack;
-use compare_calls::raw::*;
+use bandsawpink_sys as sys;
 use second::{by_reference, Answer, Directory};
 use std::hint::black_box;
 
@@ -38,57 +38,57 @@ fn refused(answer: Answer) {
 /// The proved library, through its C interface.
 pub struct Proved(pub Rack);
 
-// SAFETY of each call: pointers and lengths of slices that live through the call and do not overlap.
+// SAFETY of each call: a directory, and pointers and lengths of slices, that live through the call and do not overlap.
 impl Calls for Proved {
     fn rack(&mut self) -> &mut Rack {
         &mut self.0
     }
 
     fn open(&mut self, list: &[u32]) {
-        let Rack { memory, words, .. } = &mut self.0;
+        let Rack { memory, proved, .. } = &mut self.0;
         let (at, len, desk) = (memory.as_mut_ptr(), memory.len(), [0; 8]);
-        accepted(unsafe { rack_open(at, len, words.as_ptr(), 0, 1, desk.as_ptr(), list.as_ptr(), list.len()).number });
+        accepted(unsafe { sys::rack_open(at, len, proved, 0, 1, &desk, list.as_ptr(), list.len()).number });
     }
 
     fn step(&mut self) {
-        let Rack { memory, words, .. } = &mut self.0;
-        accepted(unsafe { rack_step(memory.as_mut_ptr(), memory.len(), words.as_ptr(), 0).number });
+        let Rack { memory, proved, .. } = &mut self.0;
+        accepted(unsafe { sys::rack_step(memory.as_mut_ptr(), memory.len(), proved, 0).number });
     }
 
     fn steps(&mut self, count: u32) {
-        let Rack { memory, words, .. } = &mut self.0;
-        accepted(unsafe { rack_steps(memory.as_mut_ptr(), memory.len(), words.as_ptr(), 0, count).number });
+        let Rack { memory, proved, .. } = &mut self.0;
+        accepted(unsafe { sys::rack_steps(memory.as_mut_ptr(), memory.len(), proved, 0, count).number });
     }
 
     fn fetch(&mut self, page: u32, buffer: &mut [u32]) {
-        let Rack { memory, words, .. } = &self.0;
+        let Rack { memory, proved, .. } = &self.0;
         let (at, len) = (memory.as_ptr(), memory.len());
-        accepted(unsafe { rack_fetch(at, len, words.as_ptr(), page, buffer.as_mut_ptr(), buffer.len()).number });
+        accepted(unsafe { sys::rack_fetch(at, len, proved, page, buffer.as_mut_ptr(), buffer.len()).number });
     }
 
     fn fetch_all(&mut self, buffer: &mut [u32]) {
-        let Rack { memory, words, .. } = &self.0;
+        let Rack { memory, proved, .. } = &self.0;
         let (at, len) = (memory.as_ptr(), memory.len());
-        accepted(unsafe { rack_fetch_all(at, len, words.as_ptr(), buffer.as_mut_ptr(), buffer.len()).number });
+        accepted(unsafe { sys::rack_fetch_all(at, len, proved, buffer.as_mut_ptr(), buffer.len()).number });
     }
 
     fn check(&mut self, buffer: &mut [u32]) {
-        let Rack { memory, words, directory } = &self.0;
+        let Rack { memory, proved, directory } = &self.0;
         let (at, len, page) = (memory.as_ptr(), memory.len(), directory.pages);
-        let answer = unsafe { rack_fetch(at, len, words.as_ptr(), page, buffer.as_mut_ptr(), buffer.len()) };
+        let answer = unsafe { sys::rack_fetch(at, len, proved, page, buffer.as_mut_ptr(), buffer.len()) };
         refused(Answer::Refused(answer.number, answer.value));
     }
 
     fn fail_and_recover(&mut self, card: u32) {
-        let Rack { memory, words, .. } = &mut self.0;
-        let (at, len, mut words) = (memory.as_mut_ptr(), memory.len(), *words);
-        accepted(unsafe { rack_fail(at, len, words.as_mut_ptr(), card).number });
-        accepted(unsafe { rack_recover(at, len, words.as_mut_ptr()).number });
+        let Rack { memory, proved, .. } = &mut self.0;
+        let (at, len, mut proved) = (memory.as_mut_ptr(), memory.len(), proved.clone());
+        accepted(unsafe { sys::rack_fail(at, len, &mut proved, card).number });
+        accepted(unsafe { sys::rack_recover(at, len, &mut proved).number });
     }
 
     fn format(&mut self, cards: u32, pages: u32) {
-        let Rack { memory, words, .. } = &mut self.0;
-        accepted(unsafe { rack_format(memory.as_mut_ptr(), memory.len(), cards, pages, words.as_mut_ptr()).number });
+        let Rack { memory, proved, .. } = &mut self.0;
+        accepted(unsafe { sys::rack_format(memory.as_mut_ptr(), memory.len(), cards, pages, proved).number });
     }
 }
 

@@ -5,7 +5,7 @@ mod measure;
 mod racks;
 mod work;
 
-use compare_calls::raw::rack_make_list;
+use bandsawpink_sys::rack_make_list;
 use measure::{in_turn, Time};
 use racks::{list, spread_list, Rack, PRICES};
 use std::hint::black_box;

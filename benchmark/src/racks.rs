@@ -1,7 +1,6 @@
 //! Racks to be timed, and lists of forty prices.
 
-use compare_calls::library::words_of;
-use compare_calls::raw::DIRECTORY;
+use bandsawpink_sys as sys;
 use second::{Answer, Directory};
 
 /// The prices of a release.
@@ -30,11 +29,11 @@ fn list_of(words: impl Iterator<Item = u32>) -> Vec<u32> {
     list
 }
 
-/// The memory with its directory, as words for the proved library and as a value for the second implementation.
+/// The memory with its directory: the proved library's, and the second implementation's.
 #[derive(Clone)]
 pub struct Rack {
     pub memory: Vec<u32>,
-    pub words: [u32; DIRECTORY],
+    pub proved: sys::Directory,
     pub directory: Directory,
 }
 
@@ -42,13 +41,15 @@ impl Rack {
     /// Newly formatted, with a release open on each of the last `others` cards.
     pub fn new(cards: u32, pages: u32, others: u32) -> Self {
         let mut memory = vec![0; cards as usize * (676 + 64 * pages as usize)];
+        let mut proved = sys::Directory::EMPTY;
+        // SAFETY: pointer and length of one slice, and a directory beside it.
+        unsafe { sys::rack_format(memory.as_mut_ptr(), memory.len(), cards, pages, &mut proved) };
         let (directory, _) = second::format_rack(&mut memory, cards, pages);
         for other in 1..=others {
             let (_, answer) = second::open_release(&mut memory, directory, cards - other, 1, [0; 8], &list(other));
             assert_eq!(answer, Answer::Given(0));
         }
-        let words = words_of(&directory).try_into().expect("the words of a directory");
-        Self { memory, words, directory }
+        Self { memory, proved, directory }
     }
 
     /// Card 0 with no release open and stamp 0, so that number 1 can be opened again.

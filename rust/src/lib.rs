@@ -3,12 +3,11 @@
 //! defines, and one that is refused has changed nothing (but see [`Stopped`]). `include/bandsawpink.h`
 //! is the manual.
 
-mod calls;
 mod refusal;
 
 pub use refusal::{Refusal, Stopped};
 
-use calls::{Answer, DeskAnswer, Directory, RUNNING};
+use bandsawpink_sys::{self as sys, Answer, DeskAnswer, Directory, RUNNING};
 
 /// The words of a page, one price in cents each.
 pub const PAGE_WORDS: usize = 32;
@@ -57,10 +56,9 @@ impl Rack {
         }
         let words = cards as usize * (676 + 64 * pages as usize);
         let mut memory = vec![0; words];
-        let mut directory =
-            Directory { cards: 0, pages: 0, awaited: RUNNING, live: [0; 8], primary: [0; 64], secondary: [0; 64] };
+        let mut directory = Directory::EMPTY;
         // SAFETY: see above.
-        accepted(unsafe { calls::rack_format(memory.as_mut_ptr(), words, cards, pages, &mut directory) })?;
+        accepted(unsafe { sys::rack_format(memory.as_mut_ptr(), words, cards, pages, &mut directory) })?;
         Ok(Rack { memory, directory })
     }
 
@@ -93,7 +91,7 @@ impl Rack {
         // SAFETY: see above.
         accepted(unsafe {
             let memory = self.memory.as_mut_ptr();
-            calls::rack_open(memory, words, &self.directory, card, number, desk, list.as_ptr(), list.len())
+            sys::rack_open(memory, words, &self.directory, card, number, desk, list.as_ptr(), list.len())
         })
         .map(|_| ())
     }
@@ -102,7 +100,7 @@ impl Rack {
     pub fn step(&mut self, card: u32) -> Result<(), Refusal> {
         let words = self.memory.len();
         // SAFETY: see above.
-        accepted(unsafe { calls::rack_step(self.memory.as_mut_ptr(), words, &self.directory, card) }).map(|_| ())
+        accepted(unsafe { sys::rack_step(self.memory.as_mut_ptr(), words, &self.directory, card) }).map(|_| ())
     }
 
     /// Makes so many steps of the release that is open on a card; gives the count. A refusal stops
@@ -110,7 +108,7 @@ impl Rack {
     pub fn steps(&mut self, card: u32, count: u32) -> Result<u32, Stopped> {
         let words = self.memory.len();
         // SAFETY: see above.
-        let answer = unsafe { calls::rack_steps(self.memory.as_mut_ptr(), words, &self.directory, card, count) };
+        let answer = unsafe { sys::rack_steps(self.memory.as_mut_ptr(), words, &self.directory, card, count) };
         let made = answer.made;
         Refusal::of(answer.number, answer.value).map_or(Ok(made), |refusal| Err(Stopped { made, refusal }))
     }
@@ -130,7 +128,7 @@ impl Rack {
         let mut prices = [0; PAGE_WORDS];
         let (memory, words) = (self.memory.as_ptr(), self.memory.len());
         // SAFETY: see above.
-        accepted(unsafe { calls::rack_fetch(memory, words, &self.directory, page, prices.as_mut_ptr(), PAGE_WORDS) })
+        accepted(unsafe { sys::rack_fetch(memory, words, &self.directory, page, prices.as_mut_ptr(), PAGE_WORDS) })
             .map(|_| prices)
     }
 
@@ -142,7 +140,7 @@ impl Rack {
         // SAFETY: see above.
         let answer = unsafe {
             let buffer = prices.as_flattened_mut().as_mut_ptr();
-            calls::rack_fetch_all(memory, words, &self.directory, buffer, room)
+            sys::rack_fetch_all(memory, words, &self.directory, buffer, room)
         };
         if let Some(refusal) = Refusal::of(answer.number, answer.value) {
             return Err(refusal);
@@ -155,28 +153,28 @@ impl Rack {
     pub fn fail(&mut self, card: u32) -> Result<(), Refusal> {
         let (memory, words) = (self.memory.as_ptr(), self.memory.len());
         // SAFETY: see above.
-        accepted(unsafe { calls::rack_fail(memory, words, &mut self.directory, card) }).map(|_| ())
+        accepted(unsafe { sys::rack_fail(memory, words, &mut self.directory, card) }).map(|_| ())
     }
 
     /// Recovers the card that failed.
     pub fn recover(&mut self) -> Result<Recovered, Refusal> {
         let words = self.memory.len();
         // SAFETY: see above.
-        accepted_desk(unsafe { calls::rack_recover(self.memory.as_mut_ptr(), words, &mut self.directory) })
+        accepted_desk(unsafe { sys::rack_recover(self.memory.as_mut_ptr(), words, &mut self.directory) })
     }
 
     /// A dead card joins again.
     pub fn join(&mut self, card: u32) -> Result<(), Refusal> {
         let words = self.memory.len();
         // SAFETY: see above.
-        accepted(unsafe { calls::rack_join(self.memory.as_mut_ptr(), words, &mut self.directory, card) }).map(|_| ())
+        accepted(unsafe { sys::rack_join(self.memory.as_mut_ptr(), words, &mut self.directory, card) }).map(|_| ())
     }
 
     /// The desk of a card's last release.
     pub fn desk(&self, card: u32) -> Result<Desk, Refusal> {
         let (memory, words) = (self.memory.as_ptr(), self.memory.len());
         // SAFETY: see above.
-        accepted_desk(unsafe { calls::rack_desk(memory, words, &self.directory, card) }).map(|found| found.desk)
+        accepted_desk(unsafe { sys::rack_desk(memory, words, &self.directory, card) }).map(|found| found.desk)
     }
 }
 
@@ -185,14 +183,7 @@ pub fn make_list(working: &[u32], twins: &[u32]) -> Result<Vec<u32>, Refusal> {
     let mut list = vec![0; LIST_WORDS];
     // SAFETY: the slices are lent with their lengths, and the list is not one of them.
     let length = accepted(unsafe {
-        calls::rack_make_list(
-            working.as_ptr(),
-            working.len(),
-            twins.as_ptr(),
-            twins.len(),
-            list.as_mut_ptr(),
-            list.len(),
-        )
+        sys::rack_make_list(working.as_ptr(), working.len(), twins.as_ptr(), twins.len(), list.as_mut_ptr(), list.len())
     })?;
     list.truncate(length as usize);
     Ok(list)

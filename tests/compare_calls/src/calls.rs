@@ -1,8 +1,7 @@
 //! One call, made of both: the answers, the words of the directories and every lent word must be equal.
 
 use crate::guard::Flush;
-use crate::library::{directory_of, words_of, Rack};
-use crate::raw::FIRST_MARK;
+use crate::library::{directory_of, words_of, Rack, Words, FIRST_MARK};
 use second::{Answer, Directory};
 
 /// A call with its arguments. A buffer is given by what stands in it before.
@@ -58,16 +57,16 @@ pub struct Racks {
     proved: [Rack; 2],
     twin: Vec<u32>,
     /// The words of the directory, whose marks may be any.
-    words: Vec<u32>,
+    words: Words,
     pub directory: Directory,
 }
 
 impl Racks {
-    pub fn new(memory: &[u32], words: &[u32]) -> Self {
+    pub fn new(memory: &[u32], words: &Words) -> Self {
         Self {
             proved: [Flush::Left, Flush::Right].map(|flush| Rack::new(memory, words, flush)),
             twin: memory.to_vec(),
-            words: words.to_vec(),
+            words: *words,
             directory: directory_of(words),
         }
     }

@@ -42,7 +42,7 @@ fn reached(random: &mut Random, cards: u32, pages: u32) -> (Vec<u32>, Directory)
             _ => {
                 let number = memory[card as usize * area_of(&directory)].wrapping_add(1);
                 let list = lists::allowed(random, pages, 30 * pages);
-                second::open_release(&mut memory, directory, card, number, random.desk(), &list);
+                second::open_release(&mut memory, directory, card, number, random.array(), &list);
                 let count = random.below(40);
                 second::make_steps(&mut memory, directory, card, count).0
             }
@@ -206,7 +206,7 @@ fn opening(random: &mut Random, racks: &Racks, card: u32) -> Call {
         true => random.of(&[0, 1, stamp, stamp.wrapping_add(2), u32::MAX]),
         false => stamp.wrapping_add(1),
     };
-    Call::Open { card, number, desk: random.desk(), list: any_list(random, &racks.directory) }
+    Call::Open { card, number, desk: random.array(), list: any_list(random, &racks.directory) }
 }
 
 fn any_list(random: &mut Random, directory: &Directory) -> Vec<u32> {

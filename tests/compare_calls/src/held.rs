@@ -1,6 +1,7 @@
 //! Racks with the book held beside them.
 
 use crate::calls::{Call, Racks, Reply};
+use crate::library::Words;
 use second::book::{self, Book};
 use second::Answer;
 
@@ -14,7 +15,7 @@ pub struct Held {
 
 impl Held {
     /// A newly formatted rack, whatever the memory and the words of the directory were.
-    pub fn formatted(memory: &[u32], words: &[u32], cards: u32, pages: u32) -> Result<Self, String> {
+    pub fn formatted(memory: &[u32], words: &Words, cards: u32, pages: u32) -> Result<Self, String> {
         let mut racks = Racks::new(memory, words);
         let reply = racks.call(&Call::Format { cards, pages })?;
         match reply.accepted() {

@@ -2,55 +2,54 @@
 
 use crate::calls::{Call, Reply};
 use crate::guard::{Access, Flush, Guarded};
-use crate::raw::*;
+use bandsawpink_sys::{self as sys, DIRECTORY_WORDS, RUNNING};
 use second::{Answer, Directory, Status};
+use std::mem::{offset_of, size_of};
 
-fn answer(number: u32, value: u64) -> Answer {
-    match number {
+fn reply(number: u32, value: u64, beside: &[u32]) -> Reply {
+    let answer = match number {
         0 => Answer::Given(value),
         _ => Answer::Refused(number, value),
+    };
+    Reply { answer, beside: beside.to_vec() }
+}
+
+impl From<sys::Answer> for Reply {
+    fn from(given: sys::Answer) -> Reply {
+        reply(given.number, given.value, &[])
     }
 }
 
-impl From<RackAnswer> for Reply {
-    fn from(given: RackAnswer) -> Reply {
-        Reply { answer: answer(given.number, given.value), beside: Vec::new() }
+impl From<sys::DeskAnswer> for Reply {
+    fn from(given: sys::DeskAnswer) -> Reply {
+        reply(given.number, given.value, &given.desk)
     }
 }
 
-impl From<RackDeskAnswer> for Reply {
-    fn from(given: RackDeskAnswer) -> Reply {
-        Reply { answer: answer(given.number, given.value), beside: given.desk.into() }
-    }
-}
+/// A directory as words.
+pub type Words = [u32; DIRECTORY_WORDS];
+
+/// The word that is the mark of card 0; those of the other cards follow.
+pub const FIRST_MARK: usize = offset_of!(sys::Directory, live) / size_of::<u32>();
 
 /// The words of a directory as a call that changes it writes them: marks are 0 and 1.
-pub fn words_of(directory: &Directory) -> Vec<u32> {
+pub fn words_of(directory: &Directory) -> Words {
     let awaited = match directory.status {
         Status::Running => RUNNING,
         Status::Awaiting(card) => card,
     };
-    let mut words = vec![directory.cards, directory.pages, awaited];
-    words.extend(directory.live.map(u32::from));
-    words.extend(directory.primary);
-    words.extend(directory.secondary);
-    assert_eq!(words.len(), DIRECTORY);
-    words
+    let Directory { cards, pages, live, primary, secondary, .. } = *directory;
+    sys::Directory { cards, pages, awaited, live: live.map(u32::from), primary, secondary }.into_words()
 }
 
-/// What any 139 words are as a directory.
-pub fn directory_of(words: &[u32]) -> Directory {
-    Directory {
-        cards: words[0],
-        pages: words[1],
-        live: std::array::from_fn(|card| words[FIRST_MARK + card] != 0),
-        primary: std::array::from_fn(|page| words[11 + page]),
-        secondary: std::array::from_fn(|page| words[75 + page]),
-        status: match words[2] {
-            RUNNING => Status::Running,
-            card => Status::Awaiting(card),
-        },
-    }
+/// What any words are as a directory.
+pub fn directory_of(words: &Words) -> Directory {
+    let sys::Directory { cards, pages, awaited, live, primary, secondary } = sys::Directory::from_words(*words);
+    let status = match awaited {
+        RUNNING => Status::Running,
+        card => Status::Awaiting(card),
+    };
+    Directory { cards, pages, live: live.map(|mark| mark != 0), primary, secondary, status }
 }
 
 /// A rack of the library's: every lent part stands at a page that may not be touched, and what a call must not write may
@@ -62,44 +61,44 @@ pub struct Rack {
 }
 
 impl Rack {
-    pub fn new(memory: &[u32], directory: &[u32], flush: Flush) -> Self {
+    pub fn new(memory: &[u32], directory: &Words, flush: Flush) -> Self {
         Self { memory: Guarded::new(memory, flush), directory: Guarded::new(directory, flush) }
     }
 
     pub fn make(&mut self, call: &Call) -> Reply {
         self.memory.allow(if call.keeps_memory() { Access::Read } else { Access::ReadWrite });
         self.directory.allow(if call.keeps_directory() { Access::Read } else { Access::ReadWrite });
-        let (at, len, d) = (self.memory.first(), self.memory.len(), self.directory.first());
+        let (at, len, d) = (self.memory.first(), self.memory.len(), self.directory.first().cast());
         let flush = self.memory.flush();
         // SAFETY: pointers and lengths are those of words that live through the call, and no two of them overlap.
         unsafe {
             match call {
-                Call::Format { cards, pages } => rack_format(at, len, *cards, *pages, d).into(),
+                Call::Format { cards, pages } => sys::rack_format(at, len, *cards, *pages, d).into(),
                 Call::Open { card, number, desk, list } => {
                     let desk = Guarded::read_only(desk, flush);
                     let list = Guarded::read_only(list, flush);
-                    rack_open(at, len, d, *card, *number, desk.first(), list.first(), list.len()).into()
+                    sys::rack_open(at, len, d, *card, *number, desk.first().cast(), list.first(), list.len()).into()
                 }
-                Call::Step { card } => rack_step(at, len, d, *card).into(),
+                Call::Step { card } => sys::rack_step(at, len, d, *card).into(),
                 Call::Steps { card, count } => {
-                    let given = rack_steps(at, len, d, *card, *count);
-                    Reply { answer: answer(given.number, given.value), beside: vec![given.made] }
+                    let given = sys::rack_steps(at, len, d, *card, *count);
+                    reply(given.number, given.value, &[given.made])
                 }
                 Call::Fetch { page, buffer } => {
                     let buffer = Guarded::new(buffer, flush);
-                    let given = rack_fetch(at, len, d, *page, buffer.first(), buffer.len());
-                    Reply { answer: answer(given.number, given.value), beside: buffer.to_vec() }
+                    let given = sys::rack_fetch(at, len, d, *page, buffer.first(), buffer.len());
+                    reply(given.number, given.value, &buffer)
                 }
                 Call::FetchAll { buffer } => {
                     let buffer = Guarded::new(buffer, flush);
-                    let given = rack_fetch_all(at, len, d, buffer.first(), buffer.len());
+                    let given = sys::rack_fetch_all(at, len, d, buffer.first(), buffer.len());
                     let marks = given.shown.map(u32::from);
-                    Reply { answer: answer(given.number, given.value), beside: [&*buffer, &marks].concat() }
+                    reply(given.number, given.value, &[&*buffer, &marks].concat())
                 }
-                Call::Fail { card } => rack_fail(at, len, d, *card).into(),
-                Call::Recover => rack_recover(at, len, d).into(),
-                Call::Join { card } => rack_join(at, len, d, *card).into(),
-                Call::AskDesk { card } => rack_desk(at, len, d, *card).into(),
+                Call::Fail { card } => sys::rack_fail(at, len, d, *card).into(),
+                Call::Recover => sys::rack_recover(at, len, d).into(),
+                Call::Join { card } => sys::rack_join(at, len, d, *card).into(),
+                Call::AskDesk { card } => sys::rack_desk(at, len, d, *card).into(),
             }
         }
     }
@@ -113,7 +112,7 @@ pub fn make_list(working: &[u32], twins: &[u32], buffer: &[u32], flush: Flush) -
     // SAFETY: as in `make`.
     let given = unsafe {
         let (list, room) = (buffer.first(), buffer.len());
-        rack_make_list(working.first(), working.len(), twins.first(), twins.len(), list, room)
+        sys::rack_make_list(working.first(), working.len(), twins.first(), twins.len(), list, room)
     };
-    Reply { answer: answer(given.number, given.value), beside: buffer.to_vec() }
+    reply(given.number, given.value, &buffer)
 }

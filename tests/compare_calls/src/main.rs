@@ -3,9 +3,18 @@
 //!
 //!     compare_calls [--seed N] [--calls N]
 
-use compare_calls::play::Play;
-use compare_calls::random::Random;
-use compare_calls::{damage, lists, sweep};
+mod calls;
+mod damage;
+mod guard;
+mod held;
+mod library;
+mod lists;
+mod play;
+mod random;
+mod sweep;
+
+use play::Play;
+use random::Random;
 use std::process::ExitCode;
 
 struct Options {

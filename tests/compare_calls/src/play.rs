@@ -5,7 +5,6 @@ use crate::calls::{Call, Reply};
 use crate::held::Held;
 use crate::lists;
 use crate::random::Random;
-use crate::raw::DIRECTORY;
 use second::{Answer, Status};
 
 pub struct Play {
@@ -18,7 +17,7 @@ impl Play {
     pub fn new(mut random: Random, cards: u32, pages: u32) -> Result<Self, String> {
         let area = 676 + 64 * pages as usize;
         let memory = random.words(cards as usize * area);
-        let directory = random.words(DIRECTORY);
+        let directory = random.array();
         let held = Held::formatted(&memory, &directory, cards, pages)?;
         Ok(Self { held, area, random })
     }
@@ -103,7 +102,7 @@ impl Play {
             true => lists::damaged(&mut self.random, &list),
             false => list,
         };
-        Call::Open { card, number, desk: self.random.desk(), list }
+        Call::Open { card, number, desk: self.random.array(), list }
     }
 }
 

@@ -37,7 +37,7 @@ impl Random {
         self.below(chances) == 0
     }
 
-    pub fn desk(&mut self) -> [u32; 8] {
+    pub fn array<const COUNT: usize>(&mut self) -> [u32; COUNT] {
         std::array::from_fn(|_| self.word())
     }
 

@@ -1,6 +1,7 @@
-//! The functions and types of `include/bandsawpink.h`.
+//! The C interface of the static library: the functions and types of `include/bandsawpink.h`, which is the manual. The
+//! package `bandsawpink` makes safe calls of them.
 
-use std::mem::{offset_of, size_of};
+use std::mem::{offset_of, size_of, transmute};
 
 /// The awaited card of a rack that awaits none.
 pub const RUNNING: u32 = u32::MAX;
@@ -14,6 +15,26 @@ pub struct Directory {
     pub live: [u32; 8],
     pub primary: [u32; 64],
     pub secondary: [u32; 64],
+}
+
+/// The words of a directory.
+pub const DIRECTORY_WORDS: usize = 139;
+
+impl Directory {
+    /// What a refused formatting writes: every call refuses it.
+    pub const EMPTY: Directory =
+        Directory { cards: 0, pages: 0, awaited: RUNNING, live: [0; 8], primary: [0; 64], secondary: [0; 64] };
+
+    /// Any words are a directory.
+    pub fn from_words(words: [u32; DIRECTORY_WORDS]) -> Directory {
+        // SAFETY: a directory is so many words, one after the other, and each may be any.
+        unsafe { transmute(words) }
+    }
+
+    pub fn into_words(self) -> [u32; DIRECTORY_WORDS] {
+        // SAFETY: as in `from_words`.
+        unsafe { transmute(self) }
+    }
 }
 
 #[repr(C)]
@@ -49,7 +70,7 @@ pub struct FetchAllAnswer {
 
 // The library was built for this layout.
 const _: () = {
-    assert!(size_of::<Directory>() == 139 * 4);
+    assert!(size_of::<Directory>() == DIRECTORY_WORDS * 4);
     assert!(offset_of!(Directory, pages) == 4);
     assert!(offset_of!(Directory, awaited) == 2 * 4);
     assert!(offset_of!(Directory, live) == 3 * 4);
