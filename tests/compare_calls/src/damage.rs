@@ -1,10 +1,10 @@
 //! Single calls on damaged memories and directories: random words anywhere, lists without an end word, steps past the last,
 //! records that no call left, releases that overlap, memories of another length.
 
-use crate::calls::{Call, Racks};
+use crate::call::Call;
 use crate::library::words_of;
 use crate::lists;
-use crate::play::number;
+use crate::racks::Racks;
 use crate::random::Random;
 use second::{Directory, Status};
 
@@ -24,7 +24,7 @@ pub fn compare(random: &mut Random, at: u64, seen: &mut [u64; 19]) -> Result<u64
         let mark = random.odd_word();
         racks.disguise_mark(random.below(8) as usize, mark);
         let call = any_call(random, &racks);
-        seen[number(&racks.call(&call)?)] += 1;
+        seen[racks.call(&call)?.number()] += 1;
     }
     Ok(calls.into())
 }

@@ -1,7 +1,8 @@
 //! Racks with the book held beside them.
 
-use crate::calls::{Call, Racks, Reply};
+use crate::call::{Call, Reply};
 use crate::library::Words;
+use crate::racks::Racks;
 use second::book::{self, Book};
 use second::Answer;
 

@@ -1,6 +1,6 @@
 //! The proved library's calls, through its C interface.
 
-use crate::calls::{Call, Reply};
+use crate::call::{Call, Reply};
 use crate::guard::{Access, Flush, Guarded};
 use bandsawpink_sys::{self as sys, DIRECTORY_WORDS, RUNNING};
 use second::{Answer, Directory, Status};

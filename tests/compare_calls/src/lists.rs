@@ -1,7 +1,7 @@
 //! Lists of changes: random ones that are allowed, ones near the limit of 512 words, faulty ones, and the list maker on random
 //! pages.
 
-use crate::calls::Reply;
+use crate::call::Reply;
 use crate::guard::Flush;
 use crate::library;
 use crate::random::Random;

@@ -3,13 +3,14 @@
 //!
 //!     compare_calls [--seed N] [--calls N]
 
-mod calls;
+mod call;
 mod damage;
 mod guard;
 mod held;
 mod library;
 mod lists;
 mod play;
+mod racks;
 mod random;
 mod sweep;
 

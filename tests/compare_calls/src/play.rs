@@ -1,11 +1,11 @@
 //! Random lists of calls on a formatted rack, with anything in the areas of cards that are away, and the book held
 //! beside both.
 
-use crate::calls::{Call, Reply};
+use crate::call::Call;
 use crate::held::Held;
 use crate::lists;
 use crate::random::Random;
-use second::{Answer, Status};
+use second::Status;
 
 pub struct Play {
     held: Held,
@@ -31,7 +31,7 @@ impl Play {
             }
             let call = self.choose();
             let reply = self.held.call(&call).map_err(|error| format!("call {at}: {error}"))?;
-            seen[number(&reply)] += 1;
+            seen[reply.number()] += 1;
         }
         Ok(())
     }
@@ -103,13 +103,5 @@ impl Play {
             false => list,
         };
         Call::Open { card, number, desk: self.random.array(), list }
-    }
-}
-
-/// 0, or the number of the refusal.
-pub fn number(reply: &Reply) -> usize {
-    match reply.answer {
-        Answer::Given(_) => 0,
-        Answer::Refused(number, _) => number as usize,
     }
 }

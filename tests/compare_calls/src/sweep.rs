@@ -1,7 +1,7 @@
 //! Every card fails at every step of one release, and of two that are open on different cards, on racks of 3 to 8 cards; then
 //! the others are asked, the card joins, and the next one fails.
 
-use crate::calls::{Call, Reply};
+use crate::call::{Call, Reply};
 use crate::held::Held;
 use bandsawpink_sys::DIRECTORY_WORDS;
 use std::cell::Cell;

@@ -1,0 +1,57 @@
+//! A call of the rack, and what it answers, whoever makes it.
+
+use second::Answer;
+
+/// A call with its arguments. A buffer is given by what stands in it before.
+#[derive(Clone, Debug)]
+pub enum Call {
+    Format { cards: u32, pages: u32 },
+    Open { card: u32, number: u32, desk: [u32; 8], list: Vec<u32> },
+    Step { card: u32 },
+    Steps { card: u32, count: u32 },
+    Fetch { page: u32, buffer: Vec<u32> },
+    FetchAll { buffer: Vec<u32> },
+    Fail { card: u32 },
+    Recover,
+    Join { card: u32 },
+    AskDesk { card: u32 },
+}
+
+impl Call {
+    /// The memory is lent to be read.
+    pub fn keeps_memory(&self) -> bool {
+        matches!(self, Call::Fetch { .. } | Call::FetchAll { .. } | Call::Fail { .. } | Call::AskDesk { .. })
+    }
+
+    /// The directory is lent to be read.
+    pub fn keeps_directory(&self) -> bool {
+        !matches!(self, Call::Format { .. } | Call::Fail { .. } | Call::Recover | Call::Join { .. })
+    }
+
+    /// The directory is written anew: by formatting, and by another call that is accepted.
+    pub fn changes_directory(&self, reply: &Reply) -> bool {
+        matches!(self, Call::Format { .. }) || !self.keeps_directory() && reply.accepted()
+    }
+}
+
+/// What a call answers: the answer, and beside it a page, a desk, the steps made, all pages with a mark for each that
+/// was shown, or nothing.
+#[derive(Clone, PartialEq, Eq, Debug)]
+pub struct Reply {
+    pub answer: Answer,
+    pub beside: Vec<u32>,
+}
+
+impl Reply {
+    pub fn accepted(&self) -> bool {
+        matches!(self.answer, Answer::Given(_))
+    }
+
+    /// 0, or the number of the refusal.
+    pub fn number(&self) -> usize {
+        match self.answer {
+            Answer::Given(_) => 0,
+            Answer::Refused(number, _) => number as usize,
+        }
+    }
+}
