@@ -7,8 +7,8 @@
 //! found that shows it.
 
 mod corpus;
-mod random;
 mod run;
+mod scripts;
 mod seen;
 mod shrink;
 mod sweep;
@@ -73,10 +73,10 @@ fn must_agree(pair: &Pair, options: &Options) -> ExitCode {
             return failed(&format!("{}: not what document 01 prints", script.name));
         }
     }
-    let random = (0..options.scripts).map(|at| random::script(options.seed, at));
+    let random = scripts::random(options.seed).take(options.scripts as usize);
     let mut count = 0;
     let mut seen = Seen::default();
-    for script in fixed_scripts().chain(random).chain(random::large(options.seed)) {
+    for script in fixed_scripts().chain(random).chain(scripts::large(options.seed)) {
         let printed = pair.first(&script.input);
         if printed != pair.second(&script.input) {
             return report(pair, &script);

@@ -5,7 +5,7 @@ use crate::call::Call;
 use crate::library::words_of;
 use crate::lists;
 use crate::racks::Racks;
-use crate::random::Random;
+use random::Random;
 use second::{Directory, Status};
 
 /// The damaged rack of this number, and a few calls on it.

@@ -4,7 +4,7 @@
 use crate::call::Reply;
 use crate::guard::Flush;
 use crate::library;
-use crate::random::Random;
+use random::Random;
 
 /// An allowed list that prices about one word in `rarity`, as far as 512 words go.
 pub fn allowed(random: &mut Random, pages: u32, rarity: u32) -> Vec<u32> {

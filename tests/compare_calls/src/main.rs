@@ -11,7 +11,6 @@ mod library;
 mod lists;
 mod play;
 mod racks;
-mod random;
 mod sweep;
 
 use play::Play;

@@ -4,7 +4,7 @@
 use crate::call::Call;
 use crate::held::Held;
 use crate::lists;
-use crate::random::Random;
+use random::Random;
 use second::Status;
 
 pub struct Play {

@@ -3,7 +3,8 @@
 
 mod common;
 
-use common::{list_of, random_changes, Rack, Random};
+use common::{list_of, random_changes, Rack};
+use random::Random;
 use second::by_reference as lent;
 use second::fetch_all;
 
@@ -14,7 +15,7 @@ fn same_call(one: &mut Rack, other: &mut Rack, random: &mut Random) {
     match random.below(10) {
         0..=2 => {
             let number = memory[one.at(card % directory.cards, 0)].wrapping_add(1);
-            let (desk, list) = (random.desk(), list_of(&random_changes(random, directory.pages, 40)));
+            let (desk, list) = (random.array(), list_of(&random_changes(random, directory.pages, 40)));
             let answer = lent::open_release(memory, directory, card, number, &desk, &list);
             assert_eq!(one.open(card, number, desk, &list), answer);
         }

@@ -3,7 +3,8 @@
 
 mod common;
 
-use common::{list_of, odd_word, random_changes, Rack, Random, OK};
+use common::{list_of, random_changes, Rack, OK};
+use random::Random;
 use second::*;
 
 /// A rack that calls have led to, with releases open, cards dead or awaited.
@@ -19,7 +20,7 @@ fn reached_rack(random: &mut Random) -> Rack {
                 let number = rack.word(card, 0).wrapping_add(1);
                 let rarity = random.within(5, 90);
                 let list = list_of(&random_changes(random, rack.directory.pages, rarity));
-                rack.open(card, number, random.desk(), &list);
+                rack.open(card, number, random.array(), &list);
                 rack.steps(card, random.below(60));
             }
         }
@@ -47,22 +48,22 @@ fn damage(rack: &mut Rack, random: &mut Random) {
 fn damage_word(rack: &mut Rack, at: usize, random: &mut Random) {
     if !rack.memory.is_empty() {
         let at = at % rack.memory.len();
-        rack.memory[at] = odd_word(random);
+        rack.memory[at] = random.odd_word();
     }
 }
 
 fn damage_directory(directory: &mut Directory, random: &mut Random) {
     let page = random.below(64) as usize % (directory.pages as usize).clamp(1, 64);
     match random.below(8) {
-        0 => directory.cards = odd_word(random),
-        1 => directory.pages = odd_word(random),
+        0 => directory.cards = random.odd_word(),
+        1 => directory.pages = random.odd_word(),
         2 => directory.cards = random.below(10),
         3 => directory.live[random.below(8) as usize] ^= true,
-        4 => directory.primary[page] = odd_word(random) % 11,
+        4 => directory.primary[page] = random.odd_word() % 11,
         5 => directory.secondary[page] = random.below(9),
-        6 => directory.primary[random.below(64) as usize] = odd_word(random),
+        6 => directory.primary[random.below(64) as usize] = random.odd_word(),
         _ => {
-            let card = if random.one_in(2) { random.below(9) } else { odd_word(random) };
+            let card = if random.one_in(2) { random.below(9) } else { random.odd_word() };
             directory.status = Status::Awaiting(card);
         }
     }
@@ -72,7 +73,7 @@ fn damage_directory(directory: &mut Directory, random: &mut Random) {
 fn any_rack(random: &mut Random) -> Rack {
     let (cards, pages) = (random.within(3, 8), random.within(1, 3));
     let mut rack = Rack::new(cards, pages);
-    rack.memory.iter_mut().for_each(|word| *word = odd_word(random));
+    rack.memory.iter_mut().for_each(|word| *word = random.odd_word());
     rack.directory.live = std::array::from_fn(|_| !random.one_in(4));
     rack.directory.primary = std::array::from_fn(|_| random.below(cards));
     rack.directory.secondary = std::array::from_fn(|_| random.below(cards));
@@ -85,8 +86,8 @@ fn any_rack(random: &mut Random) -> Rack {
 
 /// One call of each kind on a copy of the rack; counts the accepted ones.
 fn all_calls(rack: &Rack, random: &mut Random) -> u32 {
-    let card = if random.one_in(9) { odd_word(random) } else { random.below(8) };
-    let page = if random.one_in(9) { odd_word(random) } else { random.below(6) };
+    let card = if random.one_in(9) { random.odd_word() } else { random.below(8) };
+    let page = if random.one_in(9) { random.odd_word() } else { random.below(6) };
     let words = if random.one_in(9) { random.below(70) } else { 32 };
     let mut buffer: Vec<u32> = (0..words).map(|_| random.word()).collect();
     let lent = buffer.clone();
@@ -97,9 +98,9 @@ fn all_calls(rack: &Rack, random: &mut Random) -> u32 {
     let mut list = list_of(&random_changes(random, rack.directory.pages.min(8), 40));
     if random.one_in(5) {
         let at = random.below(list.len() as u32) as usize;
-        list[at] = odd_word(random);
+        list[at] = random.odd_word();
     }
-    let desk = random.desk();
+    let desk = random.array();
     let mut accepted = 0;
     accepted += held(rack, |rack| rack.open(card, number, desk, &list));
     accepted += held(rack, |rack| rack.step(card));

@@ -2,7 +2,8 @@
 
 mod common;
 
-use common::{list_of, odd_word, random_changes, refused, refused_at, Random};
+use common::{list_of, random_changes, refused, refused_at};
+use random::Random;
 use second::*;
 
 const P: u32 = 0x1000_0000;
@@ -158,9 +159,9 @@ fn places_found_another_way() {
         for _ in 0..random.below(3) {
             let at = random.below(list.len() as u32) as usize;
             match random.below(4) {
-                0 => list[at] = odd_word(&mut random),
+                0 => list[at] = random.odd_word(),
                 1 => list.truncate(at),
-                2 => list.insert(at, odd_word(&mut random)),
+                2 => list.insert(at, random.odd_word()),
                 _ => list[at] = list[at].wrapping_add(random.below(3)).wrapping_sub(1),
             }
             if list.is_empty() {

@@ -2,7 +2,8 @@
 
 mod common;
 
-use common::{list_of, random_changes, refused, Change, Rack, Random, OK};
+use common::{list_of, random_changes, refused, Change, Rack, OK};
+use random::Random;
 use second::*;
 
 /// The stores of a release in order, but for the close: card, word of its area,
@@ -69,7 +70,7 @@ fn every_step_makes_its_one_store() {
             rack.set(card, word, random.word());
         }
         let number = stamp + 1;
-        let desk = random.desk();
+        let desk = random.array();
         let changes = random_changes(&mut random, rack.directory.pages, 9);
         release_word_by_word(&mut rack, card, number, desk, &changes);
     }

@@ -1,55 +1,11 @@
-//! What the tests share: a generator of random numbers, a rack with its memory,
-//! and lists built word by word.
+//! What the tests share: a rack with its memory, and lists built word by word.
 
 #![allow(dead_code)]
 
 pub mod play;
 
+use random::Random;
 use second::*;
-
-/// A xorshift generator: the same seed gives the same numbers everywhere.
-pub struct Random(u64);
-
-impl Random {
-    pub fn new(seed: u64) -> Random {
-        Random(seed.wrapping_mul(0x9E37_79B9_7F4A_7C15) | 1)
-    }
-
-    pub fn word(&mut self) -> u32 {
-        self.0 ^= self.0 << 13;
-        self.0 ^= self.0 >> 7;
-        self.0 ^= self.0 << 17;
-        (self.0 >> 16) as u32
-    }
-
-    pub fn below(&mut self, limit: u32) -> u32 {
-        self.word() % limit
-    }
-
-    pub fn within(&mut self, low: u32, high: u32) -> u32 {
-        low + self.below(high - low + 1)
-    }
-
-    pub fn one_in(&mut self, chances: u32) -> bool {
-        self.below(chances) == 0
-    }
-
-    pub fn desk(&mut self) -> [u32; 8] {
-        std::array::from_fn(|_| self.word())
-    }
-}
-
-/// Words at the edges of their meaning, small ones, and any.
-pub fn odd_word(random: &mut Random) -> u32 {
-    match random.below(6) {
-        0 => random.below(4),
-        1 => u32::MAX - random.below(2),
-        2 => 0x1000_0000 | random.below(9),
-        3 => 0x2000_0000 | random.below(40) << 16 | random.below(4),
-        4 => 0xF000_0000 | random.below(9),
-        _ => random.word(),
-    }
-}
 
 /// A rack: memory and directory.
 #[derive(Clone, PartialEq, Debug)]
@@ -139,7 +95,7 @@ impl Rack {
     pub fn scramble(&mut self, card: u32, random: &mut Random) {
         let (start, end) = (self.at(card, 0), self.at(card + 1, 0));
         match random.below(3) {
-            0 => self.memory[start..end].iter_mut().for_each(|word| *word = odd_word(random)),
+            0 => self.memory[start..end].iter_mut().for_each(|word| *word = random.odd_word()),
             1 => self.memory[start..end].fill(random.word()),
             _ => {
                 let other = random.below(self.directory.cards);

@@ -1,6 +1,7 @@
 //! Plays random lists of calls on a rack and holds the book beside it.
 
-use super::{list_of, odd_word, random_changes, Change, Rack, Random};
+use super::{list_of, random_changes, Change, Rack};
+use random::Random;
 use second::book::{Book, Call};
 use second::{check_list, fetch_all, Answer, Status};
 
@@ -313,7 +314,7 @@ impl Play {
 
     fn any_card(&mut self) -> u32 {
         match self.random.one_in(60) {
-            true => odd_word(&mut self.random),
+            true => self.random.odd_word(),
             false => self.random.below(self.live.len() as u32),
         }
     }
@@ -335,16 +336,16 @@ impl Play {
         let mut list = list_of(&random_changes(random, self.rack.directory.pages, rarity));
         if random.one_in(12) {
             let at = random.below(list.len() as u32);
-            list[at as usize] = odd_word(random);
+            list[at as usize] = random.odd_word();
         }
         let (last, _) = self.book.last(card);
         let number = match random.below(15) {
             0 => last,
             1 => last.wrapping_add(2),
-            2 => odd_word(random),
+            2 => random.odd_word(),
             _ => last.wrapping_add(1),
         };
-        Call::Open { card, number, desk: random.desk(), list }
+        Call::Open { card, number, desk: random.array(), list }
     }
 }
 

@@ -1,5 +1,7 @@
-//! A generator that gives the same numbers on every machine, and words at the edges of their meaning.
+//! The random numbers of the tests: a generator that gives the same numbers on every machine, and words at the edges of
+//! their meaning.
 
+/// A xorshift generator.
 pub struct Random(u64);
 
 impl Random {
@@ -25,6 +27,10 @@ impl Random {
         (0..count).map(|_| self.word()).collect()
     }
 
+    pub fn array<const COUNT: usize>(&mut self) -> [u32; COUNT] {
+        std::array::from_fn(|_| self.word())
+    }
+
     pub fn below(&mut self, limit: u32) -> u32 {
         self.word() % limit
     }
@@ -37,15 +43,11 @@ impl Random {
         self.below(chances) == 0
     }
 
-    pub fn array<const COUNT: usize>(&mut self) -> [u32; COUNT] {
-        std::array::from_fn(|_| self.word())
-    }
-
     pub fn of<T: Copy>(&mut self, items: &[T]) -> T {
         items[self.below(items.len() as u32) as usize]
     }
 
-    /// A word that means something in a list or a directory, a small one, or any.
+    /// A word that means something in a list of changes or a directory, a small one, or any.
     pub fn odd_word(&mut self) -> u32 {
         match self.below(6) {
             0 => self.below(9),

@@ -2,44 +2,21 @@
 //! was released, so that most lines are accepted; it need not be right.
 
 use crate::Script;
-
-/// xorshift64*: the same scripts on every machine.
-struct Random(u64);
-
-impl Random {
-    fn new(seed: u64, at: u64) -> Self {
-        let mixed = (seed ^ at.wrapping_mul(0x9E37_79B9_7F4A_7C15)).wrapping_add(0x2545_F491_4F6C_DD1D);
-        Self(mixed | 1)
-    }
-
-    fn next(&mut self) -> u64 {
-        self.0 ^= self.0 >> 12;
-        self.0 ^= self.0 << 25;
-        self.0 ^= self.0 >> 27;
-        self.0.wrapping_mul(0x2545_F491_4F6C_DD1D) >> 16
-    }
-
-    fn below(&mut self, n: u64) -> u64 {
-        self.next() % n
-    }
-
-    fn one_in(&mut self, n: u64) -> bool {
-        self.below(n) == 0
-    }
-
-    fn of<T: Copy>(&mut self, items: &[T]) -> T {
-        items[self.below(items.len() as u64) as usize]
-    }
-}
+use random::Random;
 
 /// What the generator remembers of the rack.
 struct Rack {
-    numbers: [u64; 3],
-    dead: Option<u64>,
+    numbers: [u32; 3],
+    dead: Option<u32>,
 }
 
-pub fn script(seed: u64, at: u64) -> Script {
-    let mut random = Random::new(seed, at);
+/// Scripts without end, each of a generator of its own.
+pub fn random(seed: u64) -> impl Iterator<Item = Script> {
+    let mut generators = Random::new(seed);
+    (0u64..).map(move |at| Script::new(format!("random script {at} of seed {seed}"), lines(generators.fork())))
+}
+
+fn lines(mut random: Random) -> Vec<u8> {
     let mut rack = Rack { numbers: [0; 3], dead: None };
     let mut input = Vec::new();
     for _ in 0..20 + random.below(60) {
@@ -53,7 +30,7 @@ pub fn script(seed: u64, at: u64) -> Script {
     if random.one_in(4) {
         input.pop();
     }
-    Script::new(format!("random script {at} of seed {seed}"), input)
+    input
 }
 
 fn readable(random: &mut Random, rack: &mut Rack) -> String {
@@ -72,16 +49,16 @@ fn readable(random: &mut Random, rack: &mut Rack) -> String {
 }
 
 /// Mostly the card's next number; words 0 to 3 of a page, so that releases meet.
-fn opening(random: &mut Random, rack: &mut Rack, card: u64) -> String {
+fn opening(random: &mut Random, rack: &mut Rack, card: u32) -> String {
     let known = &mut rack.numbers[card as usize];
     let number = match random.one_in(4) {
-        true => random.of(&[0, *known, *known + 2, 4_294_967_295]),
+        true => random.of(&[0, *known, *known + 2, u32::MAX]),
         false => {
             *known += 1;
             *known
         }
     };
-    let price = random.of(&[0, 1, 250, 4_294_967_295]) ^ random.below(2);
+    let price = random.of(&[0, 1, 250, u32::MAX]) ^ random.below(2);
     let page = match random.one_in(12) {
         true => random.of(&[4, 63]),
         false => random.below(4),
@@ -108,7 +85,7 @@ fn unreadable(random: &mut Random, rack: &mut Rack) -> Vec<u8> {
         return (0..random.below(40)).map(|_| random.below(256) as u8).collect();
     }
     let mut line = readable(random, rack).into_bytes();
-    let at = random.below(line.len() as u64) as usize;
+    let at = random.below(line.len() as u32) as usize;
     let byte = random.of(b" 0129BSXJF-\r\t\0,");
     match random.below(3) {
         0 => drop(line.remove(at)),
@@ -119,19 +96,16 @@ fn unreadable(random: &mut Random, rack: &mut Rack) -> Vec<u8> {
 }
 
 /// 10 MB of bytes of any kind, and 10 MB of lines.
-pub fn large(seed: u64) -> impl Iterator<Item = Script> {
+pub fn large(seed: u64) -> [Script; 2] {
     const SIZE: usize = 10_000_000;
-    let mut random = Random::new(seed, u64::MAX);
-    let mut bytes = Vec::with_capacity(SIZE + 8);
-    while bytes.len() < SIZE {
-        bytes.extend(random.next().to_le_bytes());
-    }
+    let mut words = Random::new(seed);
+    let bytes: Vec<u8> = (0..SIZE / 4).flat_map(|_| words.word().to_le_bytes()).collect();
     let mut lines = Vec::with_capacity(SIZE + 4_000);
-    for at in 0.. {
+    for script in random(seed ^ 1) {
+        lines.extend(script.input);
         if lines.len() >= SIZE {
             break;
         }
-        lines.extend(script(seed ^ 1, at).input);
     }
-    [Script::new("10 MB of random bytes", bytes), Script::new("10 MB of random lines", lines)].into_iter()
+    [Script::new("10 MB of random bytes", bytes), Script::new("10 MB of random lines", lines)]
 }
