@@ -3,11 +3,9 @@
 
 use crate::racks::Rack;
 use bandsawpink_sys as sys;
+use bandsawpink_sys::refusals::{ACCEPTED, NO_PAGE};
 use second::{by_reference, Answer, Directory};
 use std::hint::black_box;
-
-/// Refusal 9: no such page.
-const NO_PAGE: u32 = 9;
 
 pub trait Calls {
     fn rack(&mut self) -> &mut Rack;
@@ -24,7 +22,7 @@ pub trait Calls {
 }
 
 fn accepted(number: u32) {
-    assert_eq!(number, 0, "a timed call was refused");
+    assert_eq!(number, ACCEPTED, "a timed call was refused");
 }
 
 fn given(answer: Answer) {

@@ -6,6 +6,7 @@ mod racks;
 mod work;
 
 use bandsawpink_sys::rack_make_list;
+use bandsawpink_sys::refusals::ACCEPTED;
 use measure::{in_turn, Time};
 use racks::{list, spread_list, Rack, PRICES};
 use std::hint::black_box;
@@ -126,7 +127,7 @@ fn list_made(name: &str, labels: impl Iterator<Item = usize>) {
         let (list, room) = (black_box(&mut first).as_mut_ptr(), 512);
         // SAFETY: pointers and lengths of slices that live through the call and do not overlap.
         let made = unsafe { rack_make_list(working.as_ptr(), working.len(), twins.as_ptr(), twins.len(), list, room) };
-        assert_eq!(made.number, 0, "a timed call was refused");
+        assert_eq!(made.number, ACCEPTED, "a timed call was refused");
     };
     let mut second = || {
         black_box(second::make_list(&working, &twins, black_box(&mut other)));

@@ -1,3 +1,4 @@
+use bandsawpink_sys::refusals;
 use std::fmt;
 
 /// Why a call was refused. It has changed nothing.
@@ -42,24 +43,24 @@ impl Refusal {
     /// Of a number and a place that a call answered; none if it was accepted.
     pub(crate) fn of(number: u32, place: u64) -> Option<Refusal> {
         Some(match number {
-            0 => return None,
-            1 => Refusal::Limits,
-            2 => Refusal::Unfit,
-            3 => Refusal::NoCard,
-            4 => Refusal::ReleaseOpen,
-            5 => Refusal::NumberUsed { stamp: place },
-            6 => Refusal::NumberAhead,
-            7 => Refusal::FaultyList { word: place },
-            8 => Refusal::WordInUse { card: place },
-            9 => Refusal::NoPage,
-            10 => Refusal::PageInMotion { card: place },
-            11 => Refusal::RecoveryAwaited,
-            12 => Refusal::NoneAwaited,
-            13 => Refusal::TwoLive,
-            14 => Refusal::CardLive,
-            15 => Refusal::JoinWhileOpen,
-            16 => Refusal::NoneOpen,
-            17 => Refusal::WrongBuffer,
+            refusals::ACCEPTED => return None,
+            refusals::LIMITS => Refusal::Limits,
+            refusals::UNFIT => Refusal::Unfit,
+            refusals::NO_CARD => Refusal::NoCard,
+            refusals::RELEASE_OPEN => Refusal::ReleaseOpen,
+            refusals::NUMBER_USED => Refusal::NumberUsed { stamp: place },
+            refusals::NUMBER_AHEAD => Refusal::NumberAhead,
+            refusals::FAULTY_LIST => Refusal::FaultyList { word: place },
+            refusals::WORD_IN_USE => Refusal::WordInUse { card: place },
+            refusals::NO_PAGE => Refusal::NoPage,
+            refusals::PAGE_IN_MOTION => Refusal::PageInMotion { card: place },
+            refusals::RECOVERY_AWAITED => Refusal::RecoveryAwaited,
+            refusals::NONE_AWAITED => Refusal::NoneAwaited,
+            refusals::TWO_LIVE => Refusal::TwoLive,
+            refusals::CARD_LIVE => Refusal::CardLive,
+            refusals::JOIN_WHILE_OPEN => Refusal::JoinWhileOpen,
+            refusals::NONE_OPEN => Refusal::NoneOpen,
+            refusals::WRONG_BUFFER => Refusal::WrongBuffer,
             _ => unreachable!("no call answers the number {number}"),
         })
     }
@@ -67,23 +68,23 @@ impl Refusal {
     /// The number that the rack's specification gives it.
     pub fn number(self) -> u32 {
         match self {
-            Refusal::Limits => 1,
-            Refusal::Unfit => 2,
-            Refusal::NoCard => 3,
-            Refusal::ReleaseOpen => 4,
-            Refusal::NumberUsed { .. } => 5,
-            Refusal::NumberAhead => 6,
-            Refusal::FaultyList { .. } => 7,
-            Refusal::WordInUse { .. } => 8,
-            Refusal::NoPage => 9,
-            Refusal::PageInMotion { .. } => 10,
-            Refusal::RecoveryAwaited => 11,
-            Refusal::NoneAwaited => 12,
-            Refusal::TwoLive => 13,
-            Refusal::CardLive => 14,
-            Refusal::JoinWhileOpen => 15,
-            Refusal::NoneOpen => 16,
-            Refusal::WrongBuffer => 17,
+            Refusal::Limits => refusals::LIMITS,
+            Refusal::Unfit => refusals::UNFIT,
+            Refusal::NoCard => refusals::NO_CARD,
+            Refusal::ReleaseOpen => refusals::RELEASE_OPEN,
+            Refusal::NumberUsed { .. } => refusals::NUMBER_USED,
+            Refusal::NumberAhead => refusals::NUMBER_AHEAD,
+            Refusal::FaultyList { .. } => refusals::FAULTY_LIST,
+            Refusal::WordInUse { .. } => refusals::WORD_IN_USE,
+            Refusal::NoPage => refusals::NO_PAGE,
+            Refusal::PageInMotion { .. } => refusals::PAGE_IN_MOTION,
+            Refusal::RecoveryAwaited => refusals::RECOVERY_AWAITED,
+            Refusal::NoneAwaited => refusals::NONE_AWAITED,
+            Refusal::TwoLive => refusals::TWO_LIVE,
+            Refusal::CardLive => refusals::CARD_LIVE,
+            Refusal::JoinWhileOpen => refusals::JOIN_WHILE_OPEN,
+            Refusal::NoneOpen => refusals::NONE_OPEN,
+            Refusal::WrongBuffer => refusals::WRONG_BUFFER,
         }
     }
 

@@ -1,6 +1,8 @@
 //! The C interface of the static library: the functions and types of `include/bandsawpink.h`, which is the manual. The
 //! package `bandsawpink` makes safe calls of them.
 
+pub mod refusals;
+
 use std::mem::{offset_of, size_of, transmute};
 
 /// The awaited card of a rack that awaits none.

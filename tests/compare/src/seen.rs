@@ -1,14 +1,16 @@
 //! How often each refusal was answered, so that a comparison that never meets one is not taken for
 //! more than it is.
 
+use second::refusals::{NONE_AWAITED, OUTSIDE_LIMITS, RECOVERY_AWAITED, UNREADABLE_LINE, UNSOUND_RACK, WRONG_BUFFER};
 use std::fmt;
 
-/// Every refusal that shelfrun can answer. 1, 2, 11, 12 and 17 it cannot: its rack is formatted, it
-/// recovers in the line in which a card fails, and its buffers have the right length.
-const REACHABLE: [usize; 14] = [0, 3, 4, 5, 6, 7, 8, 9, 10, 13, 14, 15, 16, 18];
+/// What shelfrun cannot answer: its rack is formatted, it recovers in the line in which a card
+/// fails, and its buffers have the right length.
+const OUT_OF_REACH: [u32; 5] = [OUTSIDE_LIMITS, UNSOUND_RACK, RECOVERY_AWAITED, NONE_AWAITED, WRONG_BUFFER];
 
+/// Lines by number, 0 for accepted ones.
 #[derive(Default)]
-pub struct Seen([u64; 19]);
+pub struct Seen([u64; UNREADABLE_LINE as usize + 1]);
 
 impl Seen {
     /// Counts the answers of one output; the first line is the header.
@@ -22,14 +24,19 @@ impl Seen {
         }
     }
 
-    pub fn missing(&self) -> Option<usize> {
-        REACHABLE.into_iter().find(|&number| self.0[number] == 0)
+    /// The numbers that shelfrun can answer, each with how often it did.
+    fn counts(&self) -> impl Iterator<Item = (u32, u64)> + '_ {
+        (0..).zip(self.0).filter(|(number, _)| !OUT_OF_REACH.contains(number))
+    }
+
+    pub fn missing(&self) -> Option<u32> {
+        self.counts().find(|&(_, count)| count == 0).map(|(number, _)| number)
     }
 }
 
 impl fmt::Display for Seen {
     fn fmt(&self, f: &mut fmt::Formatter) -> fmt::Result {
-        let counts = REACHABLE.map(|number| format!("{number}: {}", self.0[number]));
+        let counts: Vec<String> = self.counts().map(|(number, count)| format!("{number}: {count}")).collect();
         f.write_str(&counts.join(", "))
     }
 }

@@ -46,12 +46,4 @@ impl Reply {
     pub fn accepted(&self) -> bool {
         matches!(self.answer, Answer::Given(_))
     }
-
-    /// 0, or the number of the refusal.
-    pub fn number(&self) -> usize {
-        match self.answer {
-            Answer::Given(_) => 0,
-            Answer::Refused(number, _) => number as usize,
-        }
-    }
 }

@@ -5,11 +5,12 @@ use crate::call::Call;
 use crate::library::words_of;
 use crate::lists;
 use crate::racks::Racks;
+use crate::seen::Seen;
 use random::Random;
 use second::{Directory, Status};
 
 /// The damaged rack of this number, and a few calls on it.
-pub fn compare(random: &mut Random, at: u64, seen: &mut [u64; 19]) -> Result<u64, String> {
+pub fn compare(random: &mut Random, at: u64, seen: &mut Seen) -> Result<u64, String> {
     let (cards, pages) = match at % 40 {
         0 => (8, 64),
         1 => (3, 1),
@@ -24,7 +25,7 @@ pub fn compare(random: &mut Random, at: u64, seen: &mut [u64; 19]) -> Result<u64
         let mark = random.odd_word();
         racks.disguise_mark(random.below(8) as usize, mark);
         let call = any_call(random, &racks);
-        seen[racks.call(&call)?.number()] += 1;
+        seen.count(&racks.call(&call)?);
     }
     Ok(calls.into())
 }

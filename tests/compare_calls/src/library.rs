@@ -2,13 +2,14 @@
 
 use crate::call::{Call, Reply};
 use crate::guard::{Access, Flush, Guarded};
+use bandsawpink_sys::refusals::ACCEPTED;
 use bandsawpink_sys::{self as sys, DIRECTORY_WORDS, RUNNING};
 use second::{Answer, Directory, Status};
 use std::mem::{offset_of, size_of};
 
 fn reply(number: u32, value: u64, beside: &[u32]) -> Reply {
     let answer = match number {
-        0 => Answer::Given(value),
+        ACCEPTED => Answer::Given(value),
         _ => Answer::Refused(number, value),
     };
     Reply { answer, beside: beside.to_vec() }

@@ -11,10 +11,12 @@ mod library;
 mod lists;
 mod play;
 mod racks;
+mod seen;
 mod sweep;
 
 use play::Play;
 use random::Random;
+use seen::Seen;
 use std::process::ExitCode;
 
 struct Options {
@@ -54,7 +56,7 @@ fn main() -> ExitCode {
 /// Half of the calls in lists on formatted racks, a third on damaged ones, the rest of the list maker; the sweep comes on
 /// top.
 fn compare(options: &Options) -> Result<String, String> {
-    let mut seen = [0; 19];
+    let mut seen = Seen::default();
     let mut random = Random::new(options.seed);
     let played = play_all(&mut random, options.calls / 2, &mut seen)?;
     let damaged = damage_all(&mut random, options.calls / 3, &mut seen)?;
@@ -62,21 +64,20 @@ fn compare(options: &Options) -> Result<String, String> {
     for _ in 0..made {
         lists::compare_makers(&mut random)?;
     }
-    // 18 is shelfrun's alone
-    if let Some(number) = (1..18).find(|&number| seen[number] == 0) {
+    if let Some(number) = seen.missing() {
         return Err(format!("no call was refused with {number}"));
     }
     let swept = sweep::compare()?;
     Ok(format!(
         "{swept} swept and {played} played with the book, {damaged} on damaged racks, {made} lists made, each flush left \
          and flush right: all equal (seed {})\n\
-         compare_calls: calls by refusal (0: accepted): {seen:?}",
+         compare_calls: calls by refusal (0: accepted): {seen}",
         options.seed
     ))
 }
 
 /// The greatest and the smallest rack always come first. Each play draws its own generator from the one of the seed.
-fn play_all(random: &mut Random, calls: u64, seen: &mut [u64; 19]) -> Result<u64, String> {
+fn play_all(random: &mut Random, calls: u64, seen: &mut Seen) -> Result<u64, String> {
     let mut played = 0;
     for at in 0.. {
         if played >= calls {
@@ -100,7 +101,7 @@ fn play_all(random: &mut Random, calls: u64, seen: &mut [u64; 19]) -> Result<u64
     Ok(played)
 }
 
-fn damage_all(random: &mut Random, calls: u64, seen: &mut [u64; 19]) -> Result<u64, String> {
+fn damage_all(random: &mut Random, calls: u64, seen: &mut Seen) -> Result<u64, String> {
     let mut damaged = 0;
     for at in 0.. {
         if damaged >= calls {

@@ -4,6 +4,7 @@
 use crate::call::Call;
 use crate::held::Held;
 use crate::lists;
+use crate::seen::Seen;
 use random::Random;
 use second::Status;
 
@@ -22,7 +23,7 @@ impl Play {
         Ok(Self { held, area, random })
     }
 
-    pub fn run(&mut self, calls: u32, seen: &mut [u64; 19]) -> Result<(), String> {
+    pub fn run(&mut self, calls: u32, seen: &mut Seen) -> Result<(), String> {
         for at in 0..calls {
             self.scramble();
             if self.random.one_in(10) {
@@ -31,7 +32,7 @@ impl Play {
             }
             let call = self.choose();
             let reply = self.held.call(&call).map_err(|error| format!("call {at}: {error}"))?;
-            seen[reply.number()] += 1;
+            seen.count(&reply);
         }
         Ok(())
     }

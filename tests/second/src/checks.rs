@@ -5,6 +5,7 @@ use crate::answer::Refusal;
 use crate::directory::{Directory, Status};
 use crate::layout::{area, memory_words, OPEN, OWN_STAMP, PAGE_WORDS, STEPS};
 use crate::list::{prices, read_handed_in, read_list};
+use crate::refusals::*;
 use crate::release::{all_steps, list_of, Release};
 
 type Checked = Result<(), Refusal>;
@@ -21,19 +22,19 @@ fn refuse_if(condition: bool, number: u32) -> Checked {
 
 /// Formatting: 1.
 pub fn formatting(memory: &[u32], cards: u32, pages: u32) -> Checked {
-    refuse_if(memory_words(cards, pages) != Some(memory.len()), 1)
+    refuse_if(memory_words(cards, pages) != Some(memory.len()), OUTSIDE_LIMITS)
 }
 
 /// Opening a release: 1, 2, 11, 3, 4, 5, 6, 7, 8.
 pub fn opening(memory: &[u32], directory: &Directory, card: u32, number: u32, list: &[u32]) -> Checked {
     running(memory, directory)?;
-    refuse_if(!directory.is_live(card), 3)?;
+    refuse_if(!directory.is_live(card), NO_SUCH_CARD)?;
     let own = area(memory, directory.pages, card);
-    refuse_if(Release::read(own).is_some(), 4)?;
+    refuse_if(Release::read(own).is_some(), RELEASE_OPEN)?;
     release_number(own[OWN_STAMP], number)?;
-    read_handed_in(list, directory.pages).map_err(|place| Refusal::at(7, place as u64))?;
+    read_handed_in(list, directory.pages).map_err(|place| Refusal::at(FAULTY_LIST, place as u64))?;
     match sharing_card(memory, directory, card, list) {
-        Some(other) => Err(Refusal::at(8, u64::from(other))),
+        Some(other) => Err(Refusal::at(WORD_IN_OTHER_RELEASE, u64::from(other))),
         None => Ok(()),
     }
 }
@@ -41,31 +42,31 @@ pub fn opening(memory: &[u32], directory: &Directory, card: u32, number: u32, li
 /// A single step: 1, 2, 11, 3, 16.
 pub fn step(memory: &[u32], directory: &Directory, card: u32) -> Checked {
     running(memory, directory)?;
-    refuse_if(!directory.is_live(card), 3)?;
-    refuse_if(Release::read(area(memory, directory.pages, card)).is_none(), 16)
+    refuse_if(!directory.is_live(card), NO_SUCH_CARD)?;
+    refuse_if(Release::read(area(memory, directory.pages, card)).is_none(), NO_RELEASE_OPEN)
 }
 
 /// A fetch: 1, 2, 11, 9, 10, 17.
 pub fn fetch(memory: &[u32], directory: &Directory, page: u32, buffer: &[u32]) -> Checked {
     running(memory, directory)?;
-    refuse_if(page >= directory.pages, 9)?;
+    refuse_if(page >= directory.pages, NO_SUCH_PAGE)?;
     if let Some(card) = counting_card(memory, directory, page) {
-        return Err(Refusal::at(10, u64::from(card)));
+        return Err(Refusal::at(PAGE_IN_COUNTING_RELEASE, u64::from(card)));
     }
-    refuse_if(buffer.len() != PAGE_WORDS, 17)
+    refuse_if(buffer.len() != PAGE_WORDS, WRONG_BUFFER)
 }
 
 /// A fetch of all pages: 1, 2, 11, 17.
 pub fn fetch_of_all(memory: &[u32], directory: &Directory, buffer: &[u32]) -> Checked {
     running(memory, directory)?;
-    refuse_if(buffer.len() != PAGE_WORDS * directory.pages as usize, 17)
+    refuse_if(buffer.len() != PAGE_WORDS * directory.pages as usize, WRONG_BUFFER)
 }
 
 /// A failure: 1, 2, 11, 3, 13.
 pub fn failure(memory: &[u32], directory: &Directory, card: u32) -> Checked {
     running(memory, directory)?;
-    refuse_if(!directory.is_live(card), 3)?;
-    refuse_if(directory.live_cards().count() == 2, 13)
+    refuse_if(!directory.is_live(card), NO_SUCH_CARD)?;
+    refuse_if(directory.live_cards().count() == 2, TWO_LIVE)
 }
 
 /// Recovery: 1, 2, 12. Gives the awaited card.
@@ -73,28 +74,28 @@ pub fn recovery(memory: &[u32], directory: &Directory) -> Result<u32, Refusal> {
     rack(memory, directory)?;
     match directory.status {
         Status::Awaiting(card) => Ok(card),
-        Status::Running => Err(Refusal::plain(12)),
+        Status::Running => Err(Refusal::plain(NONE_AWAITED)),
     }
 }
 
 /// A join: 1, 2, 11, 3, 14, 15.
 pub fn joining(memory: &[u32], directory: &Directory, card: u32) -> Checked {
     running(memory, directory)?;
-    refuse_if(card >= directory.cards, 3)?;
-    refuse_if(directory.is_live(card), 14)?;
-    refuse_if(open_releases(memory, directory).next().is_some(), 15)
+    refuse_if(card >= directory.cards, NO_SUCH_CARD)?;
+    refuse_if(directory.is_live(card), JOINING_LIVE_CARD)?;
+    refuse_if(open_releases(memory, directory).next().is_some(), JOINING_WITH_RELEASE_OPEN)
 }
 
 /// A desk question: 1, 2, 11, 3.
 pub fn desk_question(memory: &[u32], directory: &Directory, card: u32) -> Checked {
     running(memory, directory)?;
-    refuse_if(card >= directory.cards, 3)
+    refuse_if(card >= directory.cards, NO_SUCH_CARD)
 }
 
 /// Refusals 1, 2 and 11.
 fn running(memory: &[u32], directory: &Directory) -> Checked {
     rack(memory, directory)?;
-    refuse_if(directory.status != Status::Running, 11)
+    refuse_if(directory.status != Status::Running, RECOVERY_AWAITED)
 }
 
 /// Refusals 1 and 2. What comes after them may rely on the lengths, the homes
@@ -105,7 +106,7 @@ fn rack(memory: &[u32], directory: &Directory) -> Checked {
         && awaited_is_sound(directory)
         && (0..directory.pages).all(|page| homes_are_sound(directory, page))
         && directory.live_cards().all(|card| release_is_sound(area(memory, directory.pages, card), directory.pages));
-    refuse_if(!sound, 2)
+    refuse_if(!sound, UNSOUND_RACK)
 }
 
 /// Not "an awaited card that is live or does not exist".
@@ -142,9 +143,9 @@ fn release_is_sound(area: &[u32], pages: u32) -> bool {
 /// Refusals 5 and 6.
 fn release_number(stamp: u32, number: u32) -> Checked {
     if number <= stamp {
-        return Err(Refusal::at(5, u64::from(stamp)));
+        return Err(Refusal::at(NUMBER_TOO_LOW, u64::from(stamp)));
     }
-    refuse_if(number - stamp > 1, 6)
+    refuse_if(number - stamp > 1, NUMBER_TOO_HIGH)
 }
 
 /// The releases open on live cards, ascending.

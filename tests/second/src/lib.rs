@@ -19,6 +19,7 @@ mod layout;
 mod list;
 mod record;
 mod recovery;
+pub mod refusals;
 mod release;
 mod shelfrun;
 

@@ -3,6 +3,7 @@
 
 use crate::answer::Answer;
 use crate::layout::{LIST_WORDS, PAGE_LIMITS, PAGE_WORDS};
+use crate::refusals::{FAULTY_LIST, OUTSIDE_LIMITS, WRONG_BUFFER};
 
 const PAGE: u32 = 1;
 const RUN: u32 = 2;
@@ -133,7 +134,7 @@ pub fn read_handed_in(list: &[u32], pages: u32) -> Result<Extent, usize> {
 pub fn check_list(list: &[u32], pages: u32) -> Answer {
     match read_handed_in(list, pages) {
         Ok(extent) => Answer::Given(u64::from(extent.prices)),
-        Err(place) => Answer::Refused(7, place as u64),
+        Err(place) => Answer::Refused(FAULTY_LIST, place as u64),
     }
 }
 
@@ -201,12 +202,12 @@ pub fn one_price(page: u32, word: u32, price: u32) -> [u32; 4] {
 /// past its end in the buffer are kept.
 pub fn make_list(working: &[u32], twins: &[u32], buffer: &mut [u32]) -> Answer {
     if working.len() != twins.len() || !are_whole_pages(working.len()) {
-        return Answer::Refused(1, 0);
+        return Answer::Refused(OUTSIDE_LIMITS, 0);
     }
     let list = changes(working, twins);
     let longest = LIST_WORDS - usize::from(cfg!(feature = "wrong_maker"));
     if list.len() > longest || list.len() > buffer.len() {
-        return Answer::Refused(17, 0);
+        return Answer::Refused(WRONG_BUFFER, 0);
     }
     buffer[..list.len()].copy_from_slice(&list);
     Answer::Given(list.len() as u64)

@@ -7,6 +7,7 @@ use crate::by_value::{fail_card, fetch_page, format_rack, join_card, make_steps,
 use crate::directory::Directory;
 use crate::layout::{DESK_WORDS, PAGE_WORDS};
 use crate::list::one_price;
+use crate::refusals::UNREADABLE_LINE;
 
 const CARDS: u32 = 3;
 const PAGES: u32 = 4;
@@ -162,7 +163,7 @@ impl Rack {
 
     fn run(&mut self, line: &[u8]) -> Report {
         match Command::read(line) {
-            None => ('-', 18, 0),
+            None => ('-', UNREADABLE_LINE, 0),
             Some(Command::Open { card, number, page, word, price }) => {
                 report('B', self.open(card, number, &one_price(page, word, price)))
             }

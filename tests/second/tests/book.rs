@@ -8,6 +8,7 @@ mod common;
 use common::play::{Play, Tally};
 use common::{list_of, Change};
 use second::book::{Book, Call};
+use second::refusals::{NO_SUCH_CARD, UNREADABLE_LINE};
 
 fn add(sum: &mut Tally, tally: &Tally) {
     sum.accepted.iter_mut().zip(tally.accepted).for_each(|(sum, count)| *sum += count);
@@ -30,7 +31,7 @@ fn random_calls_agree_with_the_book() {
     // The lists reach every call, every refusal but 1, 2 and 18, and every
     // standing of the failed card.
     assert!(sum.accepted.iter().all(|count| *count > 1_000), "{sum:?}");
-    assert!((3..18).all(|number| sum.refused[number] > 20), "{sum:?}");
+    assert!((NO_SUCH_CARD..UNREADABLE_LINE).all(|number| sum.refused[number as usize] > 20), "{sum:?}");
     assert!(sum.recovered.iter().all(|count| *count > 300) && sum.closed > 1_000, "{sum:?}");
 }
 

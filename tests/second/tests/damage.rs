@@ -5,6 +5,7 @@ mod common;
 
 use common::{list_of, random_changes, Rack, OK};
 use random::Random;
+use second::refusals::{OUTSIDE_LIMITS, PAGE_IN_COUNTING_RELEASE};
 use second::*;
 
 /// A rack that calls have led to, with releases open, cards dead or awaited.
@@ -169,7 +170,7 @@ fn fetch_of_all_pages(rack: &Rack) {
         assert_eq!(words, expected);
         match single {
             Answer::Given(_) => assert!(answer == OK && shown[page as usize]),
-            Answer::Refused(10, _) => assert!(answer == OK && !shown[page as usize]),
+            Answer::Refused(PAGE_IN_COUNTING_RELEASE, _) => assert!(answer == OK && !shown[page as usize]),
             refused => assert_eq!((answer, shown), (refused, [false; 64])),
         }
     }
@@ -236,7 +237,7 @@ fn formatting_on_anything() {
                 if fits {
                     formatted(&directory, cards, pages);
                 } else {
-                    assert_eq!(answer, Answer::Refused(1, 0));
+                    assert_eq!(answer, Answer::Refused(OUTSIDE_LIMITS, 0));
                     assert_eq!((directory.cards, directory.pages), (0, 0));
                     assert_eq!(directory.live, [false; 8]);
                     assert_eq!((directory.primary, directory.secondary), ([0; 64], [0; 64]));

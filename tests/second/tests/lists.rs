@@ -4,6 +4,7 @@ mod common;
 
 use common::{list_of, random_changes, refused, refused_at};
 use random::Random;
+use second::refusals::{FAULTY_LIST, OUTSIDE_LIMITS, WRONG_BUFFER};
 use second::*;
 
 const P: u32 = 0x1000_0000;
@@ -65,7 +66,7 @@ fn faulty_lists_and_their_places() {
         (&[], 0),
     ];
     for (list, place) in faulty {
-        assert_eq!(check_list(list, 4), refused_at(7, place), "{list:x?}");
+        assert_eq!(check_list(list, 4), refused_at(FAULTY_LIST, place), "{list:x?}");
     }
 }
 
@@ -95,18 +96,18 @@ fn at_most_512_words() {
     assert_eq!(check_list(&whole, 64), Answer::Given(479));
     // No end word in 512, a word after it, and more than that.
     list.push(P | 16);
-    assert_eq!(check_list(&list, 64), refused_at(7, 512));
-    assert_eq!(check_list(&[&whole[..], &[0]].concat(), 64), refused_at(7, 512));
-    assert_eq!(check_list(&[&whole[..], &[0; 100]].concat(), 64), refused_at(7, 512));
+    assert_eq!(check_list(&list, 64), refused_at(FAULTY_LIST, 512));
+    assert_eq!(check_list(&[&whole[..], &[0]].concat(), 64), refused_at(FAULTY_LIST, 512));
+    assert_eq!(check_list(&[&whole[..], &[0; 100]].concat(), 64), refused_at(FAULTY_LIST, 512));
     assert_eq!(check_list(&ended(full_pages(15)), 64), Answer::Given(480));
-    assert_eq!(check_list(&ended(full_pages(16)), 64), refused_at(7, 512));
+    assert_eq!(check_list(&ended(full_pages(16)), 64), refused_at(FAULTY_LIST, 512));
     // A fault before comes first, one after does not count.
     let mut early = ended(full_pages(16));
     early[34] = 0;
-    assert_eq!(check_list(&early, 64), refused_at(7, 34));
+    assert_eq!(check_list(&early, 64), refused_at(FAULTY_LIST, 34));
     let mut late = full_pages(40);
     late[34 * 20] = 0;
-    assert_eq!(check_list(&late, 64), refused_at(7, 512));
+    assert_eq!(check_list(&late, 64), refused_at(FAULTY_LIST, 512));
 }
 
 /// The place of the first fault, found another way: each word that is no price
@@ -173,7 +174,7 @@ fn places_found_another_way() {
         match check_list(&list, pages) {
             Answer::Given(_) => assert_eq!(place, None, "{list:x?}"),
             Answer::Refused(number, at) => {
-                assert_eq!((number, Some(at as usize)), (7, place), "{list:x?}")
+                assert_eq!((number, Some(at as usize)), (FAULTY_LIST, place), "{list:x?}")
             }
         }
     }
@@ -201,7 +202,7 @@ fn the_made_list_turns_twins_into_working_pages() {
         let answer = make_list(&working, &twins, &mut buffer);
         if list.len() > 512 {
             too_long += 1;
-            assert_eq!(answer, refused(17));
+            assert_eq!(answer, refused(WRONG_BUFFER));
             assert_eq!(buffer, vec![77; 600]);
             continue;
         }
@@ -217,18 +218,18 @@ fn the_made_list_turns_twins_into_working_pages() {
 fn refusals_of_the_list_maker() {
     let page = [1; 32];
     let mut buffer = [7; 4];
-    assert_eq!(make_list(&page, &[1; 64], &mut buffer), refused(1));
-    assert_eq!(make_list(&[], &[], &mut buffer), refused(1));
-    assert_eq!(make_list(&[1; 31], &[1; 31], &mut buffer), refused(1));
-    assert_eq!(make_list(&[1; 33], &[1; 33], &mut buffer), refused(1));
-    assert_eq!(make_list(&[1; 65 * 32], &[1; 65 * 32], &mut buffer), refused(1));
+    assert_eq!(make_list(&page, &[1; 64], &mut buffer), refused(OUTSIDE_LIMITS));
+    assert_eq!(make_list(&[], &[], &mut buffer), refused(OUTSIDE_LIMITS));
+    assert_eq!(make_list(&[1; 31], &[1; 31], &mut buffer), refused(OUTSIDE_LIMITS));
+    assert_eq!(make_list(&[1; 33], &[1; 33], &mut buffer), refused(OUTSIDE_LIMITS));
+    assert_eq!(make_list(&[1; 65 * 32], &[1; 65 * 32], &mut buffer), refused(OUTSIDE_LIMITS));
     assert_eq!(make_list(&[1; 64 * 32], &[1; 64 * 32], &mut buffer), Answer::Given(1));
     assert_eq!(buffer, [E, 7, 7, 7]);
     let mut changed = page;
     changed[0] = 2;
-    assert_eq!(make_list(&changed, &page, &mut buffer[..3]), refused(17));
+    assert_eq!(make_list(&changed, &page, &mut buffer[..3]), refused(WRONG_BUFFER));
     assert_eq!(buffer, [E, 7, 7, 7]);
     assert_eq!(make_list(&changed, &page, &mut buffer), Answer::Given(4));
     assert_eq!(buffer, [P, run(0, 1), 2, E | 3]);
-    assert_eq!(make_list(&page, &page, &mut []), refused(17));
+    assert_eq!(make_list(&page, &page, &mut []), refused(WRONG_BUFFER));
 }

@@ -1,4 +1,5 @@
-//! Each refusal, its place, and the order of the checks.
+//! Each refusal, with the number of document 01, its place, and the order of the
+//! checks.
 
 mod common;
 

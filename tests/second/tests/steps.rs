@@ -4,6 +4,7 @@ mod common;
 
 use common::{list_of, random_changes, refused, Change, Rack, OK};
 use random::Random;
+use second::refusals::NO_RELEASE_OPEN;
 use second::*;
 
 /// The stores of a release in order, but for the close: card, word of its area,
@@ -105,7 +106,7 @@ fn release_word_by_word(rack: &mut Rack, card: u32, number: u32, desk: [u32; 8],
         expected.set(card, word, 0);
     }
     assert!(*rack == expected, "close");
-    assert_eq!(rack.step(card), refused(16));
+    assert_eq!(rack.step(card), refused(NO_RELEASE_OPEN));
 }
 
 /// Four cards and four pages. Card 0 stands at step 3 of a release on page 0,

@@ -3,13 +3,14 @@
 use super::{list_of, random_changes, Change, Rack};
 use random::Random;
 use second::book::{Book, Call};
+use second::refusals::*;
 use second::{check_list, fetch_all, Answer, Status};
 
 /// How often each call was accepted, and each number refused.
 #[derive(Default, Debug)]
 pub struct Tally {
     pub accepted: [u32; 7],
-    pub refused: [u32; 19],
+    pub refused: [u32; UNREADABLE_LINE as usize + 1],
     /// Recoveries by where the failed card's release stood: none open, before
     /// its stamp, after it.
     pub recovered: [u32; 3],
@@ -102,7 +103,7 @@ impl Play {
         let mut buffer = vec![3; 32 * pages as usize];
         let (_, answer, shown) = fetch_all(&self.rack.memory, self.rack.directory, &mut buffer);
         if self.awaited.is_some() {
-            return hold(answer == Answer::Refused(11, 0), || "shown while awaiting".into());
+            return hold(answer == Answer::Refused(RECOVERY_AWAITED, 0), || "shown while awaiting".into());
         }
         for (page, words) in (0..pages).zip(buffer.chunks(32)) {
             let hidden = self.counting_card(page).is_some();
@@ -135,22 +136,24 @@ impl Play {
         let live = |card: u32| known(card) && self.live[card as usize];
         if let Call::Recover = call {
             return match self.awaited {
-                None => refused(12),
+                None => refused(NONE_AWAITED),
                 Some(_) => Answer::Given(self.last_of_awaited().into()),
             };
         }
         if self.awaited.is_some() {
-            return refused(11);
+            return refused(RECOVERY_AWAITED);
         }
         match call {
-            Call::Open { card, .. } | Call::Step { card } | Call::Fail { card } if !live(*card) => refused(3),
-            Call::Join { card } | Call::AskDesk { card } if !known(*card) => refused(3),
+            Call::Open { card, .. } | Call::Step { card } | Call::Fail { card } if !live(*card) => {
+                refused(NO_SUCH_CARD)
+            }
+            Call::Join { card } | Call::AskDesk { card } if !known(*card) => refused(NO_SUCH_CARD),
             Call::Open { card, number, list, .. } => self.expected_opening(*card, *number, list),
-            Call::Step { card } if self.open[*card as usize].is_none() => refused(16),
+            Call::Step { card } if self.open[*card as usize].is_none() => refused(NO_RELEASE_OPEN),
             Call::Fetch { page } => self.expected_fetch(*page, buffer_words),
-            Call::Fail { .. } if self.live.iter().filter(|live| **live).count() == 2 => refused(13),
-            Call::Join { card } if live(*card) => refused(14),
-            Call::Join { .. } if self.open.iter().any(Option::is_some) => refused(15),
+            Call::Fail { .. } if self.live.iter().filter(|live| **live).count() == 2 => refused(TWO_LIVE),
+            Call::Join { card } if live(*card) => refused(JOINING_LIVE_CARD),
+            Call::Join { .. } if self.open.iter().any(Option::is_some) => refused(JOINING_WITH_RELEASE_OPEN),
             _ => Answer::Given(0),
         }
     }
@@ -164,13 +167,13 @@ impl Play {
     fn expected_opening(&self, card: u32, number: u32, list: &[u32]) -> Answer {
         let (last, _) = self.book.last(card);
         if self.open[card as usize].is_some() {
-            return Answer::Refused(4, 0);
+            return Answer::Refused(RELEASE_OPEN, 0);
         }
         if number <= last {
-            return Answer::Refused(5, last.into());
+            return Answer::Refused(NUMBER_TOO_LOW, last.into());
         }
         if number - last > 1 {
-            return Answer::Refused(6, 0);
+            return Answer::Refused(NUMBER_TOO_HIGH, 0);
         }
         if let refused @ Answer::Refused(..) = check_list(list, self.rack.directory.pages) {
             return refused;
@@ -178,18 +181,18 @@ impl Play {
         let mine = changes_of(list);
         let shares = |open: &Open| open.changes.iter().any(|a| mine.iter().any(|b| (a.0, a.1) == (b.0, b.1)));
         match self.open.iter().position(|open| open.as_ref().is_some_and(shares)) {
-            Some(other) => Answer::Refused(8, other as u64),
+            Some(other) => Answer::Refused(WORD_IN_OTHER_RELEASE, other as u64),
             None => Answer::Given(0),
         }
     }
 
     fn expected_fetch(&self, page: u32, buffer_words: usize) -> Answer {
         if page >= self.rack.directory.pages {
-            return Answer::Refused(9, 0);
+            return Answer::Refused(NO_SUCH_PAGE, 0);
         }
         match self.counting_card(page) {
-            Some(card) => Answer::Refused(10, card as u64),
-            None if buffer_words != 32 => Answer::Refused(17, 0),
+            Some(card) => Answer::Refused(PAGE_IN_COUNTING_RELEASE, card as u64),
+            None if buffer_words != 32 => Answer::Refused(WRONG_BUFFER, 0),
             None => Answer::Given(0),
         }
     }
