@@ -1,7 +1,7 @@
 //! The book of demand 3 ("The book of demand 3"). It sees neither memory nor
 //! directory: it is fed the calls and whether they were accepted.
 
-use crate::layout::{Desk, DESK_WORDS, MOST_CARDS, MOST_PAGES, PAGE_WORDS};
+use crate::layout::{Desk, Number, DESK_WORDS, MOST_CARDS, MOST_PAGES, PAGE_WORDS};
 use crate::list::prices;
 use crate::release::{all_steps, counting_steps};
 
@@ -9,7 +9,7 @@ use crate::release::{all_steps, counting_steps};
 /// list.
 #[derive(Clone, PartialEq, Eq, Debug)]
 pub enum Call {
-    Open { card: u32, number: u32, desk: [u32; 8], list: Vec<u32> },
+    Open { card: u32, number: Number, desk: Desk, list: Vec<u32> },
     Step { card: u32 },
     Fetch { page: u32 },
     Fail { card: u32 },
@@ -21,7 +21,7 @@ pub enum Call {
 /// An open release: number, desk, list and steps.
 #[derive(Clone, Debug)]
 struct Open {
-    number: u32,
+    number: Number,
     desk: Desk,
     list: Vec<u32>,
     steps: u32,
@@ -37,7 +37,7 @@ impl Open {
 /// What the book holds of one card.
 #[derive(Clone, Debug, Default)]
 struct Card {
-    number: u32,
+    number: Number,
     desk: Desk,
     open: Option<Open>,
 }
@@ -83,12 +83,12 @@ impl Book {
     }
 
     /// The 32 prices of a page.
-    pub fn page(&self, page: u32) -> [u32; 32] {
+    pub fn page(&self, page: u32) -> [u32; PAGE_WORDS] {
         self.pages.get(page as usize).copied().unwrap_or([0; PAGE_WORDS])
     }
 
     /// The last number and desk of a card.
-    pub fn last(&self, card: u32) -> (u32, [u32; 8]) {
+    pub fn last(&self, card: u32) -> (Number, Desk) {
         let card = self.cards.get(card as usize);
         card.map_or((0, [0; DESK_WORDS]), |card| (card.number, card.desk))
     }

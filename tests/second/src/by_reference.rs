@@ -4,6 +4,7 @@
 use crate::answer::Answer;
 use crate::calls;
 use crate::directory::Directory;
+use crate::layout::{Desk, Number, MOST_PAGES};
 
 #[inline(never)]
 pub fn format_rack(memory: &mut [u32], cards: u32, pages: u32, directory: &mut Directory) -> Answer {
@@ -15,8 +16,8 @@ pub fn open_release(
     memory: &mut [u32],
     directory: &Directory,
     card: u32,
-    number: u32,
-    desk: &[u32; 8],
+    number: Number,
+    desk: &Desk,
     list: &[u32],
 ) -> Answer {
     calls::open_release(memory, directory, card, number, desk, list)
@@ -38,7 +39,7 @@ pub fn fetch_page(memory: &[u32], directory: &Directory, page: u32, buffer: &mut
 }
 
 #[inline(never)]
-pub fn fetch_all(memory: &[u32], directory: &Directory, buffer: &mut [u32]) -> (Answer, [bool; 64]) {
+pub fn fetch_all(memory: &[u32], directory: &Directory, buffer: &mut [u32]) -> (Answer, [bool; MOST_PAGES]) {
     calls::fetch_all(memory, directory, buffer)
 }
 
@@ -48,7 +49,7 @@ pub fn fail_card(memory: &[u32], directory: &mut Directory, card: u32) -> Answer
 }
 
 #[inline(never)]
-pub fn recover(memory: &mut [u32], directory: &mut Directory) -> (Answer, [u32; 8]) {
+pub fn recover(memory: &mut [u32], directory: &mut Directory) -> (Answer, Desk) {
     calls::recover(memory, directory)
 }
 
@@ -58,6 +59,6 @@ pub fn join_card(memory: &mut [u32], directory: &mut Directory, card: u32) -> An
 }
 
 #[inline(never)]
-pub fn ask_desk(memory: &[u32], directory: &Directory, card: u32) -> (Answer, [u32; 8]) {
+pub fn ask_desk(memory: &[u32], directory: &Directory, card: u32) -> (Answer, Desk) {
     calls::ask_desk(memory, directory, card)
 }

@@ -4,6 +4,7 @@
 use crate::answer::Answer;
 use crate::calls;
 use crate::directory::Directory;
+use crate::layout::{Desk, Number, MOST_PAGES};
 
 #[inline(never)]
 pub fn format_rack(memory: &mut [u32], cards: u32, pages: u32) -> (Directory, Answer) {
@@ -17,8 +18,8 @@ pub fn open_release(
     memory: &mut [u32],
     directory: Directory,
     card: u32,
-    number: u32,
-    desk: [u32; 8],
+    number: Number,
+    desk: Desk,
     list: &[u32],
 ) -> (Directory, Answer) {
     let answer = calls::open_release(memory, &directory, card, number, &desk, list);
@@ -44,7 +45,7 @@ pub fn fetch_page(memory: &[u32], directory: Directory, page: u32, buffer: &mut 
 }
 
 #[inline(never)]
-pub fn fetch_all(memory: &[u32], directory: Directory, buffer: &mut [u32]) -> (Directory, Answer, [bool; 64]) {
+pub fn fetch_all(memory: &[u32], directory: Directory, buffer: &mut [u32]) -> (Directory, Answer, [bool; MOST_PAGES]) {
     let (answer, shown) = calls::fetch_all(memory, &directory, buffer);
     (directory, answer, shown)
 }
@@ -56,7 +57,7 @@ pub fn fail_card(memory: &[u32], mut directory: Directory, card: u32) -> (Direct
 }
 
 #[inline(never)]
-pub fn recover(memory: &mut [u32], mut directory: Directory) -> (Directory, Answer, [u32; 8]) {
+pub fn recover(memory: &mut [u32], mut directory: Directory) -> (Directory, Answer, Desk) {
     let (answer, desk) = calls::recover(memory, &mut directory);
     (directory, answer, desk)
 }
@@ -68,7 +69,7 @@ pub fn join_card(memory: &mut [u32], mut directory: Directory, card: u32) -> (Di
 }
 
 #[inline(never)]
-pub fn ask_desk(memory: &[u32], directory: Directory, card: u32) -> (Directory, Answer, [u32; 8]) {
+pub fn ask_desk(memory: &[u32], directory: Directory, card: u32) -> (Directory, Answer, Desk) {
     let (answer, desk) = calls::ask_desk(memory, &directory, card);
     (directory, answer, desk)
 }

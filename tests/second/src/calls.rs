@@ -5,7 +5,9 @@
 use crate::answer::Answer;
 use crate::checks;
 use crate::directory::{Directory, Status};
-use crate::layout::{area, area_mut, committed_at, desk_at, Desk, DESK_WORDS, MOST_PAGES, OWN_DESK, PAGE_WORDS};
+use crate::layout::{
+    area, area_mut, committed_at, desk_at, Desk, Number, DESK_WORDS, MOST_PAGES, OWN_DESK, PAGE_WORDS,
+};
 use crate::record::Record;
 use crate::recovery;
 use crate::release;
@@ -31,7 +33,7 @@ pub fn open_release(
     memory: &mut [u32],
     directory: &Directory,
     card: u32,
-    number: u32,
+    number: Number,
     desk: &Desk,
     list: &[u32],
 ) -> Answer {
@@ -78,7 +80,7 @@ pub fn fetch_page(memory: &[u32], directory: &Directory, page: u32, buffer: &mut
 /// Fetches every page into one buffer and marks the pages shown. The words of a
 /// page that a single fetch refuses with 10 are kept.
 #[inline(always)]
-pub fn fetch_all(memory: &[u32], directory: &Directory, buffer: &mut [u32]) -> (Answer, [bool; 64]) {
+pub fn fetch_all(memory: &[u32], directory: &Directory, buffer: &mut [u32]) -> (Answer, [bool; MOST_PAGES]) {
     let mut shown = [false; MOST_PAGES];
     if let Err(refusal) = checks::fetch_of_all(memory, directory, buffer) {
         return (refusal.into(), shown);

@@ -3,7 +3,7 @@
 
 use crate::answer::Refusal;
 use crate::directory::{Directory, Status};
-use crate::layout::{area, memory_words, OPEN, OWN_STAMP, PAGE_WORDS, STEPS};
+use crate::layout::{area, memory_words, number_at, Number, OPEN, OWN_STAMP, PAGE_WORDS, STEPS};
 use crate::list::{prices, read_handed_in, read_list};
 use crate::refusals::*;
 use crate::release::{all_steps, list_of, Release};
@@ -26,12 +26,12 @@ pub fn formatting(memory: &[u32], cards: u32, pages: u32) -> Checked {
 }
 
 /// Opening a release: 1, 2, 11, 3, 4, 5, 6, 7, 8.
-pub fn opening(memory: &[u32], directory: &Directory, card: u32, number: u32, list: &[u32]) -> Checked {
+pub fn opening(memory: &[u32], directory: &Directory, card: u32, number: Number, list: &[u32]) -> Checked {
     running(memory, directory)?;
     refuse_if(!directory.is_live(card), NO_SUCH_CARD)?;
     let own = area(memory, directory.pages, card);
     refuse_if(Release::read(own).is_some(), RELEASE_OPEN)?;
-    release_number(own[OWN_STAMP], number)?;
+    release_number(number_at(own, OWN_STAMP), number)?;
     read_handed_in(list, directory.pages).map_err(|place| Refusal::at(FAULTY_LIST, place as u64))?;
     match sharing_card(memory, directory, card, list) {
         Some(other) => Err(Refusal::at(WORD_IN_OTHER_RELEASE, u64::from(other))),
@@ -141,7 +141,7 @@ fn release_is_sound(area: &[u32], pages: u32) -> bool {
 }
 
 /// Refusals 5 and 6.
-fn release_number(stamp: u32, number: u32) -> Checked {
+fn release_number(stamp: Number, number: Number) -> Checked {
     if number <= stamp {
         return Err(Refusal::at(NUMBER_TOO_LOW, u64::from(stamp)));
     }

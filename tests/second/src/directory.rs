@@ -15,9 +15,9 @@ pub enum Status {
 pub struct Directory {
     pub cards: u32,
     pub pages: u32,
-    pub live: [bool; 8],
-    pub primary: [u32; 64],
-    pub secondary: [u32; 64],
+    pub live: [bool; MOST_CARDS],
+    pub primary: [u32; MOST_PAGES],
+    pub secondary: [u32; MOST_PAGES],
     pub status: Status,
 }
 

@@ -1,6 +1,7 @@
-//! The lent memory and the words of one card's area ("Cards, pages, memory").
+//! The lent memory and the words of one card's area ("Cards, pages, memory"). Where a
+//! thing stands there, and how many words it takes, is said in this file alone.
 
-use std::ops::RangeInclusive;
+use std::ops::{Range, RangeInclusive};
 
 pub const CARD_LIMITS: RangeInclusive<u32> = 3..=8;
 pub const PAGE_LIMITS: RangeInclusive<u32> = 1..=64;
@@ -11,7 +12,6 @@ pub const MOST_PAGES: usize = 64;
 
 pub const PAGE_WORDS: usize = 32;
 pub const DESK_WORDS: usize = 8;
-pub const RECORD_WORDS: usize = 18;
 /// The most words of a list ("At most 512 words in all").
 pub const LIST_WORDS: usize = 512;
 
@@ -26,10 +26,23 @@ pub const RECORDS: usize = 20;
 pub const LIST: usize = 164;
 pub const PAGES: usize = 676;
 
+// A card's record: "stamp, done mark, even desk, odd desk".
+pub const STAMP: usize = 0;
+pub const DONE_MARK: usize = 1;
+pub const EVEN_DESK: usize = 2;
+pub const ODD_DESK: usize = 10;
+pub const RECORD_WORDS: usize = 18;
+
+/// The words of a card's open release: what stands before the records, and the list.
+pub const RELEASE: [Range<usize>; 2] = [OPEN..RECORDS, LIST..PAGES];
+
 pub type Desk = [u32; DESK_WORDS];
 
+/// A release's number; a stamp and a done mark are such numbers.
+pub type Number = u32;
+
 /// An area is 676 + 64 × pages words.
-fn area_words(pages: u32) -> usize {
+pub const fn area_words(pages: u32) -> usize {
     PAGES + 2 * PAGE_WORDS * pages as usize
 }
 
@@ -57,6 +70,23 @@ pub fn record_at(card: u32) -> usize {
     RECORDS + RECORD_WORDS * card as usize
 }
 
+/// Where an area holds the stamp of a card's record.
+pub fn stamp_at(card: u32) -> usize {
+    record_at(card) + STAMP
+}
+
+/// Where an area holds the done mark of a card's record.
+pub fn done_mark_at(card: u32) -> usize {
+    record_at(card) + DONE_MARK
+}
+
+/// Where an area holds the desk of a card's record for a release's number:
+/// "even desk if the number is even, else odd".
+pub fn desk_of_number_at(card: u32, number: Number) -> usize {
+    let desk = if number.is_multiple_of(2) { EVEN_DESK } else { ODD_DESK };
+    record_at(card) + desk
+}
+
 /// Where an area holds a page's tentative words: 676 + 64p.
 pub fn tentative_at(page: u32) -> usize {
     PAGES + 2 * PAGE_WORDS * page as usize
@@ -65,6 +95,20 @@ pub fn tentative_at(page: u32) -> usize {
 /// Where an area holds a page's committed words, after the tentative ones.
 pub fn committed_at(page: u32) -> usize {
     tentative_at(page) + PAGE_WORDS
+}
+
+/// The number that starts at a word of an area.
+pub fn number_at(area: &[u32], at: usize) -> Number {
+    area[at]
+}
+
+pub fn put_number(area: &mut [u32], at: usize, number: Number) {
+    area[at] = number;
+}
+
+/// A card's own stamp, `None` where the memory ends before it.
+pub fn own_stamp(memory: &[u32], pages: u32, card: u32) -> Option<Number> {
+    memory.get(area_at(pages, card) + OWN_STAMP).copied()
 }
 
 /// The eight desk words that start at a word of an area.

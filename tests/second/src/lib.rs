@@ -15,7 +15,7 @@ mod by_value;
 mod calls;
 mod checks;
 mod directory;
-mod layout;
+pub mod layout;
 mod list;
 mod record;
 mod recovery;
@@ -28,6 +28,5 @@ pub use by_value::{
     ask_desk, fail_card, fetch_all, fetch_page, format_rack, join_card, make_step, make_steps, open_release, recover,
 };
 pub use directory::{Directory, Status};
-pub use layout::memory_words;
 pub use list::{check_list, make_list};
 pub use shelfrun::shelfrun;

@@ -2,8 +2,8 @@
 
 use crate::directory::{Directory, Status};
 use crate::layout::{
-    area, area_at, area_mut, committed_at, put_desk, record_at, tentative_at, OWN_DESK, OWN_STAMP, PAGE_WORDS,
-    RECORD_WORDS,
+    area, area_at, area_mut, committed_at, put_desk, put_number, record_at, tentative_at, OWN_DESK, OWN_STAMP,
+    PAGE_WORDS, RECORD_WORDS,
 };
 use crate::record::Record;
 use crate::release::{all_steps, step, Release};
@@ -115,7 +115,7 @@ pub fn join(memory: &mut [u32], directory: &mut Directory, joining: u32) {
     let record = Record::read(area(memory, pages, keeper), joining);
     let own = area_mut(memory, pages, joining);
     own.fill(0);
-    own[OWN_STAMP] = record.stamp;
+    put_number(own, OWN_STAMP, record.stamp);
     put_desk(own, OWN_DESK, &record.desk);
     for dead in directory.dead_cards() {
         copy_record(memory, pages, dead, before.record_keeper(dead), joining);

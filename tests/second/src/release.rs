@@ -2,11 +2,10 @@
 
 use crate::directory::Directory;
 use crate::layout::{
-    area, area_mut, committed_at, desk_at, put_desk, tentative_at, Desk, DESK, DESK_WORDS, LIST, LIST_WORDS, NUMBER,
-    OPEN, OWN_DESK, OWN_STAMP, PAGES, RECORDS, STEPS,
+    area, area_mut, committed_at, desk_at, desk_of_number_at, done_mark_at, number_at, put_desk, put_number, stamp_at,
+    tentative_at, Desk, Number, DESK, DESK_WORDS, LIST, LIST_WORDS, NUMBER, OPEN, OWN_DESK, OWN_STAMP, RELEASE, STEPS,
 };
 use crate::list::prices;
-use crate::record::{desk_of_number_at, done_mark_at, stamp_at};
 
 /// "step 2k + 9; from here the release counts".
 pub fn counting_steps(prices: u32) -> u32 {
@@ -32,7 +31,7 @@ pub fn list_of(area: &[u32]) -> &[u32] {
 /// The release open on a card, as the card's own area holds it.
 pub struct Release<'a> {
     pub steps: u32,
-    pub number: u32,
+    pub number: Number,
     pub desk: Desk,
     pub list: &'a [u32],
     /// The number of prices, k.
@@ -40,9 +39,24 @@ pub struct Release<'a> {
 }
 
 /// The one store of a step.
-pub enum Store {
-    Word { card: u32, at: usize, word: u32 },
+enum Store {
+    Put { card: u32, at: usize, value: Value },
     Close,
+}
+
+/// What a store puts into an area.
+enum Value {
+    Word(u32),
+    Number(Number),
+}
+
+impl Value {
+    fn put(&self, area: &mut [u32], at: usize) {
+        match *self {
+            Value::Word(word) => area[at] = word,
+            Value::Number(number) => put_number(area, at, number),
+        }
+    }
 }
 
 impl Release<'_> {
@@ -51,7 +65,7 @@ impl Release<'_> {
         let list = list_of(area);
         (area[OPEN] == 1).then(|| Release {
             steps: area[STEPS],
-            number: area[NUMBER],
+            number: number_at(area, NUMBER),
             desk: desk_at(area, DESK),
             list,
             prices: prices(list).count() as u32,
@@ -74,7 +88,7 @@ impl Release<'_> {
     /// parts. `None` only for a price past the list's end.
     fn next_store(&self, card: u32, homes: &Directory) -> Option<Store> {
         let backup = homes.backup(card);
-        let to_backup = |at, word| Some(Store::Word { card: backup, at, word });
+        let to_backup = |at, value| Some(Store::Put { card: backup, at, value });
         let stamping = 2 * self.prices + DESK_WORDS as u32;
         let marking = stamping + 1 + 2 * self.prices;
         let step = self.steps;
@@ -82,13 +96,13 @@ impl Release<'_> {
             self.price_store(step, homes, tentative_at)
         } else if step < stamping {
             let word = (step - 2 * self.prices) as usize;
-            to_backup(desk_of_number_at(card, self.number) + word, self.desk[word])
+            to_backup(desk_of_number_at(card, self.number) + word, Value::Word(self.desk[word]))
         } else if step == stamping {
-            to_backup(stamp_at(card), self.number)
+            to_backup(stamp_at(card), Value::Number(self.number))
         } else if step < marking {
             self.price_store(step - stamping - 1, homes, committed_at)
         } else if step == marking {
-            to_backup(done_mark_at(card), self.number)
+            to_backup(done_mark_at(card), Value::Number(self.number))
         } else {
             Some(Store::Close)
         }
@@ -103,16 +117,16 @@ impl Release<'_> {
             _ => homes.primary_of(price.page),
         };
         let at = copy_at(price.page) + price.word as usize;
-        Some(Store::Word { card, at, word: price.price })
+        Some(Store::Put { card, at, value: Value::Word(price.price) })
     }
 }
 
 /// Opens a release: "copies list, desk and number to the card's own area and
 /// sets steps to 0".
-pub fn open(area: &mut [u32], number: u32, desk: &Desk, list: &[u32]) {
+pub fn open(area: &mut [u32], number: Number, desk: &Desk, list: &[u32]) {
     area[OPEN] = 1;
     area[STEPS] = 0;
-    area[NUMBER] = number;
+    put_number(area, NUMBER, number);
     put_desk(area, DESK, desk);
     area[LIST..LIST + list.len()].copy_from_slice(list);
 }
@@ -123,9 +137,9 @@ pub fn step(memory: &mut [u32], homes: &Directory, card: u32, lost: Option<u32>)
     let own = area(memory, homes.pages, card);
     let store = Release::read(own).and_then(|release| release.next_store(card, homes));
     match store {
-        Some(Store::Word { card: to, at, word }) => {
+        Some(Store::Put { card: to, at, value }) => {
             if lost != Some(to) {
-                area_mut(memory, homes.pages, to)[at] = word;
+                value.put(area_mut(memory, homes.pages, to), at);
             }
             area_mut(memory, homes.pages, card)[STEPS] += 1;
         }
@@ -137,9 +151,8 @@ pub fn step(memory: &mut [u32], homes: &Directory, card: u32, lost: Option<u32>)
 /// The close: "own stamp and desk are set and words 9 to 675 apart from 20 to
 /// 163 become 0".
 fn close(area: &mut [u32]) {
-    let desk = desk_at(area, DESK);
-    area[OWN_STAMP] = area[NUMBER];
+    let (number, desk) = (number_at(area, NUMBER), desk_at(area, DESK));
+    put_number(area, OWN_STAMP, number);
     put_desk(area, OWN_DESK, &desk);
-    area[OPEN..RECORDS].fill(0);
-    area[LIST..PAGES].fill(0);
+    RELEASE.into_iter().for_each(|words| area[words].fill(0));
 }

@@ -5,13 +5,13 @@ use std::io::{self, BufRead, ErrorKind, Write};
 use crate::answer::Answer;
 use crate::by_value::{fail_card, fetch_page, format_rack, join_card, make_steps, open_release, recover};
 use crate::directory::Directory;
-use crate::layout::{DESK_WORDS, PAGE_WORDS};
+use crate::layout::{area_words, Number, DESK_WORDS, PAGE_WORDS};
 use crate::list::one_price;
 use crate::refusals::UNREADABLE_LINE;
 
 const CARDS: u32 = 3;
 const PAGES: u32 = 4;
-const MEMORY_WORDS: usize = 2796;
+const MEMORY_WORDS: usize = CARDS as usize * area_words(PAGES);
 
 /// The bytes kept of a line. A readable line has at most 56 (a letter and five
 /// times a space and ten digits), so a line cut off here is unreadable.
@@ -174,7 +174,7 @@ impl Rack {
         }
     }
 
-    fn open(&mut self, card: u32, number: u32, list: &[u32]) -> Answer {
+    fn open(&mut self, card: u32, number: Number, list: &[u32]) -> Answer {
         let desk = [0; DESK_WORDS];
         let (directory, answer) = open_release(&mut self.memory, self.directory, card, number, desk, list);
         self.directory = directory;

@@ -14,7 +14,7 @@ fn same_call(one: &mut Rack, other: &mut Rack, random: &mut Random) {
     let page = random.below(7);
     match random.below(10) {
         0..=2 => {
-            let number = memory[one.at(card % directory.cards, 0)].wrapping_add(1);
+            let number = one.stamp(card % directory.cards).wrapping_add(1);
             let (desk, list) = (random.array(), list_of(&random_changes(random, directory.pages, 40)));
             let answer = lent::open_release(memory, directory, card, number, &desk, &list);
             assert_eq!(one.open(card, number, desk, &list), answer);

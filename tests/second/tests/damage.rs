@@ -5,6 +5,7 @@ mod common;
 
 use common::{list_of, random_changes, Rack, OK};
 use random::Random;
+use second::layout::{memory_words, own_stamp, LIST, NUMBER, OPEN, OWN_DESK, OWN_STAMP, STEPS};
 use second::refusals::{OUTSIDE_LIMITS, PAGE_IN_COUNTING_RELEASE};
 use second::*;
 
@@ -18,7 +19,7 @@ fn reached_rack(random: &mut Random) -> Rack {
             1..=3 => drop(rack.recover()),
             4 => drop(rack.join(card)),
             _ => {
-                let number = rack.word(card, 0).wrapping_add(1);
+                let number = rack.stamp(card).wrapping_add(1);
                 let rarity = random.within(5, 90);
                 let list = list_of(&random_changes(random, rack.directory.pages, rarity));
                 rack.open(card, number, random.array(), &list);
@@ -36,7 +37,7 @@ fn damage(rack: &mut Rack, random: &mut Random) {
             0 => damage_directory(&mut rack.directory, random),
             1 => {
                 let card = random.below(rack.directory.cards.clamp(3, 8));
-                let word = [0, 1, 9, 10, 11, 164, 165, 166][random.below(8) as usize];
+                let word = random.of(&[OWN_STAMP, OWN_DESK, OPEN, STEPS, NUMBER, LIST, LIST + 1, LIST + 2]);
                 damage_word(rack, rack.at(card, word), random);
             }
             2 => damage_word(rack, random.word() as usize, random),
@@ -81,7 +82,7 @@ fn any_rack(random: &mut Random) -> Rack {
     if random.one_in(3) {
         rack.directory.status = Status::Awaiting(random.below(cards));
     }
-    (0..cards).for_each(|card| rack.set(card, 9, random.below(16) / 15));
+    (0..cards).for_each(|card| rack.set(card, OPEN, random.below(16) / 15));
     rack
 }
 
@@ -92,7 +93,7 @@ fn all_calls(rack: &Rack, random: &mut Random) -> u32 {
     let words = if random.one_in(9) { random.below(70) } else { 32 };
     let mut buffer: Vec<u32> = (0..words).map(|_| random.word()).collect();
     let lent = buffer.clone();
-    let number = match rack.memory.get(rack.at(card % 8, 0)) {
+    let number = match own_stamp(&rack.memory, rack.directory.pages, card % 8) {
         Some(stamp) => stamp.wrapping_add(random.below(12) / 4),
         None => random.word(),
     };

@@ -3,6 +3,7 @@
 mod common;
 
 use common::{refused, refused_at, Rack, OK};
+use second::layout::{memory_words, stamp_at};
 use second::*;
 
 const TWO_PRICES: [u32; 5] = [0x1000_0001, 0x2002_0002, 0x0000_00FA, 0x0000_00C7, 0xF000_0004];
@@ -65,7 +66,7 @@ fn steps_and_stamping(list: &[u32]) -> (u32, u32) {
     let (mut steps, mut stamping) = (0, 0);
     while rack.step(1) == OK {
         steps += 1;
-        if stamping == 0 && rack.word(2, 20 + 18) == 1 {
+        if stamping == 0 && rack.number(2, stamp_at(1)) == 1 {
             stamping = steps;
         }
     }
@@ -125,7 +126,7 @@ fn a_run_ends_with_its_page() {
 #[test]
 fn every_number_is_too_low_at_the_last_stamp() {
     let mut rack = Rack::new(3, 4);
-    rack.set(1, 0, u32::MAX);
+    rack.set_stamp(1, u32::MAX);
     for number in [0, 1, 2, 1 << 31, u32::MAX - 1, u32::MAX] {
         let answer = rack.open(1, number, NO_DESK, &TWO_PRICES);
         assert_eq!(answer, refused_at(5, u32::MAX.into()));
@@ -136,7 +137,7 @@ fn every_number_is_too_low_at_the_last_stamp() {
 fn number_0_is_too_low_at_each_stamp() {
     let mut rack = Rack::new(3, 4);
     for stamp in [0, 1, 2, 1 << 31, u32::MAX - 1, u32::MAX] {
-        rack.set(1, 0, stamp);
+        rack.set_stamp(1, stamp);
         assert_eq!(rack.open(1, 0, NO_DESK, &TWO_PRICES), refused_at(5, stamp.into()));
     }
 }

