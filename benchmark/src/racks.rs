@@ -1,6 +1,7 @@
 //! Racks to be timed, and lists of forty prices.
 
 use bandsawpink_sys as sys;
+use second::layout::{memory_words, put_number, OPEN, OWN_STAMP};
 use second::{Answer, Directory};
 
 /// The prices of a release.
@@ -21,8 +22,8 @@ fn list_of(words: impl Iterator<Item = u32>) -> Vec<u32> {
     let mut list = Vec::new();
     let words: Vec<u32> = words.collect();
     for run in words.chunk_by(|one, next| one / 32 == next / 32) {
-        list.push(0x1000_0000 | run[0] / 32);
-        list.push(0x2000_0000 | run[0] % 32 << 16 | run.len() as u32);
+        list.push(0x1000_0000 | (run[0] / 32));
+        list.push(0x2000_0000 | ((run[0] % 32) << 16) | run.len() as u32);
         list.extend(run);
     }
     list.push(0xF000_0000 | list.len() as u32);
@@ -40,7 +41,7 @@ pub struct Rack {
 impl Rack {
     /// Newly formatted, with a release open on each of the last `others` cards.
     pub fn new(cards: u32, pages: u32, others: u32) -> Self {
-        let mut memory = vec![0; cards as usize * (676 + 64 * pages as usize)];
+        let mut memory = vec![0; memory_words(cards, pages).expect("within the limits")];
         let mut proved = sys::Directory::EMPTY;
         // SAFETY: pointer and length of one slice, and a directory beside it.
         unsafe { sys::rack_format(memory.as_mut_ptr(), memory.len(), cards, pages, &mut proved) };
@@ -54,7 +55,7 @@ impl Rack {
 
     /// Card 0 with no release open and stamp 0, so that number 1 can be opened again.
     pub fn reset(&mut self) {
-        self.memory[0] = 0;
-        self.memory[9] = 0;
+        put_number(&mut self.memory, OWN_STAMP, 0);
+        self.memory[OPEN] = 0;
     }
 }

@@ -1,12 +1,13 @@
 //! A call of the rack, and what it answers, whoever makes it.
 
+use second::layout::{Desk, Number};
 use second::Answer;
 
 /// A call with its arguments. A buffer is given by what stands in it before.
 #[derive(Clone, Debug)]
 pub enum Call {
     Format { cards: u32, pages: u32 },
-    Open { card: u32, number: u32, desk: [u32; 8], list: Vec<u32> },
+    Open { card: u32, number: Number, desk: Desk, list: Vec<u32> },
     Step { card: u32 },
     Steps { card: u32, count: u32 },
     Fetch { page: u32, buffer: Vec<u32> },

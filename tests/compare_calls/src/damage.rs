@@ -4,9 +4,13 @@
 use crate::call::Call;
 use crate::library::words_of;
 use crate::lists;
-use crate::racks::Racks;
+use crate::racks::{pages_of, Racks};
 use crate::seen::Seen;
 use random::Random;
+use second::layout::{
+    area_words, memory_words, number_at, own_stamp, put_number, record_at, EVEN_DESK, LIST, LIST_WORDS, NUMBER, OPEN,
+    OWN_STAMP, PAGES, PAGE_WORDS, RECORD_WORDS, RELEASE, STEPS,
+};
 use second::{Directory, Status};
 
 /// The damaged rack of this number, and a few calls on it.
@@ -32,7 +36,7 @@ pub fn compare(random: &mut Random, at: u64, seen: &mut Seen) -> Result<u64, Str
 
 /// A rack that calls have led to, with releases open, cards dead or awaited.
 fn reached(random: &mut Random, cards: u32, pages: u32) -> (Vec<u32>, Directory) {
-    let mut memory = vec![0; cards as usize * (676 + 64 * pages as usize)];
+    let mut memory = vec![0; memory_words(cards, pages).expect("within the limits")];
     let (mut directory, _) = second::format_rack(&mut memory, cards, pages);
     for _ in 0..random.below(14) {
         let card = random.below(cards);
@@ -41,7 +45,7 @@ fn reached(random: &mut Random, cards: u32, pages: u32) -> (Vec<u32>, Directory)
             2 | 3 => second::recover(&mut memory, directory).0,
             4 => second::join_card(&mut memory, directory, card).0,
             _ => {
-                let number = memory[card as usize * area_of(&directory)].wrapping_add(1);
+                let number = own_stamp(&memory, pages, card).expect("a card of the rack").wrapping_add(1);
                 let list = lists::allowed(random, pages, 30 * pages);
                 second::open_release(&mut memory, directory, card, number, random.array(), &list);
                 let count = random.below(40);
@@ -85,29 +89,31 @@ fn damaged(random: &mut Random, mut memory: Vec<u32>, mut directory: Directory) 
 }
 
 fn area_of(directory: &Directory) -> usize {
-    676 + 64 * (directory.pages as usize % 4096)
+    area_words(pages_of(directory))
 }
 
 /// A word that the checks look at, that a list is read from, or of a page.
 fn damage_area(random: &mut Random, memory: &mut [u32], directory: &Directory) {
     let area = area_of(directory);
-    let page_word = random.within(676, area as u32) as usize;
-    let offset = random.of(&[0, 0, 9, 9, 10, 10, 11, 164, 164, 165, 166, 168, 675, page_word, page_word]);
+    let page_word = random.within(PAGES as u32, area as u32) as usize;
+    let release = [OWN_STAMP, OWN_STAMP, OPEN, OPEN, STEPS, STEPS, NUMBER];
+    let list = [LIST, LIST, LIST + 1, LIST + 2, LIST + 4, PAGES - 1];
+    let offset = random.of(&[&release[..], &list, &[page_word, page_word]].concat());
     let at = random.below(8) as usize * area + offset;
     if let Some(word) = memory.get_mut(at) {
         *word = random.odd_word();
     }
 }
 
-/// A release on one card, about to count or to close, or past that. Its list may go on past word 675, in the words of the
+/// A release on one card, about to count or to close, or past that. Its list may go on past its own words, in those of the
 /// first pages.
 fn put_release(random: &mut Random, memory: &mut [u32], directory: &Directory) {
     let (area, pages) = (area_of(directory), directory.pages.clamp(1, 64));
     let list = match random.below(6) {
         0 => lists::near_limit(random, pages),
         1 => {
-            let words = random.within(513, 576);
-            lists::of_length(random, pages, words)
+            let over = random.within(1, 2 * PAGE_WORDS as u32);
+            lists::of_length(random, pages, LIST_WORDS as u32 + over)
         }
         _ => lists::allowed(random, pages, 30 * pages),
     };
@@ -120,9 +126,10 @@ fn put_release(random: &mut Random, memory: &mut [u32], directory: &Directory) {
     };
     let at = random.below(directory.cards.clamp(1, 8)) as usize * area;
     if let Some(own) = memory.get_mut(at..at + area) {
-        let number = own[0].wrapping_add(random.of(&[1, 1, 1, 2]));
-        own[9..12].copy_from_slice(&[1, steps, number]);
-        own[164..].iter_mut().zip(list).for_each(|(word, listed)| *word = listed);
+        let number = number_at(own, OWN_STAMP).wrapping_add(random.of(&[1, 1, 1, 2]));
+        (own[OPEN], own[STEPS]) = (1, steps);
+        put_number(own, NUMBER, number);
+        own[LIST..].iter_mut().zip(list).for_each(|(word, listed)| *word = listed);
     }
 }
 
@@ -130,9 +137,10 @@ fn put_release(random: &mut Random, memory: &mut [u32], directory: &Directory) {
 /// either may be the greater.
 fn damage_record(random: &mut Random, memory: &mut [u32], directory: &Directory) {
     let card = dead_card(random, directory).unwrap_or(random.below(8));
-    let offset = if random.one_in(3) { random.below(18) } else { random.below(2) };
+    let words = if random.one_in(3) { RECORD_WORDS } else { EVEN_DESK };
+    let offset = random.below(words as u32) as usize;
     let word = if random.one_in(2) { random.below(4) } else { random.odd_word() };
-    let at = (20 + 18 * card + offset) as usize;
+    let at = record_at(card) + offset;
     memory.iter_mut().skip(at).step_by(area_of(directory)).for_each(|record| *record = word);
 }
 
@@ -141,8 +149,7 @@ fn overlap(random: &mut Random, memory: &mut [u32], directory: &Directory) {
     let area = area_of(directory);
     let to = random.within(1, 7) as usize * area;
     if to + area <= memory.len() {
-        memory.copy_within(9..20, to + 9);
-        memory.copy_within(164..676, to + 164);
+        RELEASE.into_iter().for_each(|words| memory.copy_within(words.clone(), to + words.start));
     }
 }
 

@@ -5,6 +5,10 @@ use crate::call::Reply;
 use crate::guard::Flush;
 use crate::library;
 use random::Random;
+use second::layout::LIST_WORDS;
+
+/// The most words of a list.
+const LIMIT: u32 = LIST_WORDS as u32;
 
 /// An allowed list that prices about one word in `rarity`, as far as 512 words go.
 pub fn allowed(random: &mut Random, pages: u32, rarity: u32) -> Vec<u32> {
@@ -13,7 +17,7 @@ pub fn allowed(random: &mut Random, pages: u32, rarity: u32) -> Vec<u32> {
         let start = list.len();
         list.push(0x1000_0000 | page);
         add_runs(random, &mut list, rarity);
-        if list.len() == start + 1 || list.len() > 511 {
+        if list.len() == start + 1 || list.len() >= LIST_WORDS {
             list.truncate(start);
         }
     }
@@ -40,7 +44,7 @@ fn add_runs(random: &mut Random, list: &mut Vec<u32>, rarity: u32) {
 
 /// A list of 510 to 513 words, or as many as the pages have room for: with 513 it keeps every other rule.
 pub fn near_limit(random: &mut Random, pages: u32) -> Vec<u32> {
-    let words = random.within(510, 513);
+    let words = random.within(LIMIT - 2, LIMIT + 1);
     of_length(random, pages, words)
 }
 
@@ -154,7 +158,7 @@ pub fn compare_makers(random: &mut Random) -> Result<(), String> {
     let (working, twins) = if random.one_in(4) { pages_near_limit(random) } else { any_pages(random) };
     let room = match random.below(4) {
         0 => random.below(60),
-        1 => random.within(508, 514),
+        1 => random.within(LIMIT - 4, LIMIT + 2),
         _ => random.below(700),
     };
     let buffer: Vec<u32> = (0..room).collect();

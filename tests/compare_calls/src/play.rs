@@ -6,6 +6,7 @@ use crate::held::Held;
 use crate::lists;
 use crate::seen::Seen;
 use random::Random;
+use second::layout::area_words;
 use second::Status;
 
 pub struct Play {
@@ -16,7 +17,7 @@ pub struct Play {
 
 impl Play {
     pub fn new(mut random: Random, cards: u32, pages: u32) -> Result<Self, String> {
-        let area = 676 + 64 * pages as usize;
+        let area = area_words(pages);
         let memory = random.words(cards as usize * area);
         let directory = random.array();
         let held = Held::formatted(&memory, &directory, cards, pages)?;

@@ -3,6 +3,7 @@
 use crate::call::{Call, Reply};
 use crate::guard::Flush;
 use crate::library::{directory_of, words_of, Rack, Words, FIRST_MARK};
+use second::layout::{own_stamp, Number};
 use second::{Answer, Directory};
 
 /// Racks that must stay equal: two of the proved library's, one flush left and one flush right, and the second
@@ -26,10 +27,9 @@ impl Racks {
         }
     }
 
-    /// The stamp of a card, 0 if the memory has no such word.
-    pub fn stamp(&self, card: u32) -> u32 {
-        let area = 676 + 64 * (self.directory.pages as usize % 4096);
-        self.twin.get(card as usize * area).copied().unwrap_or(0)
+    /// The stamp of a card, 0 if the memory ends before it.
+    pub fn stamp(&self, card: u32) -> Number {
+        own_stamp(&self.twin, pages_of(&self.directory), card).unwrap_or(0)
     }
 
     /// Sets a word of every memory.
@@ -71,6 +71,11 @@ impl Racks {
         self.directory = after;
         Ok(expected)
     }
+}
+
+/// The pages of a directory that may name any number of them, cut off so that the place of every area is a number.
+pub fn pages_of(directory: &Directory) -> u32 {
+    directory.pages % 4096
 }
 
 fn first_difference(words: &[u32], expected: &[u32]) -> Option<usize> {

@@ -4,6 +4,7 @@
 use crate::call::{Call, Reply};
 use crate::held::Held;
 use bandsawpink_sys::DIRECTORY_WORDS;
+use second::layout::memory_words;
 use std::cell::Cell;
 
 /// A rack on which releases are open. The first has two prices and 19 steps, the other one price and 15 steps.
@@ -39,7 +40,7 @@ pub fn compare() -> Result<u64, String> {
 impl<'a> Swept<'a> {
     /// Both cards have made a release before, so that their stamps and desks are not those of a formatted rack.
     fn new(cards: u32, pages: u32, first: u32, other: u32, calls: &'a Cell<u64>) -> Result<Self, String> {
-        let memory = vec![9; cards as usize * (676 + 64 * pages as usize)];
+        let memory = vec![9; memory_words(cards, pages).expect("within the limits")];
         let held = Held::formatted(&memory, &[7; DIRECTORY_WORDS], cards, pages)?;
         let mut swept = Self { held, cards, pages, first, other, calls };
         swept.open(first)?;
