@@ -5,21 +5,17 @@
 
 mod refusal;
 
+pub use bandsawpink_sys::layout::{LIST_WORDS, PAGE_WORDS};
 pub use refusal::{Refusal, Stopped};
 
+use bandsawpink_sys::layout::{memory_words, DESK_WORDS, MAX_CARDS, MAX_PAGES};
 use bandsawpink_sys::{self as sys, Answer, DeskAnswer, Directory, RUNNING};
-
-/// The words of a page, one price in cents each.
-pub const PAGE_WORDS: usize = 32;
-
-/// The longest list of changes.
-pub const LIST_WORDS: usize = 512;
 
 /// The prices of a page, in cents.
 pub type Page = [u32; PAGE_WORDS];
 
 /// Words that the price desk wants back.
-pub type Desk = [u32; 8];
+pub type Desk = [u32; DESK_WORDS];
 
 /// What a recovery finds: the failed card's last release that counts.
 #[derive(Clone, Copy, Debug, PartialEq, Eq)]
@@ -51,10 +47,10 @@ impl Rack {
     /// A newly formatted rack: all prices 0, all cards live.
     pub fn format(cards: u32, pages: u32) -> Result<Rack, Refusal> {
         // A memory of any length would be refused; none is allocated.
-        if cards > 8 || pages > 64 {
+        if cards as usize > MAX_CARDS || pages as usize > MAX_PAGES {
             return Err(Refusal::Limits);
         }
-        let words = cards as usize * (676 + 64 * pages as usize);
+        let words = memory_words(cards, pages);
         let mut memory = vec![0; words];
         let mut directory = Directory::EMPTY;
         // SAFETY: see above.

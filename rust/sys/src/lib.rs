@@ -1,8 +1,10 @@
 //! The C interface of the static library: the functions and types of `include/bandsawpink.h`, which is the manual. The
 //! package `bandsawpink` makes safe calls of them.
 
+pub mod layout;
 pub mod refusals;
 
+use layout::{DESK_WORDS, MAX_CARDS, MAX_PAGES};
 use std::mem::{offset_of, size_of, transmute};
 
 /// The awaited card of a rack that awaits none.
@@ -14,9 +16,9 @@ pub struct Directory {
     pub cards: u32,
     pub pages: u32,
     pub awaited: u32,
-    pub live: [u32; 8],
-    pub primary: [u32; 64],
-    pub secondary: [u32; 64],
+    pub live: [u32; MAX_CARDS],
+    pub primary: [u32; MAX_PAGES],
+    pub secondary: [u32; MAX_PAGES],
 }
 
 /// The words of a directory.
@@ -24,8 +26,14 @@ pub const DIRECTORY_WORDS: usize = 139;
 
 impl Directory {
     /// What a refused formatting writes: every call refuses it.
-    pub const EMPTY: Directory =
-        Directory { cards: 0, pages: 0, awaited: RUNNING, live: [0; 8], primary: [0; 64], secondary: [0; 64] };
+    pub const EMPTY: Directory = Directory {
+        cards: 0,
+        pages: 0,
+        awaited: RUNNING,
+        live: [0; MAX_CARDS],
+        primary: [0; MAX_PAGES],
+        secondary: [0; MAX_PAGES],
+    };
 
     /// Any words are a directory.
     pub fn from_words(words: [u32; DIRECTORY_WORDS]) -> Directory {
@@ -51,7 +59,7 @@ pub struct Answer {
 pub struct DeskAnswer {
     pub number: u32,
     pub value: u64,
-    pub desk: [u32; 8],
+    pub desk: [u32; DESK_WORDS],
 }
 
 #[repr(C)]
@@ -67,7 +75,7 @@ pub struct StepsAnswer {
 pub struct FetchAllAnswer {
     pub number: u32,
     pub value: u64,
-    pub shown: [u8; 64],
+    pub shown: [u8; MAX_PAGES],
 }
 
 // The library was built for this layout.
@@ -96,7 +104,7 @@ extern "C" {
         directory: *const Directory,
         card: u32,
         number: u32,
-        desk: *const [u32; 8],
+        desk: *const [u32; DESK_WORDS],
         list: *const u32,
         list_words: usize,
     ) -> Answer;
