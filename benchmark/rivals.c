@@ -13,7 +13,8 @@
 #include <time.h>
 #include <unistd.h>
 
-enum { PAGES = 64, WORDS = 32, PRICES = 40, ROUNDS = 201, RUNS = 40 };
+enum { CARDS = RACK_MAX_CARDS, PAGES = RACK_MAX_PAGES, WORDS = RACK_PAGE_WORDS, PRICES = 40, ROUNDS = 201, RUNS = 40 };
+enum { FEW_CARDS = 3, FEW_PAGES = 4 };
 
 static void check(int failed, const char *what) {
     if (failed) {
@@ -87,9 +88,12 @@ static int change(const struct release *release, int at, uint32_t price) {
 
 /* ---- the rack: 8 cards and 64 pages, and 3 cards and 4 pages */
 
-static uint32_t large[RACK_MEMORY_WORDS(8, 64)], small[RACK_MEMORY_WORDS(3, 4)];
+static uint32_t large[RACK_MEMORY_WORDS(CARDS, PAGES)], small[RACK_MEMORY_WORDS(FEW_CARDS, FEW_PAGES)];
 static rack_directory large_directory, small_directory;
-static const size_t large_words = RACK_MEMORY_WORDS(8, 64), small_words = RACK_MEMORY_WORDS(3, 4);
+static const size_t large_words = RACK_MEMORY_WORDS(CARDS, PAGES);
+static const size_t small_words = RACK_MEMORY_WORDS(FEW_CARDS, FEW_PAGES);
+
+static void accepted(uint32_t number, const char *call) { check(number != RACK_ACCEPTED, call); }
 
 /* The list of a release: a page word, a run word and the prices of each page, and the end word. Gives its length. */
 static size_t list_of(const struct release *release, uint32_t *list, uint32_t price) {
@@ -111,8 +115,8 @@ static void rack_release(const struct release *release, uint32_t price) {
     static const uint32_t desk[RACK_DESK_WORDS];
     uint32_t list[RACK_LIST_WORDS];
     size_t words = list_of(release, list, price);
-    check(rack_open(large, large_words, &large_directory, 0, ++number, desk, list, words).number != 0, "rack_open");
-    check(rack_steps(large, large_words, &large_directory, 0, 4 * PRICES + 11).number != 0, "rack_steps");
+    accepted(rack_open(large, large_words, &large_directory, 0, ++number, desk, list, words).number, "rack_open");
+    accepted(rack_steps(large, large_words, &large_directory, 0, 4 * PRICES + 11).number, "rack_steps");
 }
 
 static void rack_release_2(uint32_t turn) { rack_release(&on_2_pages, turn); }
@@ -121,23 +125,23 @@ static void rack_release_40(uint32_t turn) { rack_release(&on_40_pages, turn); }
 
 static void rack_read(uint32_t turn) {
     rack_answer answer = rack_fetch(large, large_words, &large_directory, turn % PAGES, page_words, WORDS);
-    check(answer.number != 0, "rack_fetch");
+    accepted(answer.number, "rack_fetch");
 }
 
 static void rack_read_small(uint32_t turn) {
-    rack_answer answer = rack_fetch(small, small_words, &small_directory, turn % 4, page_words, WORDS);
-    check(answer.number != 0, "rack_fetch");
+    rack_answer answer = rack_fetch(small, small_words, &small_directory, turn % FEW_PAGES, page_words, WORDS);
+    accepted(answer.number, "rack_fetch");
 }
 
 static void rack_read_all(uint32_t turn) {
     static uint32_t pages[PAGES * WORDS];
     (void)turn;
-    check(rack_fetch_all(large, large_words, &large_directory, pages, PAGES * WORDS).number != 0, "rack_fetch_all");
+    accepted(rack_fetch_all(large, large_words, &large_directory, pages, PAGES * WORDS).number, "rack_fetch_all");
 }
 
 static void rack(void) {
-    check(rack_format(large, large_words, 8, 64, &large_directory).number != 0, "rack_format");
-    check(rack_format(small, small_words, 3, 4, &small_directory).number != 0, "rack_format");
+    accepted(rack_format(large, large_words, CARDS, PAGES, &large_directory).number, "rack_format");
+    accepted(rack_format(small, small_words, FEW_CARDS, FEW_PAGES, &small_directory).number, "rack_format");
 }
 
 /* ---- LMDB */

@@ -25,6 +25,6 @@ int main(void) {
     if (shown.number != RACK_ACCEPTED) return (int)shown.number;
     for (uint32_t word = 0; word < RACK_PAGE_WORDS; word++)
         if (page[word] != 0)
-            printf("label %u: %u.%02u\n", PAGE * 32 + word, page[word] / 100, page[word] % 100);
+            printf("label %u: %u.%02u\n", PAGE * RACK_PAGE_WORDS + word, page[word] / 100, page[word] % 100);
     return 0;
 }

@@ -6,9 +6,18 @@
 #include <stdio.h>
 #include <string.h>
 
-enum { WORDS = 2796 };
+enum { CARDS = 3, PAGES = 4, PRICES = PAGES * RACK_PAGE_WORDS, WORDS = RACK_MEMORY_WORDS(CARDS, PAGES) };
 
-static uint32_t memory[WORDS + 1], memory_before[WORDS + 1], large[RACK_MEMORY_WORDS(3, 64)];
+/* An area's length, and where the card's stamp, the mark of an open release, its steps and its list stand in it. */
+enum {
+    AREA = RACK_MEMORY_WORDS(1, PAGES),
+    STAMP = 0,
+    OPEN = STAMP + 1 + RACK_DESK_WORDS,
+    STEPS = OPEN + 1,
+    LIST = RACK_MEMORY_WORDS(1, 0) - RACK_LIST_WORDS
+};
+
+static uint32_t memory[WORDS + 1], memory_before[WORDS + 1], large[RACK_MEMORY_WORDS(CARDS, RACK_MAX_PAGES)];
 static rack_directory directory, directory_before;
 static const uint32_t desk[RACK_DESK_WORDS] = { 1, 2, 3, 4, 5, 6, 7, 8 };
 static const uint32_t list[] = { 0x10000001, 0x20020002, 250, 199, 0xF0000004 };
@@ -47,27 +56,28 @@ static rack_answer checked(rack_desk_answer found) {
 }
 
 static void format(void) {
-    ACCEPTED(rack_format(memory, WORDS, 3, 4, &directory));
+    ACCEPTED(rack_format(memory, WORDS, CARDS, PAGES, &directory));
 }
 
 static void formatting(void) {
     memset(&directory, 0xA5, sizeof directory);
     memset(memory, 0xA5, sizeof memory);
     memcpy(memory_before, memory, sizeof memory);
-    rack_answer answer = rack_format(memory, WORDS - 1, 3, 4, &directory);
+    rack_answer answer = rack_format(memory, WORDS - 1, CARDS, PAGES, &directory);
     EXPECT(answer.number == RACK_LIMITS && answer.value == 0);
     EXPECT(memcmp(memory, memory_before, sizeof memory) == 0);
     EXPECT(directory.cards == 0 && directory.pages == 0 && directory.awaited == RACK_RUNNING);
-    EXPECT(directory.live[0] == 0 && directory.primary[63] == 0 && directory.secondary[63] == 0);
+    EXPECT(directory.live[0] == 0);
+    EXPECT(directory.primary[RACK_MAX_PAGES - 1] == 0 && directory.secondary[RACK_MAX_PAGES - 1] == 0);
     EXPECT(rack_step(memory, WORDS, &directory, 0).number == RACK_LIMITS);
-    EXPECT(rack_format(memory, WORDS + 1, 3, 4, &directory).number == RACK_LIMITS);
+    EXPECT(rack_format(memory, WORDS + 1, CARDS, PAGES, &directory).number == RACK_LIMITS);
     EXPECT(rack_format(NULL, 0, 0, 0, &directory).number == RACK_LIMITS);
     format();
     EXPECT(memory[0] == 0 && memory[WORDS - 1] == 0 && memory[WORDS] == 0xA5A5A5A5);
-    EXPECT(directory.cards == 3 && directory.pages == 4 && directory.awaited == RACK_RUNNING);
+    EXPECT(directory.cards == CARDS && directory.pages == PAGES && directory.awaited == RACK_RUNNING);
     EXPECT(directory.live[2] == 1 && directory.live[3] == 0);
     EXPECT(directory.primary[2] == 2 && directory.secondary[2] == 0 && directory.primary[4] == 0);
-    EXPECT(RACK_MEMORY_WORDS(3, 4) == WORDS);
+    EXPECT(WORDS == 2796);
 }
 
 static void desk_calls(void) {
@@ -79,12 +89,12 @@ static void desk_calls(void) {
     REFUSED(rack_open(memory, WORDS, &directory, 1, 1, desk, list, 4), RACK_FAULTY_LIST, 4);
     REFUSED(rack_open(memory, WORDS, &directory, 1, 1, desk, NULL, 0), RACK_FAULTY_LIST, 0);
     REFUSED(rack_step(memory, WORDS, &directory, 1), RACK_NONE_OPEN, 0);
-    memory[932 + 9] = 2;
+    memory[AREA + OPEN] = 2;
     REFUSED(rack_step(memory, WORDS, &directory, 1), RACK_UNFIT, 0);
-    memory[932 + 9] = 0;
-    memory[932] = 4294967295;
+    memory[AREA + OPEN] = 0;
+    memory[AREA + STAMP] = 4294967295;
     REFUSED(rack_open(memory, WORDS, &directory, 1, 7, desk, list, 5), RACK_NUMBER_USED, 4294967295);
-    memory[932] = 0;
+    memory[AREA + STAMP] = 0;
     ACCEPTED(rack_open(memory, WORDS, &directory, 1, 1, desk, list, 5));
     REFUSED(rack_open(memory, WORDS, &directory, 1, 1, desk, list, 5), RACK_RELEASE_OPEN, 0);
     REFUSED(rack_open(memory, WORDS, &directory, 2, 1, desk, list, 5), RACK_WORD_IN_USE, 1);
@@ -119,7 +129,8 @@ static void list_rules(void) {
     for (size_t at = 0; at < sizeof faulty / sizeof *faulty; at++)
         REFUSED(rack_open(memory, WORDS, &directory, 1, 1, desk, faulty[at].words, faulty[at].length), RACK_FAULTY_LIST,
                 faulty[at].place);
-    ACCEPTED(rack_format(large, RACK_MEMORY_WORDS(3, 64), 3, 64, &directory));
+    const size_t words = RACK_MEMORY_WORDS(CARDS, RACK_MAX_PAGES);
+    ACCEPTED(rack_format(large, words, CARDS, RACK_MAX_PAGES, &directory));
     size_t length = 0;
     for (uint32_t page = 0; length + 34 <= RACK_LIST_WORDS; page++, length += 34) {
         longest[length] = 0x10000000 | page;
@@ -128,7 +139,6 @@ static void list_rules(void) {
     longest[length] = 0x1000003F; /* two words are left: a page and a run, whose price is the word too many */
     longest[length + 1] = 0x20000001;
     EXPECT(length + 2 == RACK_LIST_WORDS);
-    const size_t words = RACK_MEMORY_WORDS(3, 64);
     rack_answer answer = rack_open(large, words, &directory, 1, 1, desk, longest, RACK_LIST_WORDS + 1);
     EXPECT(answer.number == RACK_FAULTY_LIST && answer.value == RACK_LIST_WORDS);
 }
@@ -152,15 +162,15 @@ static void unfit_racks(void) {
     }
     format();
     ACCEPTED(rack_open(memory, WORDS, &directory, 1, 1, desk, list, 5));
-    const uint32_t changed[] = { 9, 10, 164, 165 }; /* word 9 above 1, too many steps, a faulty list */
+    const uint32_t changed[] = { OPEN, STEPS, LIST, LIST + 1 }; /* neither 0 nor 1, too many steps, a faulty list */
     for (int at = 0; at < 4; at++) {
-        uint32_t *word = memory + 932 + changed[at], before = *word;
+        uint32_t *word = memory + AREA + changed[at], before = *word;
         *word = at == 1 ? 4 * 2 + 11 : 2;
         REFUSED(checked(rack_desk(memory, WORDS, &directory, 0)), RACK_UNFIT, 0);
         *word = before;
     }
-    memory[932 + 10] = 4 * 2 + 10;
-    memory[932 + 164 + 5] = 2; /* past the list's end word: not read */
+    memory[AREA + STEPS] = 4 * 2 + 10;
+    memory[AREA + LIST + 5] = 2; /* past the list's end word: not read */
     ACCEPTED(rack_desk(memory, WORDS, &directory, 0));
 }
 
@@ -171,14 +181,14 @@ static void reader_calls(void) {
     for (int step = 0; step < 13; step++) ACCEPTED(rack_step(memory, WORDS, &directory, 1));
     memset(page, 0xA5, sizeof page);
     memcpy(page_before, page, sizeof page);
-    REFUSED(rack_fetch(memory, WORDS, &directory, 4, page, 32), RACK_NO_PAGE, 0);
-    REFUSED(rack_fetch(memory, WORDS, &directory, 1, page, 32), RACK_PAGE_IN_MOTION, 1);
-    REFUSED(rack_fetch(memory, WORDS, &directory, 0, page, 31), RACK_WRONG_BUFFER, 0);
-    REFUSED(rack_fetch(memory, WORDS, &directory, 0, page, 33), RACK_WRONG_BUFFER, 0);
+    REFUSED(rack_fetch(memory, WORDS, &directory, 4, page, RACK_PAGE_WORDS), RACK_NO_PAGE, 0);
+    REFUSED(rack_fetch(memory, WORDS, &directory, 1, page, RACK_PAGE_WORDS), RACK_PAGE_IN_MOTION, 1);
+    REFUSED(rack_fetch(memory, WORDS, &directory, 0, page, RACK_PAGE_WORDS - 1), RACK_WRONG_BUFFER, 0);
+    REFUSED(rack_fetch(memory, WORDS, &directory, 0, page, RACK_PAGE_WORDS + 1), RACK_WRONG_BUFFER, 0);
     REFUSED(rack_fetch(memory, WORDS, &directory, 0, NULL, 0), RACK_WRONG_BUFFER, 0);
     EXPECT(memcmp(page, page_before, sizeof page) == 0);
-    ACCEPTED(rack_fetch(memory, WORDS, &directory, 0, page, 32));
-    EXPECT(page[0] == 0 && page[31] == 0 && page[32] == 0xA5A5A5A5);
+    ACCEPTED(rack_fetch(memory, WORDS, &directory, 0, page, RACK_PAGE_WORDS));
+    EXPECT(page[0] == 0 && page[RACK_PAGE_WORDS - 1] == 0 && page[RACK_PAGE_WORDS] == 0xA5A5A5A5);
 }
 
 /* An answer to several steps, as an answer whose steps are checked. */
@@ -197,7 +207,7 @@ static void several_steps(void) {
     REFUSED(made(rack_steps(memory, WORDS, &directory, 1, 2), 0), RACK_NONE_OPEN, 0);
     KEPT(made(rack_steps(memory, WORDS, &directory, 1, 0), 0));
     KEPT(made(rack_steps(NULL, 0, &directory, 9, 0), 0));
-    memory[932 + 9] = 2;
+    memory[AREA + OPEN] = 2;
     REFUSED(made(rack_steps(memory, WORDS, &directory, 1, UINT32_MAX), 0), RACK_UNFIT, 0);
     for (uint32_t count = 1; count <= 20; count++) {
         format();
@@ -225,32 +235,33 @@ static rack_answer none_shown(rack_fetch_all_answer fetched) {
 }
 
 static void all_pages(void) {
-    uint32_t pages[129], pages_before[129];
+    uint32_t pages[PRICES + 1], pages_before[PRICES + 1];
     uint8_t all[RACK_MAX_PAGES] = { 1, 1, 1, 1 }, but_1[RACK_MAX_PAGES] = { 1, 0, 1, 1 };
     format();
     memset(pages, 0xA5, sizeof pages);
     memcpy(pages_before, pages, sizeof pages);
-    REFUSED(none_shown(rack_fetch_all(memory, WORDS + 1, &directory, pages, 128)), RACK_LIMITS, 0);
-    REFUSED(none_shown(rack_fetch_all(memory, WORDS, &directory, pages, 127)), RACK_WRONG_BUFFER, 0);
-    REFUSED(none_shown(rack_fetch_all(memory, WORDS, &directory, pages, 129)), RACK_WRONG_BUFFER, 0);
+    REFUSED(none_shown(rack_fetch_all(memory, WORDS + 1, &directory, pages, PRICES)), RACK_LIMITS, 0);
+    REFUSED(none_shown(rack_fetch_all(memory, WORDS, &directory, pages, PRICES - 1)), RACK_WRONG_BUFFER, 0);
+    REFUSED(none_shown(rack_fetch_all(memory, WORDS, &directory, pages, PRICES + 1)), RACK_WRONG_BUFFER, 0);
     REFUSED(none_shown(rack_fetch_all(memory, WORDS, &directory, NULL, 0)), RACK_WRONG_BUFFER, 0);
     directory.primary[3] = 7;
-    REFUSED(none_shown(rack_fetch_all(memory, WORDS, &directory, pages, 128)), RACK_UNFIT, 0);
+    REFUSED(none_shown(rack_fetch_all(memory, WORDS, &directory, pages, PRICES)), RACK_UNFIT, 0);
     EXPECT(memcmp(pages, pages_before, sizeof pages) == 0);
     format();
     ACCEPTED(rack_open(memory, WORDS, &directory, 1, 1, desk, list, 5));
     ACCEPTED(rack_steps(memory, WORDS, &directory, 1, 13));
-    rack_fetch_all_answer fetched = rack_fetch_all(memory, WORDS, &directory, pages, 128);
+    rack_fetch_all_answer fetched = rack_fetch_all(memory, WORDS, &directory, pages, PRICES);
     EXPECT(fetched.number == RACK_ACCEPTED && fetched.value == 0);
     EXPECT(memcmp(fetched.shown, but_1, sizeof but_1) == 0);
     EXPECT(pages[31] == 0 && pages[32] == 0xA5A5A5A5 && pages[63] == 0xA5A5A5A5 && pages[64] == 0);
     ACCEPTED(rack_steps(memory, WORDS, &directory, 1, 6));
-    fetched = rack_fetch_all(memory, WORDS, &directory, pages, 128);
+    fetched = rack_fetch_all(memory, WORDS, &directory, pages, PRICES);
     EXPECT(fetched.number == RACK_ACCEPTED && fetched.value == 0);
     EXPECT(memcmp(fetched.shown, all, sizeof all) == 0);
-    EXPECT(pages[33] == 0 && pages[34] == 250 && pages[35] == 199 && pages[127] == 0 && pages[128] == 0xA5A5A5A5);
+    EXPECT(pages[33] == 0 && pages[34] == 250 && pages[35] == 199);
+    EXPECT(pages[PRICES - 1] == 0 && pages[PRICES] == 0xA5A5A5A5);
     ACCEPTED(rack_fail(memory, WORDS, &directory, 1));
-    REFUSED(none_shown(rack_fetch_all(memory, WORDS, &directory, pages, 128)), RACK_RECOVERY_AWAITED, 0);
+    REFUSED(none_shown(rack_fetch_all(memory, WORDS, &directory, pages, PRICES)), RACK_RECOVERY_AWAITED, 0);
     REFUSED(made(rack_steps(memory, WORDS, &directory, 0, 1), 0), RACK_RECOVERY_AWAITED, 0);
 }
 
@@ -268,12 +279,12 @@ static void card_calls(void) {
     ACCEPTED(rack_fail(memory, WORDS, &directory, 1));
     EXPECT(directory.live[1] == 0 && directory.live[2] == 1 && directory.awaited == 1);
     EXPECT(directory.live[3] == 0 && directory.live[7] == 1);
-    memset(memory + 932, 0xA5, 932 * sizeof *memory); /* the failed card's memory may hold anything */
+    memset(memory + AREA, 0xA5, AREA * sizeof *memory); /* the failed card's memory may hold anything */
     REFUSED(rack_step(memory, WORDS, &directory, 0), RACK_RECOVERY_AWAITED, 0);
     rack_desk_answer found = rack_recover(memory, WORDS, &directory);
     EXPECT(found.number == RACK_ACCEPTED && found.value == 1 && memcmp(found.desk, desk, sizeof desk) == 0);
     EXPECT(directory.awaited == RACK_RUNNING && directory.primary[1] == 2 && directory.secondary[1] == 0);
-    ACCEPTED(rack_fetch(memory, WORDS, &directory, 1, page, 32));
+    ACCEPTED(rack_fetch(memory, WORDS, &directory, 1, page, RACK_PAGE_WORDS));
     EXPECT(page[1] == 0 && page[2] == 250 && page[3] == 199);
     REFUSED(rack_fail(memory, WORDS, &directory, 0), RACK_TWO_LIVE, 0);
     ACCEPTED(rack_open(memory, WORDS, &directory, 0, 1, desk, list, 5));
@@ -288,58 +299,58 @@ static void card_calls(void) {
 }
 
 static void list_maker(void) {
-    static uint32_t working[128], twins[128], buffer[6];
+    static uint32_t working[PRICES], twins[PRICES], buffer[6];
     working[34] = 250;
     working[35] = 199;
     memset(buffer, 0xA5, sizeof buffer);
-    rack_answer made = rack_make_list(working, 128, twins, 128, buffer, 4);
+    rack_answer made = rack_make_list(working, PRICES, twins, PRICES, buffer, 4);
     EXPECT(made.number == RACK_WRONG_BUFFER && made.value == 0 && buffer[0] == 0xA5A5A5A5);
-    made = rack_make_list(working, 127, twins, 127, buffer, 6);
+    made = rack_make_list(working, PRICES - 1, twins, PRICES - 1, buffer, 6);
     EXPECT(made.number == RACK_LIMITS && made.value == 0 && buffer[0] == 0xA5A5A5A5);
     EXPECT(rack_make_list(NULL, 0, NULL, 0, NULL, 0).number == RACK_LIMITS);
-    made = rack_make_list(working, 128, twins, 128, buffer, 6);
+    made = rack_make_list(working, PRICES, twins, PRICES, buffer, 6);
     EXPECT(made.number == RACK_ACCEPTED && made.value == 5);
     EXPECT(memcmp(buffer, list, sizeof list) == 0 && buffer[5] == 0xA5A5A5A5);
 }
 
 /* Any words at all: whatever stands in memory and directory, each call returns, and a refused one keeps both. */
 static void any_words(void) {
-    uint32_t page[RACK_PAGE_WORDS], pages[4 * RACK_PAGE_WORDS], state = 1;
+    uint32_t page[RACK_PAGE_WORDS], pages[PRICES], state = 1;
     for (int round = 0; round < 2000; round++) {
         format();
         for (int change = 0; change <= round % 5; change++) {
             state = state * 1664525 + 1013904223;
             uint32_t word = state >> 8, value = state >> (state % 32);
-            if (round % 2 == 0) ((uint32_t *)&directory)[word % 139] = value;
+            if (round % 2 == 0) ((uint32_t *)&directory)[word % (sizeof directory / sizeof value)] = value;
             else memory[word % WORDS] = value;
         }
         memcpy(memory_before, memory, sizeof memory);
         directory_before = directory;
         uint32_t card = state % 5;
         uint32_t numbers[] = {
-            rack_fetch(memory, WORDS, &directory, card, page, 32).number,
+            rack_fetch(memory, WORDS, &directory, card, page, RACK_PAGE_WORDS).number,
             rack_desk(memory, WORDS, &directory, card).number,
-            rack_fetch_all(memory, WORDS, &directory, pages, 128).number,
+            rack_fetch_all(memory, WORDS, &directory, pages, PRICES).number,
         };
         EXPECT(numbers[0] <= RACK_WRONG_BUFFER && numbers[1] <= RACK_RECOVERY_AWAITED);
         EXPECT(numbers[2] <= RACK_WRONG_BUFFER);
         uint32_t number = rack_open(memory, WORDS, &directory, card, 1, desk, list, 5).number;
-        if (number != 0) EXPECT(memcmp(memory, memory_before, sizeof memory) == 0);
+        if (number != RACK_ACCEPTED) EXPECT(memcmp(memory, memory_before, sizeof memory) == 0);
         memcpy(memory_before, memory, sizeof memory);
         number = rack_step(memory, WORDS, &directory, card).number;
-        if (number != 0) EXPECT(memcmp(memory, memory_before, sizeof memory) == 0);
+        if (number != RACK_ACCEPTED) EXPECT(memcmp(memory, memory_before, sizeof memory) == 0);
         memcpy(memory_before, memory, sizeof memory);
         uint32_t count = (uint32_t)round % 40;
         rack_steps_answer stepped = rack_steps(memory, WORDS, &directory, card, count);
         EXPECT(stepped.made <= count);
         if (stepped.made == 0) EXPECT(memcmp(memory, memory_before, sizeof memory) == 0);
         number = rack_fail(memory, WORDS, &directory, card).number;
-        if (number != 0) EXPECT(memcmp(&directory, &directory_before, sizeof directory) == 0);
+        if (number != RACK_ACCEPTED) EXPECT(memcmp(&directory, &directory_before, sizeof directory) == 0);
         memcpy(memory_before, memory, sizeof memory);
         directory_before = directory;
         number = rack_recover(memory, WORDS, &directory).number;
-        if (number != 0) EXPECT(memcmp(memory, memory_before, sizeof memory) == 0);
-        if (number != 0) EXPECT(memcmp(&directory, &directory_before, sizeof directory) == 0);
+        if (number != RACK_ACCEPTED) EXPECT(memcmp(memory, memory_before, sizeof memory) == 0);
+        if (number != RACK_ACCEPTED) EXPECT(memcmp(&directory, &directory_before, sizeof directory) == 0);
         rack_join(memory, WORDS, &directory, card);
     }
 }
