@@ -166,9 +166,9 @@ RACK_ASSERT(sizeof(size_t) == 8);
 #define RACK_UNFIT 2  /* memory and directory do not make a rack: fewer than two live cards; a page
                          whose homes are equal, or one of them not below the number of cards, or
                          dead and not the awaited card; an awaited card that is live, or not below
-                         the number of cards; a live card with word 9 of its area above 1, or with
-                         word 9 equal to 1 and a faulty list from word 164 on (read to its end
-                         word, k prices) or a word 10 above 4k + 10 */
+                         the number of cards; a live card whose area says neither 0 nor 1 for an
+                         open release, or says 1 and has a faulty list (read to its end word, k
+                         prices) or more than 4k + 10 steps made */
 
 /* The price desk */
 #define RACK_NO_CARD 3      /* no such card, or a dead one; rack_join, rack_desk: no such card */
