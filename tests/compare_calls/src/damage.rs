@@ -1,5 +1,5 @@
-//! Single calls on damaged memories and directories: random words anywhere, lists without an end word, steps past the last,
-//! records that no call left, releases that overlap, memories of another length.
+//! Single calls on damaged memories and directories: random words anywhere, lists without an end word, steps past the
+//! last, records that no call left, releases that overlap, memories of another length.
 
 use crate::call::Call;
 use crate::library::words_of;
@@ -105,8 +105,8 @@ fn damage_area(random: &mut Random, memory: &mut [u32], directory: &Directory) {
     }
 }
 
-/// A release on one card, about to count or to close, or past that. Its list may go on past its own words, in those of the
-/// first pages.
+/// A release on one card, about to count or to close, or past that. Its list may go on past its own words, in those of
+/// the first pages.
 fn put_release(random: &mut Random, memory: &mut [u32], directory: &Directory) {
     let (area, pages) = (area_of(directory), directory.pages.clamp(1, 64));
     let list = match random.below(6) {
@@ -133,8 +133,8 @@ fn put_release(random: &mut Random, memory: &mut [u32], directory: &Directory) {
     }
 }
 
-/// One word of a card's record, on every card: a dead card's if there is one, and mostly the stamp or done mark, so that
-/// either may be the greater.
+/// One word of a card's record, on every card: a dead card's if there is one, and mostly the stamp or done mark, so
+/// that either may be the greater.
 fn damage_record(random: &mut Random, memory: &mut [u32], directory: &Directory) {
     let card = dead_card(random, directory).unwrap_or(random.below(8));
     let words = if random.one_in(3) { RECORD_WORDS } else { EVEN_DESK };

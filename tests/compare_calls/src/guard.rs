@@ -1,5 +1,5 @@
-//! Words that end, or begin, at a page that may not be touched: a word read or written outside is a crash, and so is a word
-//! written that is lent to be read.
+//! Words that end, or begin, at a page that may not be touched: a word read or written outside is a crash, and so is a
+//! word written that is lent to be read.
 
 use std::cell::RefCell;
 use std::collections::HashMap;

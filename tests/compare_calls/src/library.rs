@@ -53,8 +53,8 @@ pub fn directory_of(words: &Words) -> Directory {
     Directory { cards, pages, live: live.map(|mark| mark != 0), primary, secondary, status }
 }
 
-/// A rack of the library's: every lent part stands at a page that may not be touched, and what a call must not write may
-/// only be read while it runs.
+/// A rack of the library's: every lent part stands at a page that may not be touched, and what a call must not write
+/// may only be read while it runs.
 #[derive(Clone)]
 pub struct Rack {
     pub memory: Guarded,

@@ -1,5 +1,5 @@
-//! Lists of changes: random ones that are allowed, ones near the limit of 512 words, faulty ones, and the list maker on random
-//! pages.
+//! Lists of changes: random ones that are allowed, ones near the limit of 512 words, faulty ones, and the list maker on
+//! random pages.
 
 use crate::call::Reply;
 use crate::guard::Flush;
@@ -48,8 +48,8 @@ pub fn near_limit(random: &mut Random, pages: u32) -> Vec<u32> {
     of_length(random, pages, words)
 }
 
-/// A list of so many words, or as many as the pages have room for, that keeps every rule but that of its length. It prices
-/// few pages, most of them whole, so that one of 511 words often holds 480 prices.
+/// A list of so many words, or as many as the pages have room for, that keeps every rule but that of its length. It
+/// prices few pages, most of them whole, so that one of 511 words often holds 480 prices.
 pub fn of_length(random: &mut Random, pages: u32, words: u32) -> Vec<u32> {
     let mut left = (words - 1).min(34 * pages);
     let mut used = (left.div_ceil(34) + random.of(&[0, 0, 1, 2])).min(pages);

@@ -53,8 +53,8 @@ fn main() -> ExitCode {
     }
 }
 
-/// Half of the calls in lists on formatted racks, a third on damaged ones, the rest of the list maker; the sweep comes on
-/// top.
+/// Half of the calls in lists on formatted racks, a third on damaged ones, the rest of the list maker; the sweep comes
+/// on top.
 fn compare(options: &Options) -> Result<String, String> {
     let mut seen = Seen::default();
     let mut random = Random::new(options.seed);
@@ -69,8 +69,8 @@ fn compare(options: &Options) -> Result<String, String> {
     }
     let swept = sweep::compare()?;
     Ok(format!(
-        "{swept} swept and {played} played with the book, {damaged} on damaged racks, {made} lists made, each flush left \
-         and flush right: all equal (seed {})\n\
+        "{swept} swept and {played} played with the book, {damaged} on damaged racks, {made} lists made, each flush \
+         left and flush right: all equal (seed {})\n\
          compare_calls: calls by refusal (0: accepted): {seen}",
         options.seed
     ))

@@ -87,7 +87,8 @@ impl Play {
         Call::FetchAll { buffer: vec![7; room as usize] }
     }
 
-    /// Mostly the next number, and short lists, so that releases come to their close; now and then as long a list as fits.
+    /// Mostly the next number, and short lists, so that releases come to their close; now and then as long a list as
+    /// fits.
     fn opening(&mut self, card: u32) -> Call {
         let pages = self.held.racks.directory.pages;
         let last = self.held.book.last(card).0;

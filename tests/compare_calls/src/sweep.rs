@@ -1,5 +1,5 @@
-//! Every card fails at every step of one release, and of two that are open on different cards, on racks of 3 to 8 cards; then
-//! the others are asked, the card joins, and the next one fails.
+//! Every card fails at every step of one release, and of two that are open on different cards, on racks of 3 to 8
+//! cards; then the others are asked, the card joins, and the next one fails.
 
 use crate::call::{Call, Reply};
 use crate::held::Held;
