@@ -3,7 +3,7 @@
 mod common;
 
 use common::{refused, refused_at, Rack, OK};
-use second::layout::{memory_words, stamp_at};
+use second::layout::{memory_words, stamp_at, Number};
 use second::*;
 
 const TWO_PRICES: [u32; 5] = [0x1000_0001, 0x2002_0002, 0x0000_00FA, 0x0000_00C7, 0xF000_0004];
@@ -126,17 +126,17 @@ fn a_run_ends_with_its_page() {
 #[test]
 fn every_number_is_too_low_at_the_last_stamp() {
     let mut rack = Rack::new(3, 4);
-    rack.set_stamp(1, u32::MAX);
-    for number in [0, 1, 2, 1 << 31, u32::MAX - 1, u32::MAX] {
+    rack.set_stamp(1, Number::MAX);
+    for number in [0, 1, 2, 1 << 31, Number::MAX - 1, Number::MAX] {
         let answer = rack.open(1, number, NO_DESK, &TWO_PRICES);
-        assert_eq!(answer, refused_at(5, u32::MAX.into()));
+        assert_eq!(answer, refused_at(5, Number::MAX.into()));
     }
 }
 
 #[test]
 fn number_0_is_too_low_at_each_stamp() {
     let mut rack = Rack::new(3, 4);
-    for stamp in [0, 1, 2, 1 << 31, u32::MAX - 1, u32::MAX] {
+    for stamp in [0, 1, 2, 1 << 31, Number::MAX - 1, Number::MAX] {
         rack.set_stamp(1, stamp);
         assert_eq!(rack.open(1, 0, NO_DESK, &TWO_PRICES), refused_at(5, stamp.into()));
     }

@@ -4,7 +4,7 @@
 mod common;
 
 use common::{list_of, refused, refused_at, Rack, OK};
-use second::layout::{memory_words, LIST_WORDS, OPEN, STEPS};
+use second::layout::{memory_words, Number, LIST_WORDS, OPEN, STEPS};
 use second::*;
 
 const NO_DESK: [u32; 8] = [0; 8];
@@ -146,7 +146,7 @@ fn refusals_of_an_opening_in_order() {
     for number in [0, 1, 5, 6] {
         assert_eq!(rack.open(1, number, NO_DESK, &[]), refused_at(5, 6));
     }
-    for number in [8, 9, u32::MAX] {
+    for number in [8, 9, Number::MAX] {
         assert_eq!(rack.open(1, number, NO_DESK, &[]), refused(6));
     }
     assert_eq!(rack.open(1, 7, NO_DESK, &[]), refused_at(7, 0));

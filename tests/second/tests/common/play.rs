@@ -3,6 +3,7 @@
 use super::{list_of, random_changes, Change, Rack};
 use random::Random;
 use second::book::{Book, Call};
+use second::layout::Number;
 use second::refusals::*;
 use second::{check_list, fetch_all, Answer, Status};
 
@@ -160,11 +161,11 @@ impl Play {
 
     /// The number the book will hold for the awaited card after recovery: a dead
     /// card's open release was struck out, so recovery does not change it.
-    fn last_of_awaited(&self) -> u32 {
+    fn last_of_awaited(&self) -> Number {
         self.book.last(self.book.failed()).0
     }
 
-    fn expected_opening(&self, card: u32, number: u32, list: &[u32]) -> Answer {
+    fn expected_opening(&self, card: u32, number: Number, list: &[u32]) -> Answer {
         let (last, _) = self.book.last(card);
         if self.open[card as usize].is_some() {
             return Answer::Refused(RELEASE_OPEN, 0);
