@@ -9,6 +9,7 @@ use bandsawpink_sys::rack_make_list;
 use bandsawpink_sys::refusals::ACCEPTED;
 use measure::{in_turn, Time};
 use racks::{list, spread_list, Rack, PRICES};
+use second::layout::LIST_WORDS;
 use std::hint::black_box;
 use work::*;
 
@@ -122,9 +123,9 @@ fn list_made(name: &str, labels: impl Iterator<Item = usize>) {
     let twins = vec![7u32; 32 * 64];
     let mut working = twins.clone();
     labels.for_each(|label| working[label] = 8);
-    let (mut first, mut other) = (vec![0u32; 512], vec![0u32; 512]);
+    let (mut first, mut other) = (vec![0u32; LIST_WORDS], vec![0u32; LIST_WORDS]);
     let mut proved = || {
-        let (list, room) = (black_box(&mut first).as_mut_ptr(), 512);
+        let (list, room) = (black_box(&mut first).as_mut_ptr(), LIST_WORDS);
         // SAFETY: pointers and lengths of slices that live through the call and do not overlap.
         let made = unsafe { rack_make_list(working.as_ptr(), working.len(), twins.as_ptr(), twins.len(), list, room) };
         assert_eq!(made.number, ACCEPTED, "a timed call was refused");
