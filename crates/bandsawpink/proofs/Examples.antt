@@ -1,10 +1,9 @@
 -- The examples hold: each is computed.
-use mathlib.Core.Path.{refl}
+use Rattle.laws.proofs.Prelude.{refl}
 use Rattle.laws.specs.Search.{lowestFrom}
 use Rattle.laws.specs.Examples.{AllHold, sameWords, failuresFrom, Claims}
 use Rattle.laws.proofs.Examples.{all-hold}
-use Rattle.directory.specs.Directory.{formattedDirectory, tableFrom}
-use Rattle.directory.specs.Live.{nextLive}
+use Rattle.directory.specs.Directory.{formattedDirectory, tableFrom, nextLive}
 use Rattle.bandsawpink.specs.Words.{directoryIn, wordsOf}
 use Rattle.bandsawpink.specs.Examples.{examples}
 

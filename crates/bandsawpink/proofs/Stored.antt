@@ -1,9 +1,6 @@
 -- The directory's three parts, stored one after the other, are all its words.
-use Prim.Native.Nat.{ℕ}
-use mathlib.Core.Path.{_≡_, refl, sym, _∙_}
-use mathlib.Core.List.{List, _++_}
-use native.Mathlib.Omega.{arith}
-use lib.ListN.{length, length-append}
+use Rattle.laws.proofs.Prelude.{ℕ, _≡_, refl, sym, _∙_, List, _++_, arith, length}
+use lib.ListN.{length-append}
 use lib.Seq.{sets}
 use Rattle.laws.proofs.Lists.{sets-append, sets-whole}
 use Rattle.directory.specs.declared.Directory.{Directory}

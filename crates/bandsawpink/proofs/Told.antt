@@ -1,8 +1,5 @@
 -- An answer that tells an outcome, in numbers.
-use Prim.Native.Nat.{ℕ}
-use mathlib.Core.Path.{_≡_}
-use mathlib.Core.List.{List}
-use mathlib.Core.Bool.{Bool}
+use Rattle.laws.proofs.Prelude.{ℕ, _≡_, List, Bool}
 use Rattle.answer.specs.declared.Outcome.{Outcome}
 use Rattle.answer.specs.declared.Answer.{Answer}
 use Rattle.answer.specs.Outcome.{outcome, answerOf}

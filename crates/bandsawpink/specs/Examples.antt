@@ -1,8 +1,6 @@
 -- Worked examples of what crosses to C, computed from the definitions: the 139 words of a directory, and an answer.
 -- Assumes nothing: these are definitions.
-use Prim.Native.Nat.{ℕ}
-use mathlib.Core.List.{List, [], _∷_, _++_}
-use lib.ListN.{replicate}
+use Rattle.laws.specs.Prelude.{ℕ, List, [], _∷_, _++_, replicate}
 use Rattle.laws.specs.Examples.{Example, computed}
 use Rattle.answer.specs.Outcome.{given, refusedAt}
 use Rattle.directory.specs.declared.Directory.{Directory}

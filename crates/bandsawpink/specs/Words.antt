@@ -1,10 +1,6 @@
 -- The directory as 139 words, which is how it crosses to C: cards, pages, the awaited card, marks, homes.
 -- Assumes nothing: these are definitions.
-use Prim.Native.Nat.{ℕ, _+_}
-use mathlib.Core.List.{List, _∷_, _++_}
-use mathlib.Core.Bool.{Bool, cond}
-use lib.Dec.{ltb, eqb}
-use lib.ListN.{getD, take, drop}
+use Rattle.laws.specs.Prelude.{ℕ, _+_, List, _∷_, _++_, Bool, cond, ltb, eqb, getD, take, drop}
 use Rattle.directory.specs.declared.Directory.{Directory}
 use Rattle.directory.specs.declared.Status.{Status}
 use Rattle.directory.specs.declared.Status.the-variants.{Running, Awaiting}

@@ -1,8 +1,8 @@
 // What the exported functions answer, in numbers.
-ghost use mathlib.Core.Path.{_≡_};
+ghost use Rattle.laws.specs.Prelude.{_≡_};
 ghost use Rattle.answer.specs.Outcome.{outcome};
-ghost use Rattle.bandsawpink.specs.Answers.{answered, answeredDesk};
-ghost use Rattle.bandsawpink.specs.Answers.{answeredSteps, answeredPages};
+ghost use Rattle.bandsawpink.specs.Answers.{answered, answeredDesk, answeredSteps};
+ghost use Rattle.bandsawpink.specs.Answers.{answeredPages};
 use answer::Answer;
 
 // 0 and what the call gives, or the refusal and its place.

@@ -1,9 +1,6 @@
 // The rack's calls for programs in C and Rust: the functions of include/bandsawpink.h. Each does
 // what the call that it names does, on any argument; C hands in a slice as a pointer and a length.
-ghost use mathlib.Core.Path.{_≡_};
-ghost use mathlib.Core.Bool.{cond};
-ghost use lib.Dec.{eqb};
-ghost use lib.ListN.{length};
+ghost use Rattle.laws.specs.Prelude.{_≡_, cond, eqb, length};
 ghost use Rattle.laws.specs.Examples.{AllHold};
 ghost use Rattle.diff.specs.Making.{makeDiff, bufferAfter};
 ghost use Rattle.protocol.specs.Release.{releaseOf};

@@ -1,11 +1,9 @@
 // The directory as words, which is how it crosses to C: cards, pages, the awaited card, 8 marks, 64
 // primary homes, 64 secondary homes. Any words are a directory.
-ghost use mathlib.Core.Path.{_≡_};
-ghost use Prim.Native.Nat.{_+_, _≤_};
-ghost use lib.ListN.{length, take, drop};
+ghost use Rattle.laws.specs.Prelude.{_≡_, _+_, _≤_, length, take, drop};
 ghost use lib.Seq.{sets};
-ghost use Rattle.bandsawpink.specs.Words.{statusIn, marksIn, directoryIn};
-ghost use Rattle.bandsawpink.specs.Words.{awaitedWord, headOf, wordsOf};
+ghost use Rattle.bandsawpink.specs.Words.{statusIn, marksIn, directoryIn, awaitedWord};
+ghost use Rattle.bandsawpink.specs.Words.{headOf, wordsOf};
 use directory::Directory;
 use directory::Status;
 

@@ -1,22 +1,14 @@
 -- A step that was accepted keeps checks 1 and 2: of each card it leaves the words that they look at, but for its own
 -- steps. So the next step is accepted too, and after the close it is refused with 16.
-use Prim.Native.Nat.{ℕ, suc, _+_, _-_, _*_, _<_}
-use mathlib.Core.Path.{_≡_, refl, sym, _∙_}
-use mathlib.Core.List.{List}
-use mathlib.Core.Bool.{Bool, true, false}
-use native.Mathlib.Omega.{arith}
-use native.Mathlib.Decide.{ℕ-discrete}
-use borrow.Author.Tests.{eqb-true, le-ltb}
-use lib.ListN.{length}
-use lib.Dec.{eqb}
+use Rattle.laws.proofs.Prelude.{ℕ, suc, _+_, _-_, _*_, _<_, _≡_, refl, sym, _∙_, List, Bool, true, false, arith}
+use Rattle.laws.proofs.Prelude.{ℕ-discrete, eqb-true, le-ltb, length, eqb}
 use Rattle.laws.proofs.Bools.{and-first, and-second}
 use Rattle.laws.proofs.Search.{lowest-same}
 use Rattle.memory.specs.Layout.{areaSize, releaseOpen}
 use Rattle.memory.specs.Area.{AreaIn, load}
 use Rattle.memory.proofs.Index.{area-in}
 use Rattle.directory.specs.declared.Directory.{Directory}
-use Rattle.directory.specs.Live.{liveAt}
-use Rattle.directory.specs.Directory.{backupOf}
+use Rattle.directory.specs.Directory.{liveAt, backupOf}
 use Rattle.protocol.specs.Release.{sizeOf, isOpen, openPrices, stepsOf, stepMemory}
 use Rattle.protocol.specs.Checks.{badRelease, badCard, unfitRack}
 use Rattle.protocol.proofs.Accepting.{Runs, StepPassed}

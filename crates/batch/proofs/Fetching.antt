@@ -1,15 +1,9 @@
 -- On a rack that passed checks 1, 2 and 11, a fetch of one of its pages into 32 words is refused if the page is in
 -- motion, and only then.
-use Prim.Native.Nat.{ℕ, zero, suc, _+_, _*_, _≤_, _<_}
-use mathlib.Core.Path.{_≡_, refl, sym, _∙_}
-use mathlib.Core.Logic.{_≢_}
-use mathlib.Core.List.{List}
-use mathlib.Core.Bool.{Bool, true, false, cond}
-use native.Mathlib.Omega.{arith}
-use borrow.Author.Tests.{eq-eqb, ne-eqb, eqb-true, not-false, lt-leb}
-use lib.ListN.{length, getD, take, drop, length-take, length-drop, take-append-drop}
+use Rattle.laws.proofs.Prelude.{ℕ, zero, suc, _+_, _*_, _≤_, _<_, _≡_, refl, sym, _∙_, _≢_, List, Bool, true, false}
+use Rattle.laws.proofs.Prelude.{cond, arith, eq-eqb, ne-eqb, eqb-true, not-false, lt-leb, length, getD, take, drop, eqb}
+use lib.ListN.{length-take, length-drop, take-append-drop}
 use lib.Seq.{sets, length-sets, sets-eq, take-add}
-use lib.Dec.{eqb}
 use Rattle.laws.specs.Search.{lowest, inTurn}
 use Rattle.laws.proofs.Bools.{by-cond}
 use Rattle.answer.specs.Outcome.{given, refused, refusedAt, pageInMotion}
@@ -22,8 +16,7 @@ use Rattle.protocol.proofs.Limits.{within-limits}
 use Rattle.checks.proofs.Order.{by-number}
 use Rattle.conflict.proofs.InMotion.{motion-marked}
 use Rattle.rack.proofs.Results.{fetch-refused, fetch-accepted}
-use Rattle.batch.specs.FetchAll.{Pages, pagesOf, fetchNext, noneShown, fetchAllChecks, fetchedTo}
-use Rattle.batch.specs.FetchAll.{fetchAll}
+use Rattle.batch.specs.FetchAll.{Pages, pagesOf, fetchNext, noneShown, fetchAllChecks, fetchedTo, fetchAll}
 use Rattle.batch.specs.Showing.{isMoving, movingOf, showNext}
 
 -- a part stored where it was read

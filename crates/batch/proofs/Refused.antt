@@ -1,11 +1,7 @@
 -- What a refused batch leaves. Rests on demand 1 of the single step, and on the order of the checks of a fetch of all
 -- pages.
-use Prim.Native.Nat.{ℕ, zero, suc, _+_, _<_}
-use mathlib.Core.Path.{_≡_, refl}
-use mathlib.Core.List.{List, [], _∷_}
-use mathlib.Core.Bool.{true, false, true≢false}
-use native.Mathlib.Omega.{arith}
-use lib.ListN.{length}
+use Rattle.laws.proofs.Prelude.{ℕ, zero, suc, _+_, _<_, _≡_, refl, List, [], _∷_, true, false, true≢false, arith}
+use Rattle.laws.proofs.Prelude.{length}
 use Rattle.laws.proofs.Bools.{by-cond}
 use Rattle.directory.specs.declared.Directory.{Directory}
 use Rattle.protocol.specs.Checks.{firstRefusal}

@@ -1,13 +1,8 @@
 -- Steps made one after the other on a rack that passed its checks: each up to the close is accepted, the one after it
 -- refused.
-use Prim.Native.Nat.{ℕ, zero, suc, _+_, _-_, _<_, min}
-use mathlib.Core.Path.{_≡_, refl, sym, _∙_}
-use mathlib.Core.Logic.{_≢_}
-use mathlib.Core.List.{List}
-use mathlib.Core.Bool.{Bool, true, cond, not}
-use native.Mathlib.Omega.{arith}
-use native.Mathlib.Decide.{decLt}
-use borrow.Author.Tests.{ne-eqb, lt-leb, le-leb}
+use Rattle.laws.proofs.Prelude.{ℕ, zero, suc, _+_, _-_, _<_, _≡_, refl, sym, _∙_, _≢_, List, Bool, true, cond, not}
+use Rattle.laws.proofs.Prelude.{arith, decLt, ne-eqb, lt-leb, le-leb}
+use Prim.Native.Nat.{min}
 use Rattle.answer.specs.declared.Outcome.{Outcome}
 use Rattle.answer.specs.Outcome.{given, refused, noneOpen}
 use Rattle.directory.specs.declared.Directory.{Directory}

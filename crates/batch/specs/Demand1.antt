@@ -2,11 +2,7 @@
 -- exception: a refusal stops a batch of steps, and the steps that were made before it stand. Each of these is a call of
 -- its own to document 01, accepted as the single step accepts it.
 -- Assumes nothing: these are definitions.
-use Prim.Native.Nat.{ℕ, zero, suc, _<_}
-use mathlib.Core.Path.{_≡_}
-use mathlib.Core.List.{List, [], _∷_}
-use mathlib.Core.Bool.{true, false}
-use lib.ListN.{replicate}
+use Rattle.laws.specs.Prelude.{ℕ, zero, suc, _<_, _≡_, List, [], _∷_, true, false, replicate}
 use Rattle.directory.specs.declared.Directory.{Directory}
 use Rattle.protocol.specs.Result.{accepted}
 use Rattle.protocol.specs.Step.{step}

@@ -1,11 +1,8 @@
 -- All pages fetched in one call. Document 01 does not name it: it is the single fetch, made for each page in turn.
 -- Assumes nothing: these are definitions.
-use Prim.Native.Nat.{ℕ, _*_}
-use mathlib.Core.List.{List, [], _∷_, _++_}
-use mathlib.Core.Bool.{Bool, false, cond, not}
-use lib.ListN.{length, take, drop, set, replicate}
+use Rattle.laws.specs.Prelude.{ℕ, _*_, List, [], _∷_, _++_, Bool, false, cond, not, length, take, drop, set, replicate}
+use Rattle.laws.specs.Prelude.{eqb}
 use lib.Seq.{sets}
-use lib.Dec.{eqb}
 use Rattle.laws.specs.Search.{inTurn}
 use Rattle.answer.specs.declared.Outcome.{Outcome}
 use Rattle.answer.specs.Outcome.{wrongBuffer}

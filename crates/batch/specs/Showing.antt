@@ -1,10 +1,7 @@
 -- The pages of a rack that passed its checks, fetched in one call: which are in motion is known before the first is
 -- copied, and each other page's words are its committed ones. `FetchAll` says what the call is to come to.
 -- Assumes nothing: these are definitions.
-use Prim.Native.Nat.{ℕ, _*_, _<_, _≤_}
-use mathlib.Core.List.{List, []}
-use mathlib.Core.Bool.{Bool, false, cond, not}
-use lib.ListN.{length, getD, set, replicate}
+use Rattle.laws.specs.Prelude.{ℕ, _*_, _<_, _≤_, List, [], Bool, false, cond, not, length, getD, set, replicate}
 use lib.Seq.{sets}
 use Rattle.laws.specs.Search.{someBelow, inTurn}
 use Rattle.memory.specs.Layout.{pageSize}

@@ -1,9 +1,6 @@
 -- Several steps of a release in one call. Document 01 does not name it: it is the single step, made again and again.
 -- Assumes nothing: these are definitions.
-use Prim.Native.Nat.{ℕ, zero, suc, _+_}
-use mathlib.Core.List.{List}
-use mathlib.Core.Bool.{cond}
-use lib.Dec.{leb}
+use Rattle.laws.specs.Prelude.{ℕ, zero, suc, _+_, List, cond, leb}
 use Rattle.answer.specs.declared.Outcome.{Outcome}
 use Rattle.answer.specs.Outcome.{given, refused, noneOpen}
 use Rattle.directory.specs.declared.Directory.{Directory}

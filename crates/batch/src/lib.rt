@@ -1,9 +1,7 @@
 // Several calls in one. Each answers and leaves what the single calls, made one after the other,
 // would; inside, the rack is checked once.
-ghost use mathlib.Core.Path.{_≡_};
-ghost use mathlib.Core.Bool.{false, not};
-ghost use Prim.Native.Nat.{_*_, _<_, _≤_, min};
-ghost use lib.ListN.{length, getD};
+ghost use Rattle.laws.specs.Prelude.{_≡_, false, not, _*_, _<_, _≤_, length, getD};
+ghost use Prim.Native.Nat.{min};
 ghost use Rattle.laws.specs.Search.{inTurn};
 ghost use Rattle.answer.specs.Outcome.{answerOf};
 ghost use Rattle.memory.specs.Layout.{areaSize};

@@ -1,18 +1,10 @@
 -- Where all cards are live, the numbers of a page's homes tell whether they are bad.
-use Prim.Native.Nat.{ℕ}
-use mathlib.Core.Path.{_≡_}
-use mathlib.Core.List.{List}
-use mathlib.Core.Bool.{Bool}
-use native.Mathlib.Decide.{decLt}
-use native.Mathlib.Omega.{arith}
-use borrow.Author.Tests.{le-leb, lt-leb}
-use lib.Dec.{leb}
+use Rattle.laws.proofs.Prelude.{ℕ, _≡_, List, Bool, decLt, arith, le-leb, lt-leb, leb}
 use Rattle.laws.specs.Search.{countBelow, someBelow}
 use Rattle.laws.proofs.Search.{all-count, lowest-same}
 use Rattle.directory.specs.declared.Directory.{Directory}
 use Rattle.directory.specs.declared.Status.{Status}
-use Rattle.directory.specs.Live.{liveAt}
-use Rattle.directory.specs.Directory.{primaryOf, secondaryOf}
+use Rattle.directory.specs.Directory.{liveAt, primaryOf, secondaryOf}
 use Rattle.protocol.specs.Checks.{badHome, badPage}
 use Rattle.checks.specs.Homes.{misplaced, misplacedPage}
 

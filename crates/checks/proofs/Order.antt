@@ -1,15 +1,10 @@
 -- Checks in order: of two lists of checks the first decides, and where none of it refuses the second.
-use Prim.Native.Nat.{ℕ, _<_, _≤_}
-use mathlib.Core.Path.{_≡_, refl, ap, _∙_}
-use mathlib.Core.Logic.{_≢_}
-use mathlib.Core.List.{List, [], _∷_, _++_}
-use mathlib.Core.Bool.{Bool, true, false, cond, not, _&&_, _||_}
-use borrow.Author.Tests.{ne-eqb, eqb-true, not-true, le-leb, lt-leb}
-use lib.Dec.{eqb, leb}
+use Rattle.laws.proofs.Prelude.{ℕ, _<_, _≤_, _≡_, refl, ap, _∙_, _≢_, List, [], _∷_, _++_, Bool, true, false, cond, not}
+use Rattle.laws.proofs.Prelude.{_&&_, _||_, ne-eqb, eqb-true, not-true, le-leb, lt-leb, eqb, leb}
 use Rattle.laws.proofs.Bools.{by-cond, and-first, and-second}
 use Rattle.answer.specs.declared.Outcome.{Outcome}
 use Rattle.answer.specs.Outcome.{given, refused, refusedAt}
-use Rattle.directory.specs.Live.{liveAt}
+use Rattle.directory.specs.Directory.{liveAt}
 use Rattle.protocol.specs.Checks.{Check, checkAt, firstRefusal}
 
 -- ---- one check before others, and none

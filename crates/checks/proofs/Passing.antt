@@ -1,11 +1,5 @@
 -- Where the first checks of a call do not refuse: a rack within its limits, and a card of it.
-use Prim.Native.Nat.{ℕ, _<_}
-use mathlib.Core.Path.{_≡_, refl, sym, _∙_}
-use mathlib.Core.List.{List}
-use mathlib.Core.Bool.{true}
-use borrow.Author.Tests.{eq-eqb, leb-false}
-use lib.ListN.{length}
-use lib.Dec.{leb}
+use Rattle.laws.proofs.Prelude.{ℕ, _<_, _≡_, refl, sym, _∙_, List, true, eq-eqb, leb-false, length, leb}
 use Rattle.laws.proofs.Bools.{neither}
 use Rattle.directory.specs.declared.Directory.{Directory}
 use Rattle.protocol.specs.Checks.{Check, firstRefusal, runningChecks, cardChecks, liveCardChecks}

@@ -1,9 +1,5 @@
 -- The homes of a page as far as their numbers tell whether they are bad.
-use Prim.Native.Nat.{ℕ}
-use mathlib.Core.List.{List}
-use mathlib.Core.Bool.{Bool, _||_}
-use lib.ListN.{getD}
-use lib.Dec.{leb, eqb}
+use Rattle.laws.specs.Prelude.{ℕ, List, Bool, _||_, getD, leb, eqb}
 
 -- they are the same, or one of them is not below the number of cards
 unfoldable pub misplaced : ℕ → ℕ → ℕ → Bool

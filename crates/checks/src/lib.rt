@@ -1,14 +1,11 @@
 // Whether a memory and a directory fit each other, whether the rack runs, and whether there is such
 // a card: refusals 1, 2, 11 and 3. Each check is true where it refuses. A directory's arrays are lent
 // one by one: a directory handed on by value would be copied at each call.
-ghost use mathlib.Core.Path.{_≡_};
-ghost use Prim.Native.Nat.{_*_, _<_, _≤_};
-ghost use lib.ListN.{length};
+ghost use Rattle.laws.specs.Prelude.{_≡_, _*_, _<_, _≤_, length};
 ghost use Rattle.laws.specs.Search.{someBelow, countBelow};
 ghost use Rattle.memory.specs.Layout.{areaSize};
 ghost use Rattle.memory.specs.Area.{AreaIn};
-ghost use Rattle.directory.specs.Live.{liveAt};
-ghost use Rattle.directory.specs.Directory.{directoryOf, awaitsCard};
+ghost use Rattle.directory.specs.Directory.{liveAt, directoryOf, awaitsCard};
 ghost use Rattle.protocol.specs.Checks.{outsideLimits, badHome, badPage, badStatus, badRelease};
 ghost use Rattle.protocol.specs.Checks.{badCard, unfitRack, firstRefusal, fittingChecks};
 ghost use Rattle.protocol.specs.Checks.{runningChecks, cardChecks, liveCardChecks};

@@ -1,16 +1,15 @@
 -- The examples hold: each is computed.
-use mathlib.Core.Path.{refl}
+use Rattle.laws.proofs.Prelude.{refl}
 use Rattle.laws.specs.Search.{lowestFrom, countBelow, inTurn}
 use Rattle.laws.specs.Examples.{AllHold, sameWords, failuresFrom, Claims}
 use Rattle.laws.specs.Text.{bytesOf}
 use Rattle.laws.proofs.Examples.{all-hold}
 use Rattle.memory.specs.Area.{load, store, loadRun, overwrite, storeRun, clearRun, copyRun, zeros}
-use Rattle.directory.specs.Directory.{formattedDirectory, emptyDirectory, tableFrom}
-use Rattle.directory.specs.Live.{nextLive}
+use Rattle.directory.specs.Directory.{formattedDirectory, emptyDirectory, tableFrom, nextLive}
 use Rattle.diff.specs.Prices.{pricesOf, pricesFrom, names}
 use Rattle.diff.specs.Reading.{readFrom, wordStep, checkDiff}
-use Rattle.protocol.specs.Release.{ownRelease, openRelease, openList, stepsOf, isOpen, releaseWrites}
-use Rattle.protocol.specs.Release.{makeWrite, close, stepMemory}
+use Rattle.protocol.specs.Release.{ownRelease, openRelease, openList, stepsOf, isOpen, releaseWrites, makeWrite, close}
+use Rattle.protocol.specs.Release.{stepMemory}
 use Rattle.protocol.specs.Record.{recordedRelease, underWay, settledRecord, writeRecord, writeOwnRecord}
 use Rattle.protocol.specs.Checks.{firstRefusal, outsideLimits, fewLive, badHome, badPage, badStatus, badRelease}
 use Rattle.protocol.specs.Checks.{badCard, unfitRack, awaitsRecovery}

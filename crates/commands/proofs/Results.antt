@@ -1,9 +1,5 @@
 -- A failure and its recovery, as one command.
-use Prim.Native.Nat.{ℕ}
-use mathlib.Core.Path.{_≡_, refl}
-use mathlib.Core.Logic.{_≢_}
-use mathlib.Core.List.{List, []}
-use borrow.Author.Tests.{eq-eqb, ne-eqb}
+use Rattle.laws.proofs.Prelude.{ℕ, _≡_, refl, _≢_, List, [], eq-eqb, ne-eqb}
 use Rattle.laws.proofs.Bools.{by-cond}
 use Rattle.directory.specs.declared.Directory.{Directory}
 use Rattle.answer.specs.declared.Outcome.{Outcome}

@@ -1,8 +1,6 @@
 -- Worked examples of shelfrun's commands, computed from the definitions: what each shows.
 -- Assumes nothing: these are definitions.
-use Prim.Native.Nat.{ℕ}
-use mathlib.Core.List.{List, [], _∷_, _++_}
-use lib.ListN.{take, drop, replicate}
+use Rattle.laws.specs.Prelude.{ℕ, List, [], _∷_, _++_, take, drop, replicate}
 use Rattle.laws.specs.Examples.{Example, computed}
 use Rattle.laws.specs.Text.{bytesOf}
 use Rattle.answer.specs.Outcome.{inWords}

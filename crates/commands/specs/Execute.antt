@@ -1,10 +1,7 @@
 -- What a command of shelfrun does (document 01, "Numbers to hold it against": the lines B, S, X, J and F; "The value
 -- is steps made (S), stamp found (X), the price (F), else 0; a refusal shows its place, but S its steps made").
 -- Assumes nothing: these are definitions.
-use Prim.Native.Nat.{ℕ}
-use mathlib.Core.List.{List, [], _∷_}
-use mathlib.Core.Bool.{cond}
-use lib.ListN.{getD}
+use Rattle.laws.specs.Prelude.{ℕ, List, [], _∷_, cond, getD}
 use Rattle.answer.specs.declared.Outcome.{Outcome}
 use Rattle.answer.specs.Outcome.{given, refusedAt, refused, unreadable}
 use Rattle.memory.specs.Layout.{deskSize, pageSize}

@@ -1,6 +1,5 @@
 // The commands of shelfrun (document 01, "Numbers to hold it against"), executed on a rack.
-ghost use mathlib.Core.Path.{_≡_};
-ghost use lib.ListN.{getD};
+ghost use Rattle.laws.specs.Prelude.{_≡_, getD};
 ghost use Rattle.laws.specs.Examples.{AllHold};
 ghost use Rattle.protocol.specs.Join.{join};
 ghost use Rattle.commands.specs.Execute.{openOne, makeSteps, failAndRecover, fetchWord};

@@ -1,13 +1,8 @@
 -- The marks of the pages in motion: a page is marked if an open release which already counts names it.
-use Prim.Native.Nat.{ℕ, zero, suc, _≤_, _<_}
-use mathlib.Core.Path.{_≡_, refl, sym, _∙_}
-use mathlib.Core.List.{List, [], _∷_}
-use mathlib.Core.Bool.{Bool, true, false, cond, _&&_, _||_, or-assoc, or-false, true≢false}
-use native.Mathlib.Omega.{arith}
-use native.Mathlib.Decide.{ℕ-discrete, decLt}
-use borrow.Author.Tests.{ltb-true, le-ltb}
-use lib.ListN.{length, getD, length-replicate}
-use lib.Dec.{leb}
+use Rattle.laws.proofs.Prelude.{ℕ, zero, suc, _≤_, _<_, _≡_, refl, sym, _∙_, List, [], _∷_, Bool, true, false, cond}
+use Rattle.laws.proofs.Prelude.{_&&_, _||_, true≢false, arith, ℕ-discrete, decLt, ltb-true, le-ltb, length, getD, leb}
+use mathlib.Core.Bool.{or-assoc, or-false}
+use lib.ListN.{length-replicate}
 use Rattle.laws.specs.Search.{lowestFrom, lowest, someBelow, inTurn}
 use Rattle.laws.proofs.Search.{lowest-stops, none-below, some-below}
 use Rattle.memory.specs.Layout.{areaSize}

@@ -1,13 +1,8 @@
 -- Marks stand for prices: a place is marked if a price has it. And the walk that marks the prices of a list.
-use Prim.Native.Nat.{ℕ, zero, suc, _≤_, _<_}
-use mathlib.Core.Path.{_≡_, refl, sym, ap, _∙_}
-use mathlib.Core.List.{List, [], _∷_, _++_}
-use mathlib.Core.Bool.{Bool, true, false, cond, _||_, or-true, or-false}
-use native.Mathlib.Decide.{ℕ-discrete}
-use native.Mathlib.Omega.{arith}
-use lib.Dec.{ltb, eqb}
-use borrow.Author.Tests.{eq-eqb, ne-eqb}
-use lib.ListN.{length, getD, set, replicate, length-set, length-replicate}
+use Rattle.laws.proofs.Prelude.{ℕ, zero, suc, _≤_, _<_, _≡_, refl, sym, ap, _∙_, List, [], _∷_, _++_, Bool, true, false}
+use Rattle.laws.proofs.Prelude.{cond, _||_, ℕ-discrete, arith, ltb, eqb, eq-eqb, ne-eqb, length, getD, set, replicate}
+use mathlib.Core.Bool.{or-true, or-false}
+use lib.ListN.{length-set, length-replicate}
 use lib.Seq.{getD-set-same, getD-set-other}
 use Rattle.diff.specs.declared.Cursor.{Cursor}
 use Rattle.diff.specs.declared.Price.{Price}
@@ -15,8 +10,7 @@ use Rattle.diff.specs.Prices.{pricedWord, pricesOf}
 use Rattle.diff.proofs.Stored.{OnPages}
 use Rattle.conflict.specs.Walking.{Walk, atFirst, pastWord}
 use Rattle.conflict.specs.Marks.{marked, markedDue}
-use Rattle.conflict.proofs.Walking.{Reached, reached-next, priceDue, pricesLeft}
-use Rattle.conflict.proofs.Walking.{left-first, left-turn, left-end}
+use Rattle.conflict.proofs.Walking.{Reached, reached-next, priceDue, pricesLeft, left-first, left-turn, left-end}
 
 -- none of so many places marked
 abbrev pub unmarked : ℕ → List Bool

@@ -1,12 +1,7 @@
 -- Searches over the other cards: without a card of its own number a search leaves none out, and where no other card
 -- has a release open, none shares a word.
-use Prim.Native.Nat.{ℕ, zero, suc, _+_, _<_}
-use mathlib.Core.Path.{_≡_, refl, ap}
-use mathlib.Core.List.{List}
-use mathlib.Core.Bool.{Bool, false, and-assoc}
-use native.Mathlib.Omega.{arith}
-use borrow.Author.Tests.{ne-eqb}
-use lib.Dec.{ltb}
+use Rattle.laws.proofs.Prelude.{ℕ, zero, suc, _+_, _<_, _≡_, refl, ap, List, Bool, false, arith, ne-eqb, ltb}
+use mathlib.Core.Bool.{and-assoc}
 use Rattle.laws.specs.Search.{lowestFrom, lowest, someBelow}
 use Rattle.laws.proofs.Search.{lowest-all-fail, none-below}
 use Rattle.memory.specs.Layout.{areaSize}

@@ -1,14 +1,8 @@
 -- A walk over the words of a list: the bounds that each word keeps, and the prices that are left.
-use Prim.Native.Nat.{ℕ, _+_, _-_, _*_, _≤_, _<_}
-use mathlib.Core.Path.{_≡_, refl, sym, ap, _∙_}
-use mathlib.Core.List.{List, [], _∷_, _++_}
-use mathlib.Core.Bool.{cond}
+use Rattle.laws.proofs.Prelude.{ℕ, _+_, _-_, _*_, _≤_, _<_, _≡_, refl, sym, ap, _∙_, List, [], _∷_, _++_, cond, arith}
+use Rattle.laws.proofs.Prelude.{lt-ltb, le-ltb, length, drop, getD, ltb}
 use native.Mathlib.Numerals.{add-one}
-use native.Mathlib.Omega.{arith}
-use borrow.Author.Tests.{lt-ltb, le-ltb}
-use lib.ListN.{length, drop, getD}
 use lib.Seq.{drop-cons}
-use lib.Dec.{ltb}
 use Rattle.diff.specs.declared.Cursor.{Cursor}
 use Rattle.diff.specs.declared.Price.{Price}
 use Rattle.diff.specs.declared.Step.{Step}

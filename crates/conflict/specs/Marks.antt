@@ -1,10 +1,6 @@
 -- Marks of prices, each at its place.
 -- Assumes nothing: these are definitions.
-use Prim.Native.Nat.{ℕ}
-use mathlib.Core.List.{List, [], _∷_}
-use mathlib.Core.Bool.{Bool, true, cond}
-use lib.ListN.{set}
-use lib.Dec.{ltb}
+use Rattle.laws.specs.Prelude.{ℕ, List, [], _∷_, Bool, true, cond, set, ltb}
 use Rattle.diff.specs.declared.Cursor.{Cursor}
 use Rattle.diff.specs.declared.Price.{Price}
 

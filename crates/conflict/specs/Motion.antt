@@ -1,10 +1,6 @@
 -- Refusal 10: the prices of a list, counted, and the pages that they name.
 -- Assumes nothing: these are definitions.
-use Prim.Native.Nat.{ℕ, _-_}
-use mathlib.Core.List.{List}
-use mathlib.Core.Bool.{Bool, false, cond, _&&_, _||_}
-use lib.ListN.{length, getD, set}
-use lib.Dec.{ltb, leb, eqb}
+use Rattle.laws.specs.Prelude.{ℕ, _-_, List, Bool, false, cond, _&&_, _||_, length, getD, set, ltb, leb, eqb}
 use Rattle.memory.specs.Layout.{areaSize}
 use Rattle.diff.specs.declared.Cursor.{Cursor}
 use Rattle.diff.specs.declared.Price.{Price}

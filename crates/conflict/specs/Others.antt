@@ -1,9 +1,6 @@
 -- The other cards of a rack that have a release open.
 -- Assumes nothing: this is a definition.
-use Prim.Native.Nat.{ℕ}
-use mathlib.Core.List.{List}
-use mathlib.Core.Bool.{Bool, not, _&&_}
-use lib.Dec.{eqb}
+use Rattle.laws.specs.Prelude.{ℕ, List, Bool, not, _&&_, eqb}
 use Rattle.protocol.specs.Release.{isOpen}
 
 -- another card than c, with a release open

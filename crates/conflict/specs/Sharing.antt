@@ -1,10 +1,6 @@
 -- Refusal 8 by marks: the labels that a list names are marked, and another card's open release prices a marked one.
 -- Assumes nothing: these are definitions.
-use Prim.Native.Nat.{ℕ, _+_, _-_, _*_}
-use mathlib.Core.List.{List, [], _∷_}
-use mathlib.Core.Bool.{Bool, false, cond, _&&_, _||_}
-use lib.ListN.{getD}
-use lib.Dec.{ltb}
+use Rattle.laws.specs.Prelude.{ℕ, _+_, _-_, _*_, List, [], _∷_, Bool, false, cond, _&&_, _||_, getD, ltb}
 use Rattle.memory.specs.Layout.{areaSize}
 use Rattle.diff.specs.declared.Cursor.{Cursor}
 use Rattle.diff.specs.declared.Price.{Price}

@@ -1,8 +1,6 @@
 -- A walk over the words of a list: the state of the reading, and the index of the word that comes next.
 -- Assumes nothing: these are definitions.
-use Prim.Native.Nat.{ℕ, _+_}
-use mathlib.Core.List.{List}
-use lib.ListN.{length, getD}
+use Rattle.laws.specs.Prelude.{ℕ, _+_, List, length, getD}
 use Rattle.diff.specs.declared.Step.{Step}
 use Rattle.diff.specs.declared.Step.the-variants.{Next, End, Fault}
 use Rattle.diff.specs.Reading.{start, wordStep}

@@ -1,9 +1,7 @@
 // Open releases that stand in the way of a call: any (refusal 15), one that prices a word of a list
 // handed in (refusal 8, `sharing`), and one that counts already and names a page asked for (refusal
 // 10, `motion`). The searches for 8 and 10 answer the lowest such card, or the number of cards.
-ghost use mathlib.Core.Path.{_≡_};
-ghost use Prim.Native.Nat.{_*_, _<_, _≤_};
-ghost use lib.ListN.{length};
+ghost use Rattle.laws.specs.Prelude.{_≡_, _*_, _<_, _≤_, length};
 ghost use Rattle.laws.specs.Search.{someBelow};
 ghost use Rattle.memory.specs.Layout.{areaSize};
 ghost use Rattle.memory.specs.Area.{AreaIn};

@@ -1,9 +1,5 @@
 // Refusal 10: a page in an open release that already counts.
-ghost use mathlib.Core.Path.{_≡_};
-ghost use Prim.Native.Nat.{_*_, _<_, _≤_};
-ghost use mathlib.Core.Bool.{_||_};
-ghost use lib.ListN.{length};
-ghost use lib.Dec.{leb};
+ghost use Rattle.laws.specs.Prelude.{_≡_, _*_, _<_, _≤_, _||_, length, leb};
 ghost use Rattle.laws.specs.Search.{lowest, inTurn};
 ghost use Rattle.memory.specs.Layout.{areaSize};
 ghost use Rattle.memory.specs.Area.{AreaIn};

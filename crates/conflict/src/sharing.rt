@@ -1,7 +1,5 @@
 // Refusal 8: a word of the list that another card's open release prices.
-ghost use mathlib.Core.Path.{_≡_};
-ghost use Prim.Native.Nat.{_*_, _<_, _≤_};
-ghost use lib.ListN.{length};
+ghost use Rattle.laws.specs.Prelude.{_≡_, _*_, _<_, _≤_, length};
 ghost use Rattle.laws.specs.Search.{lowest};
 ghost use Rattle.memory.specs.Layout.{areaSize};
 ghost use Rattle.diff.specs.Prices.{labelOf, pricesOf};

@@ -1,7 +1,5 @@
 // A walk over the words of a list.
-ghost use mathlib.Core.Path.{_≡_};
-ghost use Prim.Native.Nat.{_<_};
-ghost use lib.ListN.{length};
+ghost use Rattle.laws.specs.Prelude.{_≡_, _<_, length};
 ghost use Rattle.reader.specs.Steady.{Steady};
 ghost use Rattle.conflict.specs.Walking.{atFirst, pastWord};
 use diff::Cursor;

@@ -1,18 +1,14 @@
 -- A diff that reads well is the encoding of its prices, which ascend.
-use Prim.Native.Nat.{ℕ, suc, _+_, _*_, _≤_, _<_}
-use mathlib.Core.Path.{_≡_, refl, sym, ap, _∙_}
-use mathlib.Core.List.{List, [], _∷_, _++_}
-use native.Mathlib.Omega.{arith}
-use native.Mathlib.Decide.{ℕ-discrete}
-use lib.ListN.{length}
+use Rattle.laws.proofs.Prelude.{ℕ, suc, _+_, _*_, _≤_, _<_, _≡_, refl, sym, ap, _∙_, List, [], _∷_, _++_, arith}
+use Rattle.laws.proofs.Prelude.{ℕ-discrete, length}
 use Rattle.diff.specs.Format.{pageWord, runWord, endWord}
 use Rattle.diff.specs.Reading.{Cursor, pastPrice, pastPage, pastRun}
 use Rattle.diff.specs.Prices.{Price, labelOf, pricedWord}
 use Rattle.diff.specs.Making.{runLength, encodeFrom}
 use Rattle.diff.proofs.Derivation.{Reads, reads-end, reads-page, reads-run, reads-price}
 use Rattle.diff.proofs.Encoding.{Ascending, none, more, follows-yes, follows-no-page, follows-no-word}
-use Rattle.diff.proofs.Encoding.{run-goes-on, run-stops, run-last}
-use Rattle.diff.proofs.Encoding.{header-page, header-run, header-none, encode-none, encode-price}
+use Rattle.diff.proofs.Encoding.{run-goes-on, run-stops, run-last, header-page, header-run, header-none}
+use Rattle.diff.proofs.Encoding.{encode-none, encode-price}
 
 -- the words of prices after the label `next`, and the end word that names the index `last`
 abbrev pub coded : ℕ → ℕ → List Price → List ℕ

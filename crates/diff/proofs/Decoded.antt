@@ -1,19 +1,14 @@
 -- The encoding of ascending prices reads well, and reading gives the prices back.
-use Prim.Native.Nat.{ℕ, _+_, _-_, _*_, _≤_, _<_}
-use mathlib.Core.Path.{_≡_, refl, sym, ap, _∙_, subst}
-use mathlib.Core.List.{List, [], _∷_}
-use mathlib.Core.Bool.{Bool, true, false, true≢false}
-use native.Mathlib.Omega.{arith}
-use native.Mathlib.Decide.{decLt}
-use lib.ListN.{length}
+use Rattle.laws.proofs.Prelude.{ℕ, _+_, _-_, _*_, _≤_, _<_, _≡_, refl, sym, ap, _∙_, subst, List, [], _∷_, Bool, true}
+use Rattle.laws.proofs.Prelude.{false, true≢false, arith, decLt, length}
 use Rattle.diff.specs.Format.{endWord}
 use Rattle.diff.specs.Reading.{Cursor, start, pastPrice, pastPage}
 use Rattle.diff.specs.Prices.{Price, labelOf, pricedWord}
 use Rattle.diff.specs.Making.{follows, runLength, encodeFrom}
 use Rattle.diff.proofs.Derivation.{Reads, reads-end, reads-page, reads-run, reads-price}
-use Rattle.diff.proofs.Encoding.{Ascending, none, more, follows-yes, follows-page, follows-word}
-use Rattle.diff.proofs.Encoding.{run-goes-on, run-stops, run-last}
-use Rattle.diff.proofs.Encoding.{header-page, header-run, header-none, encode-none, encode-price}
+use Rattle.diff.proofs.Encoding.{Ascending, none, more, follows-yes, follows-page, follows-word, run-goes-on}
+use Rattle.diff.proofs.Encoding.{run-stops, run-last, header-page, header-run, header-none, encode-none}
+use Rattle.diff.proofs.Encoding.{encode-price}
 use Rattle.diff.proofs.Coded.{coded}
 
 -- a run is of one price or more, and ends within its page

@@ -1,16 +1,10 @@
 -- A diff that reads well to its end, as a derivation: a word and what follows it. Reading finds just these.
-use Prim.Native.Nat.{ℕ, suc, _+_, _/_, _≤_, _<_}
-use mathlib.Core.Path.{_≡_, refl, sym, _∙_, subst}
-use mathlib.Core.List.{List, [], _∷_, _++_, append-nil}
-use mathlib.Core.Bool.{Bool, true, false, cond}
+use Rattle.laws.proofs.Prelude.{ℕ, suc, _+_, _/_, _≤_, _<_, _≡_, refl, sym, _∙_, subst, List, [], _∷_, _++_, Bool, true}
+use Rattle.laws.proofs.Prelude.{false, cond, arith, lt-ltb, le-ltb, lt-leb, eq-eqb, ne-eqb, length, ltb, eqb}
+use mathlib.Core.List.{append-nil}
 use native.Mathlib.Nat.{add-zero, lt-of-lt-of-le}
-use native.Mathlib.Omega.{arith}
-use borrow.Author.Tests.{lt-ltb, le-ltb, lt-leb, eq-eqb, ne-eqb}
-use lib.ListN.{length}
-use lib.Dec.{ltb, eqb}
 use Rattle.diff.specs.Format.{kind, low, offset, count, pageWord, runWord, endWord, mostWords}
-use Rattle.diff.specs.Reading.{Cursor, Step, Verdict, pastPrice, pastPage, pastRun, wordStep, afterStep}
-use Rattle.diff.specs.Reading.{readFrom}
+use Rattle.diff.specs.Reading.{Cursor, Step, Verdict, pastPrice, pastPage, pastRun, wordStep, afterStep, readFrom}
 use Rattle.diff.specs.Prices.{Price, pricedWord, pricesAfter, pricesFrom}
 use Rattle.diff.specs.declared.Step.the-variants.{Next, End, Fault}
 use Rattle.diff.specs.declared.Verdict.the-variants.{Good, Faulty}

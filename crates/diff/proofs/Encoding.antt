@@ -1,11 +1,6 @@
 -- How prices become words: the header and the run of a price by where it stands, and prices in ascending order.
-use Prim.Native.Nat.{ℕ, suc, _+_, _*_, _≤_, _<_}
-use mathlib.Core.Path.{_≡_, refl}
-use mathlib.Core.List.{List, [], _∷_, _++_}
-use mathlib.Core.Bool.{Bool, true, false, _&&_}
-use native.Mathlib.Omega.{arith}
-use borrow.Author.Tests.{le-leb, lt-leb, eq-eqb, ne-eqb, eqb-true}
-use lib.Dec.{eqb}
+use Rattle.laws.proofs.Prelude.{ℕ, suc, _+_, _*_, _≤_, _<_, _≡_, refl, List, [], _∷_, _++_, Bool, true, false, _&&_}
+use Rattle.laws.proofs.Prelude.{arith, le-leb, lt-leb, eq-eqb, ne-eqb, eqb-true, eqb}
 use Rattle.laws.proofs.Bools.{and-first, and-second}
 use Rattle.diff.specs.Format.{pageWord, runWord}
 use Rattle.diff.specs.Prices.{Price, labelOf}

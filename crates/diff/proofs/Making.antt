@@ -1,20 +1,13 @@
 -- The changes between two states of the pages: they ascend, name what differs, and turn the one into the other; and
 -- they are the only such prices.
-use Prim.Native.Nat.{ℕ, zero, suc, _+_, _-_, _*_, _/_, _%_, _≤_, _<_}
-use mathlib.Core.Path.{_≡_, refl, sym, _∙_}
-use mathlib.Core.Logic.{_≢_}
-use mathlib.Core.List.{List, [], _∷_}
-use mathlib.Core.Bool.{true, true≢false}
-use native.Mathlib.Omega.{arith}
+use Rattle.laws.proofs.Prelude.{ℕ, zero, suc, _+_, _-_, _*_, _/_, _%_, _≤_, _<_, _≡_, refl, sym, _∙_, _≢_, List, []}
+use Rattle.laws.proofs.Prelude.{_∷_, true, true≢false, arith, ℕ-discrete, eq-eqb, ne-eqb, length, getD}
 use native.Mathlib.Nat.{add-zero}
-use native.Mathlib.Decide.{ℕ-discrete}
-use borrow.Author.Tests.{eq-eqb, ne-eqb}
-use lib.ListN.{length, getD}
 use Rattle.diff.specs.Prices.{Price, labelOf, names, laidAt}
 use Rattle.diff.specs.Making.{priceAt, changesFrom}
 use Rattle.diff.proofs.Encoding.{Ascending, none, more, ascending-from}
-use Rattle.diff.proofs.Prices.{names-first, names-later, names-more, names-none, names-below}
-use Rattle.diff.proofs.Prices.{laid-first, laid-later, laid-none, laid-below}
+use Rattle.diff.proofs.Prices.{names-first, names-later, names-more, names-none, names-below, laid-first}
+use Rattle.diff.proofs.Prices.{laid-later, laid-none, laid-below}
 
 -- ---- one label
 

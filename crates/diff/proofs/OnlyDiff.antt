@@ -1,16 +1,10 @@
 -- Demand 2 on diffs: the made diff is allowed, turns the twins into the working pages, names what differs, and is
 -- the only one.
-use Prim.Native.Nat.{ℕ, _+_, _-_, _*_, _%_, _≤_, _<_}
-use mathlib.Core.Path.{_≡_, refl, sym, ap, _∙_}
-use mathlib.Core.List.{List}
-use mathlib.Core.Bool.{Bool, true, false, cond}
-use native.Mathlib.Omega.{arith}
+use Rattle.laws.proofs.Prelude.{ℕ, _+_, _-_, _*_, _%_, _≤_, _<_, _≡_, refl, sym, ap, _∙_, List, Bool, true, false, cond}
+use Rattle.laws.proofs.Prelude.{arith, decLt, eqb-true, leb-true, ltb-false, le-ltb, length, getD, eqb, leb, ltb}
 use native.Mathlib.Nat.{zero-add}
-use native.Mathlib.Decide.{decLt}
-use borrow.Author.Tests.{eqb-true, leb-true, ltb-false, le-ltb}
-use lib.ListN.{length, getD, length-append, List·getD-eq-default}
+use lib.ListN.{length-append, List·getD-eq-default}
 use lib.Seq.{ext-getD}
-use lib.Dec.{eqb, leb, ltb}
 use Rattle.answer.specs.Outcome.{given, refused, refusedAt, limits, faultyList, wrongBuffer}
 use Rattle.laws.proofs.Bools.{and-first, and-second}
 use Rattle.diff.specs.Format.{mostWords}

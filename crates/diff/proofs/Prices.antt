@@ -1,15 +1,8 @@
 -- What prices do to a label, one label at a time.
-use Prim.Native.Nat.{ℕ, _<_}
-use mathlib.Core.Path.{_≡_, refl, sym, _∙_}
-use mathlib.Core.Logic.{_≢_}
-use mathlib.Core.List.{List, [], _∷_}
-use mathlib.Core.Bool.{Bool, true, false, cond, true≢false}
-use native.Mathlib.Omega.{arith}
-use native.Mathlib.Decide.{ℕ-discrete}
-use borrow.Author.Tests.{eq-eqb, ne-eqb}
-use lib.ListN.{length, getD, set, length-set}
+use Rattle.laws.proofs.Prelude.{ℕ, _<_, _≡_, refl, sym, _∙_, _≢_, List, [], _∷_, Bool, true, false, cond, true≢false}
+use Rattle.laws.proofs.Prelude.{arith, ℕ-discrete, eq-eqb, ne-eqb, length, getD, set, eqb}
+use lib.ListN.{length-set}
 use lib.Seq.{getD-set-same, getD-set-other}
-use lib.Dec.{eqb}
 use Rattle.diff.specs.Prices.{Price, labelOf, names, laidAt, lay}
 use Rattle.diff.proofs.Encoding.{Ascending, none, more}
 

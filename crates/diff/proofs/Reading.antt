@@ -1,15 +1,11 @@
 -- Reading a diff as a derivation: what each word was, and the prices of the words that follow.
-use Prim.Native.Nat.{ℕ, _+_, _≤_, _<_}
-use mathlib.Core.Path.{_≡_}
-use mathlib.Core.Bool.{true}
-use native.Mathlib.Omega.{arith}
-use borrow.Author.Tests.{ltb-true, ltb-false, leb-false, eqb-true, eqb-false}
-use lib.Dec.{ltb, eqb}
+use Rattle.laws.proofs.Prelude.{ℕ, _+_, _≤_, _<_, _≡_, true, arith, ltb-true, ltb-false, leb-false, eqb-true, eqb-false}
+use Rattle.laws.proofs.Prelude.{ltb, eqb}
 use Rattle.laws.proofs.Bools.{by-cond}
 use Rattle.diff.specs.Format.{kind, low, offset, count}
-use Rattle.diff.specs.Reading.{Cursor, Step, pastPrice, pastPage, pastRun, wordStep}
-use Rattle.diff.specs.Reading.{pageStep, runStep, endStep, lacksRun, pageBehind, noSuchPage}
-use Rattle.diff.specs.Reading.{beforeFirstPage, emptyRun, pastPageEnd, touchesRun, ownIndex}
+use Rattle.diff.specs.Reading.{Cursor, Step, pastPrice, pastPage, pastRun, wordStep, pageStep, runStep, endStep}
+use Rattle.diff.specs.Reading.{lacksRun, pageBehind, noSuchPage, beforeFirstPage, emptyRun, pastPageEnd}
+use Rattle.diff.specs.Reading.{touchesRun, ownIndex}
 use Rattle.diff.specs.declared.Step.the-variants.{Next, End, Fault}
 
 -- ---- what a word was, by what it did

@@ -1,10 +1,6 @@
 -- A diff that is read to its end word, whatever follows it: how many prices and words it has.
-use Prim.Native.Nat.{ℕ, zero, suc, _+_, _≤_, _<_}
-use mathlib.Core.Path.{_≡_, refl}
-use mathlib.Core.List.{List, [], _∷_}
-use native.Mathlib.Omega.{arith}
-use borrow.Author.Tests.{lt-ltb, le-ltb}
-use lib.ListN.{length, getD}
+use Rattle.laws.proofs.Prelude.{ℕ, zero, suc, _+_, _≤_, _<_, _≡_, refl, List, [], _∷_, arith, lt-ltb, le-ltb, length}
+use Rattle.laws.proofs.Prelude.{getD}
 use Rattle.diff.specs.Format.{mostWords}
 use Rattle.diff.specs.Reading.{Cursor, Step, start, wordStep, afterStep, readFrom}
 use Rattle.diff.specs.Prices.{Price, pricesFrom, pricesOf}

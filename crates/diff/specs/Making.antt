@@ -2,11 +2,8 @@
 -- pages with their twins .. and names exactly the words that differ"), and what making it answers.
 -- Which words are named (`changes`) stands apart from how prices become words (`encode`).
 -- Assumes nothing: these are definitions.
-use Prim.Native.Nat.{ℕ, suc, _+_, _*_, _/_, _%_}
-use mathlib.Core.List.{List, [], _∷_, _++_}
-use mathlib.Core.Bool.{Bool, cond, _&&_}
-use lib.ListN.{length, drop}
-use lib.Dec.{ltb, leb, eqb}
+use Rattle.laws.specs.Prelude.{ℕ, suc, _+_, _*_, _/_, _%_, List, [], _∷_, _++_, Bool, cond, _&&_, length, drop, ltb}
+use Rattle.laws.specs.Prelude.{leb, eqb}
 use Rattle.answer.specs.declared.Outcome.{Outcome}
 use Rattle.answer.specs.Outcome.{given, refused, limits, wrongBuffer}
 use Rattle.diff.specs.Format.{pageWord, runWord, endWord, mostWords}

@@ -1,11 +1,6 @@
 -- Demand 2 on diffs: "The list made from two states of the pages turns the first into the second, and it is the only
 -- list that document 01 allows for those changes and that names no other word."
-use Prim.Native.Nat.{ℕ, _*_, _≤_}
-use mathlib.Core.Path.{_≡_}
-use mathlib.Core.Logic.{_≢_}
-use mathlib.Core.List.{List}
-use mathlib.Core.Bool.{true}
-use lib.ListN.{length, getD}
+use Rattle.laws.specs.Prelude.{ℕ, _*_, _≤_, _≡_, _≢_, List, true, length, getD}
 use Rattle.diff.specs.Reading.{checkDiff}
 use Rattle.diff.specs.Prices.{pricesOf, names, lay}
 use Rattle.diff.specs.Making.{madeDiff, makeDiff}

@@ -1,10 +1,6 @@
 -- The prices of a diff, and what they do to the pages (document 01, "The list of changes").
 -- Assumes nothing: these are definitions.
-use Prim.Native.Nat.{ℕ, _+_, _-_, _*_}
-use mathlib.Core.List.{List, [], _∷_, _++_}
-use mathlib.Core.Bool.{Bool, true, false, cond}
-use lib.ListN.{set}
-use lib.Dec.{ltb, eqb}
+use Rattle.laws.specs.Prelude.{ℕ, _+_, _-_, _*_, List, [], _∷_, _++_, Bool, true, false, cond, set, ltb, eqb}
 use Rattle.diff.specs.Reading.{Cursor, Step, start, wordStep}
 use Rattle.diff.specs.declared.Step.the-variants.{Next, End, Fault}
 pub use Rattle.diff.specs.declared.Price.{Price}

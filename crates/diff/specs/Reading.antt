@@ -1,10 +1,6 @@
 -- Reading a diff word by word, against the rules of document 01, "The list of changes", and refusal 7 with its place.
 -- Assumes nothing: these are definitions.
-use Prim.Native.Nat.{ℕ, _+_, _-_}
-use mathlib.Core.List.{List, [], _∷_}
-use mathlib.Core.Bool.{Bool, cond}
-use lib.ListN.{length}
-use lib.Dec.{ltb, leb, eqb}
+use Rattle.laws.specs.Prelude.{ℕ, _+_, _-_, List, [], _∷_, Bool, cond, length, ltb, leb, eqb}
 use Rattle.answer.specs.declared.Outcome.{Outcome}
 use Rattle.answer.specs.Outcome.{given, refusedAt, faultyList}
 use Rattle.diff.specs.Format.{kind, low, offset, count, mostWords}

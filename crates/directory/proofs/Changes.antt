@@ -1,12 +1,8 @@
 -- Laws of the directory's changes: what it says of a card or a page after one.
-use Prim.Native.Nat.{ℕ, _<_, _≤_}
-use mathlib.Core.Path.{_≡_}
-use mathlib.Core.Bool.{Bool, true, false}
-use mathlib.Core.Logic.{_≢_}
-use lib.ListN.{length}
+use Rattle.laws.proofs.Prelude.{ℕ, _<_, _≤_, _≡_, Bool, true, false, _≢_, length}
 use lib.Seq.{getD-set-same, getD-set-other}
-use Rattle.directory.specs.Directory.{Directory, isLive, primaryOf, secondaryOf}
-use Rattle.directory.specs.Directory.{withMark, markedDead, markedLive, withHomes}
+use Rattle.directory.specs.Directory.{Directory, isLive, primaryOf, secondaryOf, withMark, markedDead, markedLive}
+use Rattle.directory.specs.Directory.{withHomes}
 use Rattle.directory.proofs.Live.{dead-after-death}
 use Rattle.directory.proofs.Table.{store-past-end}
 

@@ -1,14 +1,9 @@
 -- Laws of the search for a live card, and of the next live card.
-use Prim.Native.Nat.{ℕ, zero, suc, _+_, _-_, _<_, _≤_}
-use mathlib.Core.Path.{_≡_, refl, sym, ap, _∙_}
-use mathlib.Core.List.{List, [], _∷_}
-use mathlib.Core.Bool.{Bool, true, false, cond, true≢false}
-use mathlib.Core.Logic.{_≢_}
-use native.Mathlib.Decide.{decLt, ℕ-discrete}
-use native.Mathlib.Omega.{arith}
-use lib.ListN.{length, getD, set, List·getD-eq-default}
+use Rattle.laws.proofs.Prelude.{ℕ, zero, suc, _+_, _-_, _<_, _≤_, _≡_, refl, sym, ap, _∙_, List, [], _∷_, Bool, true}
+use Rattle.laws.proofs.Prelude.{false, cond, true≢false, _≢_, decLt, ℕ-discrete, arith, length, getD, set, lt-ltb}
+use Rattle.laws.proofs.Prelude.{le-ltb}
+use lib.ListN.{List·getD-eq-default}
 use lib.Seq.{getD-set-other}
-use borrow.Author.Tests.{lt-ltb, le-ltb}
 use Rattle.laws.proofs.Search.{Stops, lowest-stops, lowest-all-fail}
 use Rattle.directory.specs.Live.{liveAt, firstLive, nextLive}
 

@@ -1,11 +1,10 @@
 -- Laws of the directory's arrays: tables of a function's values, arrays filled with them, and what is past the end.
-use Prim.Native.Nat.{ℕ, zero, suc, _+_, _<_, _≤_}
-use mathlib.Core.Path.{_≡_, refl, sym, ap, _∙_}
-use mathlib.Core.List.{List, [], _∷_, _++_, append-nil}
+use Rattle.laws.proofs.Prelude.{ℕ, zero, suc, _+_, _<_, _≤_, _≡_, refl, sym, ap, _∙_, List, [], _∷_, _++_, arith}
+use Rattle.laws.proofs.Prelude.{length, drop, set, getD}
+use mathlib.Core.List.{append-nil}
 use native.Mathlib.Nat.{add-zero, zero-add}
 use native.Mathlib.Numerals.{add-one}
-use native.Mathlib.Omega.{arith}
-use lib.ListN.{length, drop, set, getD, length-set, drop-of-length-le, List·getD-eq-default}
+use lib.ListN.{length-set, drop-of-length-le, List·getD-eq-default}
 use lib.Seq.{drop-cons, set-at, set-out, append-snoc}
 use Rattle.directory.specs.Directory.{tableFrom, table}
 

@@ -1,11 +1,9 @@
 -- The directory: a value handed in and handed back (document 01, "Cards, pages, memory").
 -- Assumes nothing: these are definitions.
-use Prim.Native.Nat.{ℕ, zero, suc, _%_}
-use mathlib.Core.List.{List, [], _∷_}
-use mathlib.Core.Bool.{Bool, true, false, cond}
-use lib.ListN.{getD, set, replicate}
-use lib.Dec.{ltb, eqb}
-use Rattle.directory.specs.Live.{liveAt, nextLive}
+use Rattle.laws.specs.Prelude.{ℕ, zero, suc, _%_, List, [], _∷_, Bool, true, false, cond, getD, set, replicate, ltb}
+use Rattle.laws.specs.Prelude.{eqb}
+pub use Rattle.directory.specs.Live.{liveAt}
+unfoldable pub use Rattle.directory.specs.Live.{nextLive}
 pub use Rattle.directory.specs.declared.Directory.{Directory}
 pub use Rattle.directory.specs.declared.Status.{Status}
 use Rattle.directory.specs.declared.Status.the-variants.{Running, Awaiting}

@@ -1,14 +1,11 @@
 -- Worked examples of the directory, computed from the definitions: the next live card, and the directories that
 -- formatting gives.
 -- Assumes nothing: these are definitions.
-use Prim.Native.Nat.{ℕ}
-use mathlib.Core.List.{List, [], _∷_, _++_}
-use mathlib.Core.Bool.{Bool, true, false, cond}
-use lib.ListN.{replicate}
+use Rattle.laws.specs.Prelude.{ℕ, List, [], _∷_, _++_, Bool, true, false, cond, replicate}
 use Rattle.laws.specs.Examples.{Example, computed}
 use Rattle.directory.specs.Live.{nextLive}
-use Rattle.directory.specs.Directory.{Directory, Status, formattedDirectory, emptyDirectory}
-use Rattle.directory.specs.Directory.{markedDead, markedLive, withHomes, withStatus, backupOf}
+use Rattle.directory.specs.Directory.{Directory, Status, formattedDirectory, emptyDirectory, markedDead}
+use Rattle.directory.specs.Directory.{markedLive, withHomes, withStatus, backupOf}
 use Rattle.directory.specs.declared.Status.the-variants.{Running, Awaiting}
 
 -- marks of six cards: cards 1, 2 and 4 are live, and so is 5

@@ -1,10 +1,6 @@
 -- The next live card (document 01, "Cards, pages, memory"). Marks: for each card whether it is live.
 -- Assumes nothing: these are definitions.
-use Prim.Native.Nat.{ℕ, _+_, _-_}
-use mathlib.Core.List.{List}
-use mathlib.Core.Bool.{Bool, false, cond}
-use lib.ListN.{getD}
-use lib.Dec.{ltb}
+use Rattle.laws.specs.Prelude.{ℕ, _+_, _-_, List, Bool, false, cond, getD, ltb}
 use Rattle.laws.specs.Search.{lowestFrom}
 
 -- whether card c is live; no card past the marks is

@@ -1,15 +1,12 @@
 // The directory of a rack: a value that every call takes and hands back (document 01,
 // "Cards, pages, memory").
-ghost use mathlib.Core.Path.{_≡_};
-ghost use Prim.Native.Nat.{_+_, _<_, _≤_};
-ghost use lib.ListN.{length};
+ghost use Rattle.laws.specs.Prelude.{_≡_, _+_, _<_, _≤_, length};
 ghost use Rattle.laws.specs.Examples.{AllHold};
 ghost use Rattle.directory.specs.Live.{firstLive, nextLive};
-ghost use Rattle.directory.specs.Directory.{nextLiveOf, backupOf};
-ghost use Rattle.directory.specs.Directory.{markedDead, markedLive, withHomes};
-ghost use Rattle.directory.specs.Directory.{formattedMarks, formattedPrimary};
-ghost use Rattle.directory.specs.Directory.{formattedSecondary, table};
-ghost use Rattle.directory.specs.Directory.{formattedDirectory, emptyDirectory};
+ghost use Rattle.directory.specs.Directory.{nextLiveOf, backupOf, markedDead, markedLive};
+ghost use Rattle.directory.specs.Directory.{withHomes, formattedMarks, formattedPrimary};
+ghost use Rattle.directory.specs.Directory.{formattedSecondary, table, formattedDirectory};
+ghost use Rattle.directory.specs.Directory.{emptyDirectory};
 ghost use Rattle.directory.specs.Examples.{examples};
 
 pub enum Status {

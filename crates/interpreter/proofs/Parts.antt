@@ -1,13 +1,9 @@
 -- Bytes of the input one after the other; and a part of it up to a line feed: the state after it, and what it prints.
-use Prim.Native.Nat.{ℕ, zero, suc, _+_, _-_, _≤_, _<_}
-use mathlib.Core.Path.{_≡_, refl, sym, ap, _∙_}
-use mathlib.Core.List.{List, [], _∷_, _++_, append-nil, append-assoc}
-use mathlib.Core.Bool.{Bool, true, false}
+use Rattle.laws.proofs.Prelude.{ℕ, zero, suc, _+_, _-_, _≤_, _<_, _≡_, refl, sym, ap, _∙_, List, [], _∷_, _++_, Bool}
+use Rattle.laws.proofs.Prelude.{true, false, arith, eqb-true, eqb, length, take, drop, getD}
+use mathlib.Core.List.{append-nil, append-assoc}
 use native.Mathlib.Nat.{zero-add}
-use native.Mathlib.Omega.{arith}
-use borrow.Author.Tests.{eqb-true}
-use lib.Dec.{eqb}
-use lib.ListN.{length, take, drop, getD, length-drop, length-append}
+use lib.ListN.{length-drop, length-append}
 use lib.Seq.{sets, take-suc, take-add}
 use Rattle.laws.proofs.Lists.{sets-append}
 use Rattle.lines.specs.Line.{byteRead}

@@ -1,18 +1,15 @@
 -- What is printed byte by byte is document 01's transcript, an answer for each line.
-use Prim.Native.Nat.{ℕ, _+_, _%_, _^_}
-use mathlib.Core.Path.{_≡_, refl, sym, ap, _∙_}
-use mathlib.Core.List.{List, [], _∷_, _++_, append-nil, append-assoc}
-use mathlib.Core.Bool.{Bool, true, false}
-use borrow.Author.Tests.{eqb-true}
-use lib.Dec.{eqb}
+use Rattle.laws.proofs.Prelude.{ℕ, _+_, _%_, _^_, _≡_, refl, sym, ap, _∙_, List, [], _∷_, _++_, Bool, true, false}
+use Rattle.laws.proofs.Prelude.{eqb-true, eqb}
+use mathlib.Core.List.{append-nil, append-assoc}
 use Rattle.directory.specs.declared.Directory.{Directory}
 use Rattle.protocol.specs.Formatting.{formatting}
 use Rattle.lines.specs.Line.{freshLine, lineRead}
 use Rattle.lines.specs.Grammar.{breakAt, linesOf}
 use Rattle.lines.proofs.Grammar.{reads-commands}
 use Rattle.lines.proofs.Begun.{begun, read-more}
-use Rattle.interpreter.specs.Transcript.{Session, sessionOf, executed, answered, stateAfter, printed}
-use Rattle.interpreter.specs.Transcript.{replies, answers, header, PrintsTranscript}
+use Rattle.interpreter.specs.Transcript.{Session, sessionOf, executed, answered, stateAfter, printed, replies}
+use Rattle.interpreter.specs.Transcript.{answers, header, PrintsTranscript}
 use Rattle.interpreter.proofs.Parts.{prints-in-parts}
 
 -- the first of these lines goes on from p

@@ -1,10 +1,6 @@
 -- What shelfrun prints for its input (document 01, "Numbers to hold it against").
 -- Assumes nothing: these are definitions.
-use Prim.Native.Nat.{ℕ, _+_, _%_, _^_}
-use mathlib.Core.Path.{_≡_}
-use mathlib.Core.List.{List, [], _∷_, _++_}
-use mathlib.Core.Bool.{cond}
-use lib.Dec.{eqb}
+use Rattle.laws.specs.Prelude.{ℕ, _+_, _%_, _^_, _≡_, List, [], _∷_, _++_, cond, eqb}
 use Rattle.directory.specs.declared.Directory.{Directory}
 use Rattle.protocol.specs.Result.{Result}
 use Rattle.protocol.specs.Formatting.{formatting}

@@ -1,13 +1,11 @@
 // The interpreter of shelfrun (document 01, "Numbers to hold it against"): the lines of an input
 // answered, one part of the input after the other.
-ghost use mathlib.Core.Path.{_≡_};
-ghost use Prim.Native.Nat.{_+_, _-_, _≤_, _<_};
-ghost use lib.ListN.{length, take, drop};
+ghost use Rattle.laws.specs.Prelude.{_≡_, _+_, _-_, _≤_, _<_, length, take, drop};
 ghost use lib.Seq.{sets};
 ghost use Rattle.protocol.specs.Formatting.{formatting};
 ghost use Rattle.interpreter.specs.Transcript.{executed, answered, nextLine, withLine};
-ghost use Rattle.interpreter.specs.Transcript.{stateOf, stateAfter, printed};
-ghost use Rattle.interpreter.specs.Transcript.{lastAnswer, lastMemory, firstSession, header};
+ghost use Rattle.interpreter.specs.Transcript.{stateOf, stateAfter, printed, lastAnswer};
+ghost use Rattle.interpreter.specs.Transcript.{lastMemory, firstSession, header};
 ghost use Rattle.interpreter.specs.Transcript.{PrintsInParts, PrintsTranscript};
 use directory::Directory;
 use lines::Line;

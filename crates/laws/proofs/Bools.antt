@@ -1,6 +1,5 @@
 -- Choices by a test: a property of both outcomes, and what a conjunction says.
-use mathlib.Core.Path.{_≡_, refl}
-use mathlib.Core.Bool.{Bool, true, false, cond, _&&_, _||_, false≢true, true≢false}
+use Rattle.laws.proofs.Prelude.{_≡_, refl, Bool, true, false, cond, _&&_, _||_, false≢true, true≢false}
 
 -- what holds of either outcome, each under its test, holds of the choice
 pub by-cond : {A : Type 0} (P : A → Type 0) (test : Bool) (x y : A) → (test ≡ true → P x) → (test ≡ false → P y)

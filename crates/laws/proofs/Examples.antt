@@ -1,10 +1,6 @@
 -- A list of examples holds if none of the computed ones fails and each claim is shown.
-use Prim.Native.Nat.{ℕ, suc}
-use mathlib.Core.Path.{_≡_, refl}
-use mathlib.Core.List.{List, [], _∷_, cons≢nil}
-use mathlib.Core.Bool.{Bool, true, false, false≢true}
-use borrow.Author.Tests.{eqb-true}
-use lib.Dec.{eqb}
+use Rattle.laws.proofs.Prelude.{ℕ, suc, _≡_, refl, List, [], _∷_, Bool, true, false, false≢true, eqb-true, eqb}
+use mathlib.Core.List.{cons≢nil}
 use Rattle.laws.proofs.Bools.{and-first, and-second}
 use Rattle.laws.specs.Examples.{Example, computed, claimed, AllHold, sameWords, failuresFrom, failures, Claims}
 

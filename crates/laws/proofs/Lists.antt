@@ -1,12 +1,10 @@
 -- Runs of stores in a list, beside those of `lib.Seq`.
-use mathlib.Core.Path.{_≡_, refl, _∙_}
-use mathlib.Core.Logic.{_≢_}
-use mathlib.Core.List.{List, [], _∷_, _++_, append-nil}
-use Prim.Native.Nat.{ℕ, zero, suc, _+_, _≤_, _<_}
+use Rattle.laws.proofs.Prelude.{_≡_, refl, _∙_, _≢_, List, [], _∷_, _++_, ℕ, zero, suc, _+_, _≤_, _<_, arith}
+use Rattle.laws.proofs.Prelude.{length, getD, set, take, drop}
+use mathlib.Core.List.{append-nil}
 use native.Mathlib.Nat.{add-zero, zero-add}
 use native.Mathlib.Numerals.{add-one}
-use native.Mathlib.Omega.{arith}
-use lib.ListN.{length, getD, set, take, drop, length-set, drop-of-length-le}
+use lib.ListN.{length-set, drop-of-length-le}
 use lib.Seq.{sets, sets-eq, getD-set-same, getD-set-other, take-suc, length-take-le}
 
 -- two runs of stores, one after the other

@@ -1,14 +1,9 @@
 -- Laws of searches and changes over numbers below a bound.
-use Prim.Native.Nat.{ℕ, zero, suc, _+_, _-_, _<_, _≤_}
-use mathlib.Core.Path.{_≡_, refl, sym, _∙_}
-use mathlib.Core.Logic.{_≢_}
-use mathlib.Core.Bool.{Bool, true, false, cond, true≢false}
-use native.Mathlib.Decide.{ℕ-discrete, decLt}
+use Rattle.laws.proofs.Prelude.{ℕ, zero, suc, _+_, _-_, _<_, _≤_, _≡_, refl, sym, _∙_, _≢_, Bool, true, false}
+use Rattle.laws.proofs.Prelude.{cond, true≢false, ℕ-discrete, decLt, arith, ltb-true, ltb-false, lt-ltb, le-ltb}
+use Rattle.laws.proofs.Prelude.{ltb}
 use native.Mathlib.Nat.{sub-zero, add-zero}
 use native.Mathlib.Numerals.{add-one}
-use native.Mathlib.Omega.{arith}
-use borrow.Author.Tests.{ltb-true, ltb-false, lt-ltb, le-ltb}
-use lib.Dec.{ltb}
 use Rattle.laws.specs.Search.{lowestFrom, lowest, someBelow, countBelow, inTurn}
 
 -- ---- one turn of a search from i on, below n

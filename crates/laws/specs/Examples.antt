@@ -1,11 +1,7 @@
 -- Worked examples: what definitions give, beside what their rules say. An example is computed, or is a claim about
 -- every value, which no computation shows.
 -- Assumes nothing: these are definitions.
-use Prim.Native.Nat.{ℕ, suc}
-use mathlib.Core.Path.{_≡_}
-use mathlib.Core.List.{List, [], _∷_, _++_}
-use mathlib.Core.Bool.{Bool, true, false, cond, _&&_}
-use lib.Dec.{eqb}
+use Rattle.laws.specs.Prelude.{ℕ, suc, _≡_, List, [], _∷_, _++_, Bool, true, false, cond, _&&_, eqb}
 
 pub data Example : Type 1 where
   -- the words that a definition gives, and those that its rule says

@@ -1,9 +1,7 @@
 -- Numbers below a bound, as cards and pages are: the lowest that passes a test, how many do, and a change
 -- made for each.
 -- Assumes nothing: these are definitions.
-use Prim.Native.Nat.{ℕ, zero, suc, _+_}
-use mathlib.Core.Bool.{Bool, cond}
-use lib.Dec.{ltb}
+use Rattle.laws.specs.Prelude.{ℕ, zero, suc, _+_, Bool, cond, ltb}
 
 -- the lowest of the n numbers from i on that passes; i + n if none does
 unfoldable pub lowestFrom : (ℕ → Bool) → ℕ → ℕ → ℕ

@@ -1,11 +1,6 @@
 -- A line has begun once a byte of it has been read.
-use Prim.Native.Nat.{ℕ, _+_}
-use mathlib.Core.Path.{_≡_, refl}
-use mathlib.Core.List.{List, [], _∷_, _++_}
-use mathlib.Core.Bool.{Bool, true, false, cond}
-use native.Mathlib.Omega.{arith}
-use borrow.Author.Tests.{ne-eqb}
-use lib.Dec.{ltb, leb, eqb}
+use Rattle.laws.proofs.Prelude.{ℕ, _+_, _≡_, refl, List, [], _∷_, _++_, Bool, true, false, cond, arith, ne-eqb, ltb}
+use Rattle.laws.proofs.Prelude.{leb, eqb}
 use Rattle.laws.proofs.Bools.{by-cond}
 use Rattle.lines.specs.Line.{Line, unreadableLine, endedField, withField, numberWith, letterRead, digitRead}
 use Rattle.lines.specs.Line.{byteRead, lineRead, hasBegun}

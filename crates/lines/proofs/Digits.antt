@@ -1,11 +1,8 @@
 -- Digits before a text, one at a time, and a byte stored before a text.
-use Prim.Native.Nat.{ℕ, zero, suc, _+_, _-_, _/_, _%_, _≤_, _<_}
-use mathlib.Core.Path.{_≡_, refl}
-use mathlib.Core.List.{List, _∷_}
+use Rattle.laws.proofs.Prelude.{ℕ, zero, suc, _+_, _-_, _/_, _%_, _≤_, _<_, _≡_, refl, List, _∷_, arith, lt-ltb, le-ltb}
+use Rattle.laws.proofs.Prelude.{length, drop, set}
 use native.Mathlib.Numerals.{add-one}
-use native.Mathlib.Omega.{arith}
-use borrow.Author.Tests.{lt-ltb, le-ltb}
-use lib.ListN.{length, drop, set, length-set}
+use lib.ListN.{length-set}
 use lib.Seq.{drop-cons, drop-set-lt, getD-set-same}
 use Rattle.lines.specs.Answer.{digitsBefore}
 

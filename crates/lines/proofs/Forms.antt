@@ -1,12 +1,6 @@
 -- A form looks at the fields that have ended alone, and none has more than six.
-use Prim.Native.Nat.{ℕ, _≤_, _<_}
-use mathlib.Core.Path.{_≡_, refl, sym, _∙_}
-use mathlib.Core.List.{List}
-use mathlib.Core.Bool.{Bool, true, false, cond}
-use native.Mathlib.Omega.{arith}
-use borrow.Author.Tests.{eqb-true, leb-true, ne-eqb}
-use lib.Dec.{leb, eqb}
-use lib.ListN.{take}
+use Rattle.laws.proofs.Prelude.{ℕ, _≤_, _<_, _≡_, refl, sym, _∙_, List, Bool, true, false, cond, arith, eqb-true}
+use Rattle.laws.proofs.Prelude.{leb-true, ne-eqb, leb, eqb, take}
 use lib.Seq.{getD-take}
 use Rattle.laws.proofs.Bools.{by-cond, and-first, and-second}
 use Rattle.lines.specs.declared.Command.{Command}

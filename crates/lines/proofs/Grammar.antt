@@ -1,11 +1,5 @@
 -- Read byte by byte, a line gives the command that document 01's grammar has for it.
-use Prim.Native.Nat.{ℕ}
-use mathlib.Core.Path.{_≡_, refl, sym, _∙_}
-use mathlib.Core.List.{List, [], _∷_}
-use mathlib.Core.Bool.{Bool, true, false}
-use native.Mathlib.Omega.{arith}
-use borrow.Author.Tests.{eqb-true}
-use lib.Dec.{eqb}
+use Rattle.laws.proofs.Prelude.{ℕ, _≡_, refl, sym, _∙_, List, [], _∷_, Bool, true, false, arith, eqb-true, eqb}
 use Rattle.lines.specs.declared.Command.the-variants.{Unreadable}
 use Rattle.lines.specs.Line.{Line, freshLine, unreadableLine, endedField, withField, letterRead, byteRead}
 use Rattle.lines.specs.Line.{lineRead}

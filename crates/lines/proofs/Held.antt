@@ -1,13 +1,8 @@
 -- The fields of a line that have ended, and what is left of the line: the field that is being read ends.
-use Prim.Native.Nat.{ℕ, _+_, _≤_, _<_}
-use mathlib.Core.Path.{_≡_, sym, ap, _∙_}
-use mathlib.Core.List.{List, [], _∷_, _++_}
-use mathlib.Core.Bool.{true, false, cond, _&&_}
+use Rattle.laws.proofs.Prelude.{ℕ, _+_, _≤_, _<_, _≡_, sym, ap, _∙_, List, [], _∷_, _++_, true, false, cond, _&&_}
+use Rattle.laws.proofs.Prelude.{arith, ne-eqb, lt-ltb, le-ltb, ltb, eqb, length, take, set}
 use native.Mathlib.Numerals.{add-one}
-use native.Mathlib.Omega.{arith}
-use borrow.Author.Tests.{ne-eqb, lt-ltb, le-ltb}
-use lib.Dec.{ltb, eqb}
-use lib.ListN.{length, take, set, length-set, length-append}
+use lib.ListN.{length-set, length-append}
 use lib.Seq.{take-suc-set}
 use Rattle.lines.specs.declared.Command.{Command}
 use Rattle.lines.specs.declared.Command.the-variants.{Unreadable}

@@ -1,13 +1,8 @@
 -- A field that is being read: a number that goes on with more bytes.
-use Prim.Native.Nat.{ℕ, suc, _+_, _-_, _*_, _≤_, _<_}
-use mathlib.Core.Path.{_≡_}
-use mathlib.Core.List.{List, [], _∷_}
-use mathlib.Core.Bool.{Bool, true, false, _&&_, and-false}
+use Rattle.laws.proofs.Prelude.{ℕ, suc, _+_, _-_, _*_, _≤_, _<_, _≡_, List, [], _∷_, Bool, true, false, _&&_, arith}
+use Rattle.laws.proofs.Prelude.{le-leb, lt-leb, leb, eqb, length}
+use mathlib.Core.Bool.{and-false}
 use native.Mathlib.Nat.{zero-add}
-use native.Mathlib.Omega.{arith}
-use borrow.Author.Tests.{le-leb, lt-leb}
-use lib.Dec.{leb, eqb}
-use lib.ListN.{length}
 use Rattle.lines.specs.Grammar.{breakAt, fieldsOf, isDigit, allDigits, numberFrom, isNumber}
 
 -- ---- the fields of a line are one at least

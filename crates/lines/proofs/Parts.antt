@@ -1,10 +1,7 @@
 -- One turn of the loop that reads on to a line feed: what is left to read, read from here, gives the whole.
-use Prim.Native.Nat.{ℕ, _+_, _≤_, _<_}
-use mathlib.Core.Path.{_≡_}
-use mathlib.Core.List.{List}
+use Rattle.laws.proofs.Prelude.{ℕ, _+_, _≤_, _<_, _≡_, List, eq-eqb, ne-eqb, length, drop, getD}
 use native.Mathlib.Numerals.{add-one}
-use borrow.Author.Tests.{eq-eqb, ne-eqb}
-use lib.ListN.{length, drop, getD, drop-of-length-le}
+use lib.ListN.{drop-of-length-le}
 use lib.Seq.{drop-cons}
 use Rattle.lines.specs.Line.{Line, byteRead}
 use Rattle.lines.specs.Command.{partFrom}

@@ -1,12 +1,8 @@
 -- A line that is read on from its letter comes to what the grammar has for it, byte by byte.
-use Prim.Native.Nat.{ℕ, _+_, _≤_, _<_}
-use mathlib.Core.Path.{_≡_, refl, sym, ap, _∙_}
-use mathlib.Core.List.{List, [], _∷_, _++_, append-assoc}
-use mathlib.Core.Bool.{Bool, true, false, cond}
-use native.Mathlib.Omega.{arith}
-use borrow.Author.Tests.{eq-eqb, ne-eqb, le-leb, lt-leb, lt-ltb, le-ltb, eqb-true}
-use lib.Dec.{ltb, leb, eqb}
-use lib.ListN.{length, length-append}
+use Rattle.laws.proofs.Prelude.{ℕ, _+_, _≤_, _<_, _≡_, refl, sym, ap, _∙_, List, [], _∷_, _++_, Bool, true, false, cond}
+use Rattle.laws.proofs.Prelude.{arith, eq-eqb, ne-eqb, le-leb, lt-leb, lt-ltb, le-ltb, eqb-true, ltb, leb, eqb, length}
+use mathlib.Core.List.{append-assoc}
+use lib.ListN.{length-append}
 use Rattle.laws.proofs.Bools.{by-cond}
 use Rattle.lines.specs.declared.Command.{Command}
 use Rattle.lines.specs.declared.Command.the-variants.{Unreadable}

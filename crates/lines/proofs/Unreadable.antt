@@ -1,10 +1,6 @@
 -- Choices whose test is known, and a line that is unreadable: it stays so.
-use Prim.Native.Nat.{ℕ, _≤_, _<_}
-use mathlib.Core.Path.{_≡_, refl, ap, _∙_}
-use mathlib.Core.List.{List, [], _∷_}
-use mathlib.Core.Bool.{Bool, true, false, cond}
-use borrow.Author.Tests.{ltb-true, ltb-false}
-use lib.Dec.{ltb, eqb}
+use Rattle.laws.proofs.Prelude.{ℕ, _≤_, _<_, _≡_, refl, ap, _∙_, List, [], _∷_, Bool, true, false, cond, ltb-true}
+use Rattle.laws.proofs.Prelude.{ltb-false, ltb, eqb}
 use Rattle.laws.proofs.Bools.{by-cond}
 use Rattle.lines.specs.declared.Command.the-variants.{Unreadable}
 use Rattle.lines.specs.Line.{Line, unreadableLine, endedField, byteRead, lineRead}

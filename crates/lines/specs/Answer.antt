@@ -1,10 +1,7 @@
 -- The line that answers (document 01, "Numbers to hold it against": "line number, letter (- if unreadable), 0 or the
 -- refusal, value").
 -- Assumes nothing: these are definitions.
-use Prim.Native.Nat.{ℕ, zero, suc, _+_, _/_, _%_}
-use mathlib.Core.List.{List, [], _∷_}
-use mathlib.Core.Bool.{cond}
-use lib.Dec.{ltb}
+use Rattle.laws.specs.Prelude.{ℕ, zero, suc, _+_, _/_, _%_, List, [], _∷_, cond, ltb}
 
 -- a number's last digits, at most so many and with no leading zero, before a text
 unfoldable pub digitsBefore : ℕ → ℕ → List ℕ → List ℕ

@@ -1,11 +1,7 @@
 -- The command of a line that has ended (document 01, "Numbers to hold it against": the lines B, S, X, J and F; "Pages
 -- above 63, words above 31 .. are unreadable. So is any other form").
 -- Assumes nothing: these are definitions.
-use Prim.Native.Nat.{ℕ, _+_}
-use mathlib.Core.List.{List, [], _∷_}
-use mathlib.Core.Bool.{Bool, cond, _&&_}
-use lib.ListN.{getD}
-use lib.Dec.{leb, eqb}
+use Rattle.laws.specs.Prelude.{ℕ, _+_, List, [], _∷_, Bool, cond, _&&_, getD, leb, eqb}
 pub use Rattle.lines.specs.declared.Command.{Command}
 pub use Rattle.lines.specs.declared.Part.{Part}
 use Rattle.lines.specs.declared.Command.the-variants.{Open, Step, Fail, Join, Fetch, Unreadable}

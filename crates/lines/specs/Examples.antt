@@ -1,9 +1,8 @@
 -- Worked examples of shelfrun's lines, computed from the definitions: which lines are commands, and what an answer
 -- looks like.
 -- Assumes nothing: these are definitions.
-use Prim.Native.Nat.{ℕ}
+use Rattle.laws.specs.Prelude.{ℕ, List, [], _∷_, _++_}
 use Prim.Native.String.{String}
-use mathlib.Core.List.{List, [], _∷_, _++_}
 use Rattle.laws.specs.Examples.{Example, computed}
 use Rattle.laws.specs.Text.{bytesOf}
 use Rattle.lines.specs.Command.{Command}

@@ -2,12 +2,7 @@
 -- split by one space", "a number is one to ten digits, a line ends at a line feed or the input's end, and nothing
 -- after the last line feed is no line".
 -- Assumes nothing: these are definitions.
-use Prim.Native.Nat.{ℕ, _+_, _-_, _*_}
-use mathlib.Core.Path.{_≡_}
-use mathlib.Core.List.{List, [], _∷_}
-use mathlib.Core.Bool.{Bool, true, false, cond, _&&_}
-use lib.ListN.{length}
-use lib.Dec.{leb, eqb}
+use Rattle.laws.specs.Prelude.{ℕ, _+_, _-_, _*_, _≡_, List, [], _∷_, Bool, true, false, cond, _&&_, length, leb, eqb}
 use Rattle.lines.specs.declared.Command.{Command}
 use Rattle.lines.specs.declared.Command.the-variants.{Unreadable}
 use Rattle.lines.specs.Line.{freshLine, lineRead}

@@ -1,11 +1,7 @@
 -- A line read byte by byte (document 01, "Numbers to hold it against": "fields split by one space", "a number is one
 -- to ten digits").
 -- Assumes nothing: these are definitions.
-use Prim.Native.Nat.{ℕ, _+_, _-_, _*_}
-use mathlib.Core.List.{List, [], _∷_}
-use mathlib.Core.Bool.{Bool, true, false, cond}
-use lib.ListN.{set, replicate}
-use lib.Dec.{ltb, leb, eqb}
+use Rattle.laws.specs.Prelude.{ℕ, _+_, _-_, _*_, List, [], _∷_, Bool, true, false, cond, set, replicate, ltb, leb, eqb}
 pub use Rattle.lines.specs.declared.Line.{Line}
 
 -- before the first byte

@@ -1,16 +1,12 @@
 // The lines of the program shelfrun (document 01, "Numbers to hold it against"): a line read byte
 // by byte into a command, and the line that answers it.
-ghost use mathlib.Core.Path.{_≡_};
-ghost use Prim.Native.Nat.{_+_, _≤_, _<_};
-ghost use mathlib.Core.List.{_∷_};
-ghost use lib.ListN.{length, drop};
+ghost use Rattle.laws.specs.Prelude.{_≡_, _+_, _≤_, _<_, _∷_, length, drop};
 ghost use lib.Seq.{sets};
 ghost use Rattle.laws.specs.Examples.{AllHold};
 ghost use Rattle.lines.specs.Line.{freshLine, unreadableLine, endedField, letterRead};
 ghost use Rattle.lines.specs.Line.{digitRead, byteRead, hasBegun};
 ghost use Rattle.lines.specs.Command.{isLabel, openForm, stepForm, failForm, joinForm};
-ghost use Rattle.lines.specs.Command.{fetchForm};
-ghost use Rattle.lines.specs.Command.{formOf, commandOf, partFrom};
+ghost use Rattle.lines.specs.Command.{fetchForm, formOf, commandOf, partFrom};
 ghost use Rattle.lines.specs.Grammar.{ReadsCommands};
 ghost use Rattle.lines.specs.Answer.{decimalBefore, answerLine};
 ghost use Rattle.lines.specs.Examples.{examples};

@@ -1,15 +1,10 @@
 -- One turn of a loop over the labels: what one label brings to the changes and to a run, and a run to the words of the
 -- diff.
-use Prim.Native.Nat.{ℕ, zero, suc, _+_, _-_, _*_, _/_, _%_, _≤_, _<_}
-use mathlib.Core.Path.{_≡_, refl, ap, _∙_}
-use mathlib.Core.Logic.{_≢_}
-use mathlib.Core.List.{List, [], _∷_, _++_}
-use mathlib.Core.Bool.{Bool, true, false}
-use native.Mathlib.Omega.{arith}
-use native.Mathlib.Decide.{ℕ-discrete, decLt}
+use Rattle.laws.proofs.Prelude.{ℕ, zero, suc, _+_, _-_, _*_, _/_, _%_, _≤_, _<_, _≡_, refl, ap, _∙_, _≢_, List, [], _∷_}
+use Rattle.laws.proofs.Prelude.{_++_, Bool, true, false, arith, ℕ-discrete, decLt, length, set, take, drop, getD}
 use native.Mathlib.Nat.{zero-add}
 use native.Mathlib.Numerals.{add-one}
-use lib.ListN.{length, set, take, drop, getD, drop-of-length-le, length-take, length-drop, length-append}
+use lib.ListN.{drop-of-length-le, length-take, length-drop, length-append}
 use lib.Seq.{drop-cons, sets, take-append-seam}
 use Rattle.laws.proofs.Lists.{sets-append, sets-front}
 use Rattle.diff.specs.Format.{pageWord, runWord, endWord}
@@ -17,9 +12,8 @@ use Rattle.diff.specs.declared.Price.{Price}
 use Rattle.diff.specs.Prices.{labelOf}
 use Rattle.diff.specs.Making.{priceAt, follows, runLength, header, madeDiff}
 use Rattle.diff.specs.OnlyDiff.{Differs}
-use Rattle.diff.proofs.Encoding.{Ascending, none, more, follows-page, follows-word}
-use Rattle.diff.proofs.Encoding.{run-goes-on, run-stops, run-last, follows-yes, header-page, header-run, header-none}
-use Rattle.diff.proofs.Encoding.{encode-none, encode-price}
+use Rattle.diff.proofs.Encoding.{Ascending, none, more, follows-page, follows-word, run-goes-on, run-stops, run-last}
+use Rattle.diff.proofs.Encoding.{follows-yes, header-page, header-run, header-none, encode-none, encode-price}
 use Rattle.diff.proofs.Making.{changes-same, changes-differ, changes-none, changes-ascend, label-at}
 use Rattle.maker.specs.AtLabel.{Lent, NoChange, changesOn, workingPrice, runAt, headerAt, bodyOn}
 

@@ -1,9 +1,6 @@
 -- What one label that differs, and the labels from one on, bring to the made diff.
 -- Assumes nothing: these are definitions.
-use Prim.Native.Nat.{ℕ, _+_, _<_, _≤_}
-use mathlib.Core.Path.{_≡_}
-use mathlib.Core.List.{List}
-use lib.ListN.{length, drop, getD}
+use Rattle.laws.specs.Prelude.{ℕ, _+_, _<_, _≤_, _≡_, List, length, drop, getD}
 use Rattle.diff.specs.declared.Price.{Price}
 use Rattle.diff.specs.Making.{priceAt, changesFrom, runLength, header, encodeFrom}
 

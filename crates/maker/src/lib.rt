@@ -1,8 +1,5 @@
 // The list maker: the diff between working pages and their twins, written into a lent buffer.
-ghost use mathlib.Core.Path.{_≡_};
-ghost use mathlib.Core.Bool.{true};
-ghost use Prim.Native.Nat.{ℕ, _+_, _%_, _<_, _≤_};
-ghost use lib.ListN.{length};
+ghost use Rattle.laws.specs.Prelude.{_≡_, true, ℕ, _+_, _%_, _<_, _≤_, length};
 ghost use lib.Seq.{sets};
 ghost use Rattle.answer.specs.Outcome.{answerOf};
 ghost use Rattle.diff.specs.Format.{runWord};

@@ -1,5 +1,5 @@
 -- The examples hold: each is computed.
-use mathlib.Core.Path.{refl}
+use Rattle.laws.proofs.Prelude.{refl}
 use Rattle.laws.specs.Examples.{AllHold, sameWords, failuresFrom, Claims}
 use Rattle.laws.proofs.Examples.{all-hold}
 use Rattle.memory.specs.Area.{load, store, loadRun, overwrite, storeRun, zeros, clearRun, copyRun}

@@ -1,9 +1,6 @@
 -- Where a word of a card's area stands in the memory: different cards and offsets have different indices.
-use Prim.Native.Nat.{ℕ, _+_, _*_, _/_, _%_, _<_, _≤_}
-use mathlib.Core.Path.{_≡_, sym, ap, _∙_}
-use mathlib.Core.Logic.{_≢_}
+use Rattle.laws.proofs.Prelude.{ℕ, _+_, _*_, _/_, _%_, _<_, _≤_, _≡_, sym, ap, _∙_, _≢_, arith}
 use native.Mathlib.Nat.{suc-mul, mul-le-mul-right}
-use native.Mathlib.Omega.{arith}
 use lib.Arith.{digits-div, digits-mod}
 use Rattle.memory.specs.Area.{indexOf, AreaIn}
 

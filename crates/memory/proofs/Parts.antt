@@ -1,10 +1,6 @@
 -- A part of a slice that is lent on: what the stores made in it make of the whole.
-use Prim.Native.Nat.{ℕ, suc, _+_, _-_, _<_, _≤_}
-use mathlib.Core.Path.{_≡_, sym, ap, _∙_}
-use mathlib.Core.List.{List, [], _∷_}
+use Rattle.laws.proofs.Prelude.{ℕ, suc, _+_, _-_, _<_, _≤_, _≡_, sym, ap, _∙_, List, [], _∷_, arith, length, set, drop}
 use native.Mathlib.Nat.{add-zero}
-use native.Mathlib.Omega.{arith}
-use lib.ListN.{length, set, drop}
 use lib.Seq.{sets, take-set-le, take-set-lt, drop-set-lt, drop-set-add}
 use borrow.Rule.Slice.PartMut.{putMid, midOf, put-same, mid-len}
 use Rattle.laws.proofs.Lists.{sets-whole}

@@ -1,10 +1,9 @@
 -- Runs of words of the memory: loaded after stores, stored one after another, cleared, copied.
-use Prim.Native.Nat.{ℕ, zero, suc, _+_, _*_, _-_, _<_, _≤_, min}
-use mathlib.Core.Path.{_≡_, refl, sym, ap, _∙_}
-use mathlib.Core.List.{List, [], _∷_, _++_}
+use Rattle.laws.proofs.Prelude.{ℕ, zero, suc, _+_, _*_, _-_, _<_, _≤_, _≡_, refl, sym, ap, _∙_, List, [], _∷_, _++_}
+use Rattle.laws.proofs.Prelude.{arith, length, getD, set, drop}
+use Prim.Native.Nat.{min}
 use native.Mathlib.Nat.{add-assoc}
-use native.Mathlib.Omega.{arith}
-use lib.ListN.{length, getD, set, drop, length-take, length-drop, length-replicate}
+use lib.ListN.{length-take, length-drop, length-replicate}
 use lib.Seq.{sets, drop-drop, take-add, getD-take, getD-drop, ext-getD, length-sets}
 use Rattle.laws.proofs.Lists.{getD-sets-outside, getD-sets-inside}
 use Rattle.memory.specs.Area.{indexOf, AreaIn, load, store, loadRun, overwrite, storeRun, zeros, clearRun}

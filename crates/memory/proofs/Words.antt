@@ -1,9 +1,6 @@
 -- One word of the memory, loaded after a store, and two stores.
-use Prim.Native.Nat.{ℕ, zero, suc, _<_}
-use mathlib.Core.Path.{_≡_, refl, ap}
-use mathlib.Core.Logic.{_≢_}
-use mathlib.Core.List.{List, [], _∷_}
-use lib.ListN.{length, set, length-set}
+use Rattle.laws.proofs.Prelude.{ℕ, zero, suc, _<_, _≡_, refl, ap, _≢_, List, [], _∷_, length, set}
+use lib.ListN.{length-set}
 use lib.Seq.{getD-set-same, getD-set-other, set-getD, set-set}
 use Rattle.memory.specs.Area.{indexOf, AreaIn, load, store}
 use Rattle.memory.proofs.Index.{index-in, index-same-card, index-same-offset}

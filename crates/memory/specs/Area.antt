@@ -1,9 +1,7 @@
 -- The lent memory: "one area per card, ascending" (document 01, "Cards, pages, memory"). A word is named by the size
 -- of an area, its card and its offset in the card's area; a run of words by its first.
 -- Assumes nothing: these are definitions.
-use Prim.Native.Nat.{ℕ, zero, suc, _+_, _*_, _≤_}
-use mathlib.Core.List.{List, [], _∷_}
-use lib.ListN.{getD, set, take, drop, replicate}
+use Rattle.laws.specs.Prelude.{ℕ, zero, suc, _+_, _*_, _≤_, List, [], _∷_, getD, set, take, drop, replicate}
 
 abbrev pub indexOf : ℕ → ℕ → ℕ → ℕ
 indexOf size card offset = card * size + offset

@@ -1,8 +1,7 @@
 -- Worked examples of the layout and of words stored, computed from the definitions: each row of document 01's table
 -- of a card's area, which no theorem sees.
 -- Assumes nothing: these are definitions.
-use Prim.Native.Nat.{ℕ}
-use mathlib.Core.List.{List, [], _∷_}
+use Rattle.laws.specs.Prelude.{ℕ, List, [], _∷_}
 use Rattle.laws.specs.Examples.{Example, computed}
 use Rattle.memory.specs.Layout.{areaSize, deskSize, ownStamp, ownDesk, releaseOpen, stepsMade, releaseNumber}
 use Rattle.memory.specs.Layout.{releaseDesk, releaseSize, recordSize, recordStamp, recordDone, recordDesk}

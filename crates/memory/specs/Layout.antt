@@ -1,6 +1,6 @@
 -- Where things stand in a card's area (document 01, "Cards, pages, memory", the table of words).
 -- Assumes nothing: these are definitions.
-use Prim.Native.Nat.{ℕ, _+_, _*_, _%_}
+use Rattle.laws.specs.Prelude.{ℕ, _+_, _*_, _%_}
 
 -- "each 676 + 64 × pages words"
 abbrev pub areaSize : ℕ → ℕ

@@ -1,14 +1,12 @@
 // The lent memory: one area per card, ascending (document 01, "Cards, pages, memory"). Words and
 // runs of words are loaded, stored, copied and cleared here; a card's area, and a page in it, are
 // lent on as parts of the memory.
-ghost use mathlib.Core.Path.{_≡_};
-ghost use Prim.Native.Nat.{_+_, _*_, _<_, _≤_};
-ghost use lib.ListN.{length, set};
+ghost use Rattle.laws.specs.Prelude.{_≡_, _+_, _*_, _<_, _≤_, length, set};
 ghost use lib.Seq.{sets};
 ghost use Rattle.laws.specs.Examples.{AllHold};
 ghost use Rattle.memory.specs.Layout.{areaSize};
-ghost use Rattle.memory.specs.Area.{AreaIn, load, store, loadRun, storeRun};
-ghost use Rattle.memory.specs.Area.{zeros, clearRun, copyRun};
+ghost use Rattle.memory.specs.Area.{AreaIn, load, store, loadRun, storeRun, zeros, clearRun};
+ghost use Rattle.memory.specs.Area.{copyRun};
 ghost use Rattle.memory.specs.Examples.{examples};
 
 // specs/Layout.antt has the same table.

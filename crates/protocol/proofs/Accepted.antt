@@ -1,18 +1,11 @@
 -- An accepted call tells what the book holds and leaves a rack that agrees with the book.
-use Prim.Native.Nat.{ℕ, _<_}
-use mathlib.Core.Path.{_≡_, refl, sym, ap, _∙_, subst}
-use mathlib.Core.Logic.{inl, inr}
-use mathlib.Core.List.{List, []}
-use mathlib.Core.Bool.{Bool, true, false, true≢false, false≢true}
-use native.Mathlib.Decide.{ℕ-discrete, decLt}
-use borrow.Author.Tests.{not-false}
-use lib.ListN.{length}
+use Rattle.laws.proofs.Prelude.{ℕ, _<_, _≡_, refl, sym, ap, _∙_, subst, inl, inr, List, [], Bool, true, false}
+use Rattle.laws.proofs.Prelude.{true≢false, false≢true, ℕ-discrete, decLt, not-false, length}
 use Rattle.answer.specs.declared.Outcome.{Outcome}
 use Rattle.answer.specs.Outcome.{given}
 use Rattle.directory.specs.declared.Directory.{Directory}
 use Rattle.directory.specs.declared.Status.the-variants.{Running}
-use Rattle.directory.specs.Live.{liveAt}
-use Rattle.directory.specs.Directory.{isLive, markedLive}
+use Rattle.directory.specs.Directory.{liveAt, isLive, markedLive}
 use Rattle.directory.proofs.Changes.{live-of-marked-dead, live-of-other}
 use Rattle.protocol.specs.Release.{Release, sizeOf, isOpen}
 use Rattle.protocol.specs.Checks.{Check, firstRefusal, awaitsRecovery}
@@ -26,8 +19,7 @@ use Rattle.protocol.specs.Recovery.{recoveredMemory}
 use Rattle.protocol.specs.Join.{join, joinChecks}
 use Rattle.protocol.specs.DeskQuestion.{deskQuestion, deskChecks}
 use Rattle.protocol.specs.Book.{Call, open-release, make-step, fetch-page, fail-card, recover, join-card}
-use Rattle.protocol.specs.Book.{ask-desk}
-use Rattle.protocol.specs.Book.{Book, none, feed, update}
+use Rattle.protocol.specs.Book.{ask-desk, Book, none, feed, update}
 use Rattle.protocol.specs.Demand3.{perform, away, Typed, Tells}
 use Rattle.protocol.proofs.BookLaws.{update-same, update-other}
 use Rattle.protocol.proofs.Invariant.{RunningRack, AwaitingRack}

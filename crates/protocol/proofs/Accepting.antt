@@ -1,12 +1,7 @@
 -- What an accepted call has passed: each of its checks, by name.
-use Prim.Native.Nat.{ℕ, _+_, _<_}
-use mathlib.Core.Path.{_≡_, refl, sym, _∙_}
-use mathlib.Core.List.{List, [], _∷_}
-use mathlib.Core.Bool.{Bool, true, false, cond, not, _&&_, true≢false}
-use native.Mathlib.Omega.{arith}
-use borrow.Author.Tests.{eqb-true, ltb-false, leb-false, not-true, not-false}
-use lib.ListN.{length}
-use lib.Dec.{eqb, leb}
+use Rattle.laws.proofs.Prelude.{ℕ, _+_, _<_, _≡_, refl, sym, _∙_, List, [], _∷_, Bool, true, false, cond, not, _&&_}
+use Rattle.laws.proofs.Prelude.{true≢false, arith, eqb-true, ltb-false, leb-false, not-true, not-false, length, eqb}
+use Rattle.laws.proofs.Prelude.{leb}
 use Rattle.laws.specs.Search.{countBelow}
 use Rattle.laws.proofs.Bools.{neither, and-first, and-second}
 use Rattle.laws.proofs.Search.{none-below}

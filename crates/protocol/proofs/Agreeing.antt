@@ -1,11 +1,7 @@
 -- Searches, counts and changes in turn go by what they are given below their bound; the outcome of checks goes by those
 -- up to the first that refuses.
-use Prim.Native.Nat.{ℕ, zero, suc, _+_, _<_}
-use mathlib.Core.Path.{_≡_, refl, ap}
-use mathlib.Core.List.{List, [], _∷_}
-use mathlib.Core.Bool.{Bool, true, false, cond}
-use native.Mathlib.Omega.{arith}
-use lib.Dec.{ltb}
+use Rattle.laws.proofs.Prelude.{ℕ, zero, suc, _+_, _<_, _≡_, refl, ap, List, [], _∷_, Bool, true, false, cond, arith}
+use Rattle.laws.proofs.Prelude.{ltb}
 use Rattle.laws.specs.Search.{lowestFrom, lowest, someBelow, countBelow, inTurn}
 use Rattle.answer.specs.Outcome.{refusedAt}
 use Rattle.protocol.specs.Checks.{Check, firstRefusal}

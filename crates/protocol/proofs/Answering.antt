@@ -1,15 +1,8 @@
 -- What a running rack answers: a fetch shows the book's page, a desk question the last desk.
-use Prim.Native.Nat.{ℕ, _+_, _*_, _≤_, _<_}
-use mathlib.Core.Path.{_≡_, refl, sym, ap, _∙_}
-use mathlib.Core.Logic.{inr}
-use mathlib.Core.List.{List, [], _∷_}
-use mathlib.Core.Bool.{Bool, true, false, cond, true≢false, false≢true}
+use Rattle.laws.proofs.Prelude.{ℕ, _+_, _*_, _≤_, _<_, _≡_, refl, sym, ap, _∙_, inr, List, [], _∷_, Bool, true, false}
+use Rattle.laws.proofs.Prelude.{cond, true≢false, false≢true, arith, decLt, eq-eqb, eqb-true, le-leb, length, getD, eqb}
+use Rattle.laws.proofs.Prelude.{leb}
 use native.Mathlib.Nat.{add-assoc}
-use native.Mathlib.Omega.{arith}
-use native.Mathlib.Decide.{decLt}
-use borrow.Author.Tests.{eq-eqb, eqb-true, le-leb}
-use lib.ListN.{length, getD}
-use lib.Dec.{eqb, leb}
 use Rattle.laws.proofs.Bools.{and-both}
 use Rattle.memory.specs.Layout.{committed, pageSize}
 use Rattle.memory.specs.Area.{load}

@@ -1,14 +1,7 @@
 -- The book at one accepted call: what is changed for one card, and what a step makes of the book.
-use Prim.Native.Nat.{ℕ, suc, _≤_, _<_}
-use mathlib.Core.Path.{_≡_, refl, sym, _∙_, subst, fun-ext}
-use mathlib.Core.Logic.{_≢_}
-use mathlib.Core.List.{List, []}
-use mathlib.Core.Bool.{cond}
-use native.Mathlib.Omega.{arith}
-use native.Mathlib.Decide.{ℕ-discrete}
-use borrow.Author.Tests.{lt-ltb, le-ltb, eq-eqb, ne-eqb}
-use lib.ListN.{length}
-use lib.Dec.{ltb}
+use Rattle.laws.proofs.Prelude.{ℕ, suc, _≤_, _<_, _≡_, refl, sym, _∙_, subst, _≢_, List, [], cond, arith, ℕ-discrete}
+use Rattle.laws.proofs.Prelude.{lt-ltb, le-ltb, eq-eqb, ne-eqb, length, ltb}
+use mathlib.Core.Path.{fun-ext}
 use Rattle.diff.specs.declared.Price.{Price}
 use Rattle.protocol.specs.Release.{Release, countsAt, stepsIn}
 use Rattle.protocol.specs.Book.{Opened, none, opened, Book, update, listPrices, count, setOpen, stepBook}

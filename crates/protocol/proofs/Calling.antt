@@ -1,13 +1,7 @@
 -- Openings and steps on a running rack leave one that runs.
-use Prim.Native.Nat.{ℕ, suc, _≤_}
-use mathlib.Core.Path.{_≡_, refl, sym, ap, _∙_, subst}
-use mathlib.Core.Logic.{_≢_}
-use mathlib.Core.List.{List, [], _∷_, append-nil}
-use mathlib.Core.Bool.{Bool, true, false, cond, not, true≢false}
-use native.Mathlib.Omega.{arith}
-use borrow.Author.Tests.{ne-eqb}
-use lib.ListN.{length}
-use lib.Dec.{eqb}
+use Rattle.laws.proofs.Prelude.{ℕ, suc, _≤_, _≡_, refl, sym, ap, _∙_, subst, _≢_, List, [], _∷_, Bool, true, false}
+use Rattle.laws.proofs.Prelude.{cond, not, true≢false, arith, ne-eqb, length, eqb}
+use mathlib.Core.List.{append-nil}
 use Rattle.laws.proofs.Bools.{and-rest}
 use Rattle.memory.specs.Area.{load}
 use Rattle.directory.specs.declared.Directory.{Directory}

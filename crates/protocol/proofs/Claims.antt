@@ -1,13 +1,8 @@
 -- The claim on page words while releases are under way: the writes that a card has still to make, laid over what
 -- memory has in a word that no other card's open list names, give the book's price of it, with the prices that the
 -- book has not yet.
-use Prim.Native.Nat.{ℕ, _+_, _*_, _<_}
-use mathlib.Core.Path.{_≡_, refl, sym, _∙_}
-use mathlib.Core.Logic.{_≢_}
-use mathlib.Core.List.{List, []}
-use mathlib.Core.Bool.{Bool, true, false}
-use native.Mathlib.Omega.{arith}
-use native.Mathlib.Decide.{ℕ-discrete}
+use Rattle.laws.proofs.Prelude.{ℕ, _+_, _*_, _<_, _≡_, refl, sym, _∙_, _≢_, List, [], Bool, true, false, arith}
+use Rattle.laws.proofs.Prelude.{ℕ-discrete}
 use Rattle.memory.specs.Layout.{pageStart}
 use Rattle.memory.specs.Area.{load}
 use Rattle.directory.specs.declared.Directory.{Directory}

@@ -1,22 +1,15 @@
 -- The book when open releases run to their close, one card after the other: each is counted if it did not count yet,
 -- and struck out. That is what the book does at a recovery.
-use Prim.Native.Nat.{ℕ, zero, suc, _+_, _-_, _≤_, _<_}
-use mathlib.Core.Path.{_≡_, refl, _∙_, fun-ext}
-use mathlib.Core.Logic.{_≢_}
-use mathlib.Core.List.{List}
-use mathlib.Core.Bool.{Bool, true, false, cond}
+use Rattle.laws.proofs.Prelude.{ℕ, zero, suc, _+_, _-_, _≤_, _<_, _≡_, refl, _∙_, _≢_, List, Bool, true, false, cond}
+use Rattle.laws.proofs.Prelude.{arith, ℕ-discrete, decLt, lt-ltb, le-ltb, length, ltb}
+use mathlib.Core.Path.{fun-ext}
 use native.Mathlib.Nat.{add-zero}
-use native.Mathlib.Omega.{arith}
-use native.Mathlib.Decide.{ℕ-discrete, decLt}
-use borrow.Author.Tests.{lt-ltb, le-ltb}
-use lib.ListN.{length}
-use lib.Dec.{ltb}
 use Rattle.laws.specs.Search.{inTurn}
 use Rattle.protocol.specs.Release.{Release, countsAt, stepsIn}
-use Rattle.protocol.specs.Book.{Opened, none, opened, listPrices, Book, count, setOpen, stepBook}
-use Rattle.protocol.specs.Book.{countUncounted, countOpen, strikeOpen}
-use Rattle.protocol.proofs.BookLaws.{update-same, update-other, update-update, update-unchanged}
-use Rattle.protocol.proofs.BookLaws.{step-book-plain, step-book-counts, step-book-closes}
+use Rattle.protocol.specs.Book.{Opened, none, opened, listPrices, Book, count, setOpen, stepBook, countUncounted}
+use Rattle.protocol.specs.Book.{countOpen, strikeOpen}
+use Rattle.protocol.proofs.BookLaws.{update-same, update-other, update-update, update-unchanged, step-book-plain}
+use Rattle.protocol.proofs.BookLaws.{step-book-counts, step-book-closes}
 
 -- ---- books that are equal part by part
 

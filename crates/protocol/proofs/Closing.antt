@@ -1,12 +1,7 @@
 -- Open releases run to their close, one card after the other: the invariant survives, beside the book that counts
 -- those that did not count yet and strikes all out.
-use Prim.Native.Nat.{ℕ, zero, suc, _+_, _-_, _≤_, _<_}
-use mathlib.Core.Path.{_≡_, refl, sym, _∙_, subst}
-use mathlib.Core.List.{List}
-use mathlib.Core.Bool.{Bool, true, false, _&&_, true≢false}
-use native.Mathlib.Omega.{arith}
-use lib.ListN.{length}
-use lib.Dec.{eqb}
+use Rattle.laws.proofs.Prelude.{ℕ, zero, suc, _+_, _-_, _≤_, _<_, _≡_, refl, sym, _∙_, subst, List, Bool, true, false}
+use Rattle.laws.proofs.Prelude.{_&&_, true≢false, arith, length, eqb}
 use Rattle.laws.specs.Search.{inTurn}
 use Rattle.memory.specs.Layout.{releaseOpen}
 use Rattle.memory.specs.Area.{load}

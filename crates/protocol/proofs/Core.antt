@@ -1,14 +1,8 @@
 -- The invariant between memory, directory and book that a step keeps, with the rack running or awaiting recovery.
 -- `backup` is each card's backup, from before the failure where one is awaited. T and C say when the claims on the
 -- tentative and the committed words are made. `old` is what the records of dead cards say.
-use Prim.Native.Nat.{ℕ, suc, _+_, _*_, _≤_, _<_}
-use mathlib.Core.Path.{_≡_, refl, sym, ap, _∙_}
-use mathlib.Core.Logic.{_≢_}
-use mathlib.Core.List.{List}
-use mathlib.Core.Bool.{true, false, true≢false}
-use native.Mathlib.Omega.{arith}
-use native.Mathlib.Decide.{ℕ-discrete}
-use lib.ListN.{length}
+use Rattle.laws.proofs.Prelude.{ℕ, suc, _+_, _*_, _≤_, _<_, _≡_, refl, sym, ap, _∙_, _≢_, List, true, false, true≢false}
+use Rattle.laws.proofs.Prelude.{arith, ℕ-discrete, length}
 use Rattle.memory.specs.Layout.{areaSize, releaseOpen}
 use Rattle.memory.specs.Area.{AreaIn, load}
 use Rattle.directory.specs.declared.Directory.{Directory}
@@ -16,14 +10,13 @@ use Rattle.directory.specs.Directory.{isLive}
 use Rattle.diff.specs.declared.Verdict.the-variants.{Good}
 use Rattle.diff.specs.Reading.{readDiff}
 use Rattle.diff.specs.Prices.{laidAt}
-use Rattle.protocol.specs.Release.{Release, sizeOf, ownRelease, openList, stepMemory}
-use Rattle.protocol.specs.Release.{countsAt, stepsIn}
+use Rattle.protocol.specs.Release.{Release, sizeOf, ownRelease, openList, stepMemory, countsAt, stepsIn}
 use Rattle.protocol.specs.Book.{Opened, none, opened, listPrices, Book, update}
 use Rattle.protocol.proofs.Shape.{Shape, SameOwn, SameRelease, shape-kept, own-kept, open-kept, list-kept}
 use Rattle.protocol.proofs.Shape.{area-of-live, steps-kept, same-own-release}
 use Rattle.protocol.proofs.Over.{written}
-use Rattle.protocol.proofs.Stepped.{StandsIn, stepWrite, load-step, steps-step, step-keeps}
-use Rattle.protocol.proofs.Stepped.{step-keeps-other, step-keeps-record}
+use Rattle.protocol.proofs.Stepped.{StandsIn, stepWrite, load-step, steps-step, step-keeps, step-keeps-other}
+use Rattle.protocol.proofs.Stepped.{step-keeps-record}
 use Rattle.protocol.proofs.BookLaws.{pricesIn, EightWords, update-each}
 use Rattle.protocol.proofs.Claims.{Apart, Claim}
 use Rattle.protocol.proofs.Halves.{tentatives, committeds}

@@ -1,12 +1,6 @@
 -- The proofs of the corollaries: they hold of every rack that agrees with its book.
-use Prim.Native.Nat.{ℕ, _≤_}
-use mathlib.Core.Path.{_≡_, refl, sym, ap, _∙_}
-use mathlib.Core.Logic.{_≢_, _⊎_, inl}
-use mathlib.Core.List.{List, [], _∷_}
-use mathlib.Core.Bool.{Bool, true, false, true≢false}
-use native.Mathlib.Omega.{arith}
-use borrow.Author.Tests.{eqb-true, le-leb, lt-leb}
-use lib.ListN.{length, drop}
+use Rattle.laws.proofs.Prelude.{ℕ, _≤_, _≡_, refl, sym, ap, _∙_, _≢_, _⊎_, inl, List, [], _∷_, Bool, true, false}
+use Rattle.laws.proofs.Prelude.{true≢false, arith, eqb-true, le-leb, lt-leb, length, drop}
 use Rattle.memory.specs.Layout.{deskSize}
 use Rattle.memory.specs.Area.{zeros}
 use Rattle.answer.specs.declared.Outcome.{Outcome}
@@ -24,8 +18,7 @@ use Rattle.protocol.specs.Recovery.{recovery, recoveryChecks}
 use Rattle.protocol.specs.Join.{join, joinChecks}
 use Rattle.protocol.specs.DeskQuestion.{deskQuestion, deskChecks}
 use Rattle.protocol.specs.Book.{Call, open-release, make-step, fetch-page, fail-card, recover, join-card}
-use Rattle.protocol.specs.Book.{ask-desk}
-use Rattle.protocol.specs.Book.{Opened, none, opened, Book}
+use Rattle.protocol.specs.Book.{ask-desk, Opened, none, opened, Book}
 use Rattle.protocol.specs.Demand1.{isAmong}
 use Rattle.protocol.specs.Demand3.{Visit, perform, answerTo}
 use Rattle.protocol.specs.Corollaries.{AlwaysFits, OpenUnder, ResendRefused, ResendsRefused}

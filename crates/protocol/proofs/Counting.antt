@@ -1,10 +1,6 @@
 -- Of three live cards, two stay when one fails.
-use Prim.Native.Nat.{ℕ, zero, suc, _+_, _≤_, _<_}
-use mathlib.Core.Path.{_≡_, refl, _∙_}
-use mathlib.Core.Logic.{_≢_}
-use mathlib.Core.Bool.{Bool, true, false, cond}
-use native.Mathlib.Omega.{arith}
-use native.Mathlib.Decide.{ℕ-discrete}
+use Rattle.laws.proofs.Prelude.{ℕ, zero, suc, _+_, _≤_, _<_, _≡_, refl, _∙_, _≢_, Bool, true, false, cond, arith}
+use Rattle.laws.proofs.Prelude.{ℕ-discrete}
 use Rattle.laws.specs.Search.{countBelow}
 use Rattle.directory.specs.declared.Directory.{Directory}
 use Rattle.directory.specs.Directory.{isLive}

@@ -1,22 +1,13 @@
 -- A call counts at most the next number of a card.
-use Prim.Native.Nat.{ℕ, zero, suc, _<_}
-use mathlib.Core.Path.{_≡_, refl}
-use mathlib.Core.Logic.{_⊎_, inl, inr}
-use mathlib.Core.List.{List}
-use mathlib.Core.Bool.{Bool, true, false, cond}
-use native.Mathlib.Omega.{arith}
-use borrow.Author.Tests.{eqb-true, ltb-true}
-use lib.ListN.{length}
-use lib.Dec.{eqb, ltb}
+use Rattle.laws.proofs.Prelude.{ℕ, zero, suc, _<_, _≡_, refl, _⊎_, inl, inr, List, Bool, true, false, cond, arith}
+use Rattle.laws.proofs.Prelude.{eqb-true, ltb-true, length, eqb, ltb}
 use Rattle.laws.specs.Search.{inTurn}
 use Rattle.directory.specs.declared.Directory.{Directory}
 use Rattle.protocol.specs.Release.{Release, countsAt}
 use Rattle.protocol.specs.Result.{accepted}
 use Rattle.protocol.specs.Book.{Call, open-release, make-step, fetch-page, fail-card, recover, join-card}
-use Rattle.protocol.specs.Book.{ask-desk}
-use Rattle.protocol.specs.Book.{Opened, none, opened, listPrices, Book, update, count, stepBook, countUncounted}
-use Rattle.protocol.specs.Book.{countOpen}
-use Rattle.protocol.specs.Book.{feed, feedIf}
+use Rattle.protocol.specs.Book.{ask-desk, Opened, none, opened, listPrices, Book, update, count, stepBook}
+use Rattle.protocol.specs.Book.{countUncounted, countOpen, feed, feedIf}
 use Rattle.protocol.specs.Demand3.{answerTo}
 use Rattle.protocol.specs.Corollaries.{CountsNext, CountsOnce}
 use Rattle.protocol.proofs.BookLaws.{update-each}

@@ -1,18 +1,12 @@
 -- The proof of demand 3: the invariant holds of a formatted rack, is found again by each call, and each call keeps it.
-use Prim.Native.Nat.{ℕ}
-use mathlib.Core.Path.{_≡_, refl}
-use mathlib.Core.Logic.{inl}
-use mathlib.Core.List.{List, [], _∷_}
-use mathlib.Core.Bool.{Bool, true, false, cond}
-use lib.ListN.{length}
+use Rattle.laws.proofs.Prelude.{ℕ, _≡_, refl, inl, List, [], _∷_, Bool, true, false, cond, length}
 use Rattle.directory.specs.declared.Directory.{Directory}
 use Rattle.answer.specs.Outcome.{limits}
 use Rattle.protocol.specs.Checks.{Check, check, firstRefusal, outsideLimits}
 use Rattle.protocol.specs.Result.{accepted}
 use Rattle.protocol.specs.Formatting.{formatting}
 use Rattle.protocol.specs.Book.{Book, newBook, feedIf}
-use Rattle.protocol.specs.Demand3.{away, Visit, Typed, Tells, answerTo, Always, Everywhere}
-use Rattle.protocol.specs.Demand3.{Demand3}
+use Rattle.protocol.specs.Demand3.{away, Visit, Typed, Tells, answerTo, Always, Everywhere, Demand3}
 use Rattle.protocol.proofs.Limits.{within-limits}
 use Rattle.protocol.proofs.Accepting.{all-passed, when-accepted}
 use Rattle.protocol.proofs.Found.{Rack, NoneAway, rack-found, undisturbed-live}

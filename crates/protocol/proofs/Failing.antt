@@ -1,12 +1,8 @@
 -- A failure takes a rack that runs to one that awaits the recovery of the failed card.
-use Prim.Native.Nat.{ℕ, _+_, _*_, _≤_, _<_}
-use mathlib.Core.Path.{_≡_, refl, sym, _∙_, subst, fun-ext}
-use mathlib.Core.Logic.{_≢_, _⊎_, inl, inr}
-use mathlib.Core.List.{List, [], _∷_}
-use mathlib.Core.Bool.{true, false, false≢true}
-use native.Mathlib.Omega.{arith}
-use native.Mathlib.Decide.{ℕ-discrete, decLt}
-use lib.ListN.{length, length-set}
+use Rattle.laws.proofs.Prelude.{ℕ, _+_, _*_, _≤_, _<_, _≡_, refl, sym, _∙_, subst, _≢_, _⊎_, inl, inr, List, [], _∷_}
+use Rattle.laws.proofs.Prelude.{true, false, false≢true, arith, ℕ-discrete, decLt, length}
+use mathlib.Core.Path.{fun-ext}
+use lib.ListN.{length-set}
 use Rattle.memory.specs.Layout.{tentativeHalf, committedHalf, recordStamp, recordDone}
 use Rattle.memory.specs.Area.{load}
 use Rattle.directory.specs.declared.Directory.{Directory}
@@ -19,17 +15,14 @@ use Rattle.protocol.specs.Failure.{failedDirectory}
 use Rattle.protocol.specs.Recovery.{backupBefore}
 use Rattle.protocol.specs.Book.{Opened, none, opened, listPrices, Book, update, failBook}
 use Rattle.protocol.proofs.Over.{over-none}
-use Rattle.protocol.proofs.BookLaws.{EightWords, uncounted-late}
-use Rattle.protocol.proofs.BookLaws.{update-other, update-each}
+use Rattle.protocol.proofs.BookLaws.{EightWords, uncounted-late, update-other, update-each}
 use Rattle.protocol.proofs.Claims.{HomeWord, Claim, claim-struck, claim-kept}
-use Rattle.protocol.proofs.Halves.{tentatives, committeds, pending, pendingCommitted}
-use Rattle.protocol.proofs.Halves.{committed-none}
+use Rattle.protocol.proofs.Halves.{tentatives, committeds, pending, pendingCommitted, committed-none}
 use Rattle.protocol.proofs.Halves.{tentative-late, committed-early, committed-late, pending-over}
 use Rattle.protocol.proofs.Held.{Numbers, Held}
 use Rattle.protocol.proofs.Core.{Core, Under}
 use Rattle.protocol.proofs.StepCore.{apart-struck}
-use Rattle.protocol.proofs.Invariant.{TwoLive, RunningRack, AwaitingRack, unmarked}
-use Rattle.protocol.proofs.Invariant.{next-is-live, next-is-other}
+use Rattle.protocol.proofs.Invariant.{TwoLive, RunningRack, AwaitingRack, unmarked, next-is-live, next-is-other}
 
 -- ---- directories with the same homes write the same
 

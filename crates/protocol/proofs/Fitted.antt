@@ -1,22 +1,14 @@
 -- A rack that agrees with its book passes checks 1 and 2.
-use Prim.Native.Nat.{ℕ, zero, suc, _+_, _*_, _≤_, _<_}
-use mathlib.Core.Path.{_≡_, refl, sym, _∙_}
-use mathlib.Core.Logic.{_≢_, _⊎_, inl, inr}
-use mathlib.Core.List.{List}
-use mathlib.Core.Bool.{Bool, true, false, cond, not, _&&_, _||_, true≢false}
-use native.Mathlib.Omega.{arith}
-use native.Mathlib.Decide.{ℕ-discrete, decLt}
-use borrow.Author.Tests.{eq-eqb, ne-eqb, le-ltb, lt-leb}
-use lib.ListN.{length}
-use lib.Dec.{ltb, eqb}
+use Rattle.laws.proofs.Prelude.{ℕ, zero, suc, _+_, _*_, _≤_, _<_, _≡_, refl, sym, _∙_, _≢_, _⊎_, inl, inr, List, Bool}
+use Rattle.laws.proofs.Prelude.{true, false, cond, not, _&&_, _||_, true≢false, arith, ℕ-discrete, decLt, eq-eqb}
+use Rattle.laws.proofs.Prelude.{ne-eqb, le-ltb, lt-leb, length, ltb, eqb}
 use Rattle.laws.specs.Search.{lowest, someBelow, countBelow}
 use Rattle.laws.proofs.Search.{lowest-stops}
 use Rattle.memory.specs.Layout.{areaSize, releaseOpen}
 use Rattle.memory.specs.Area.{load}
 use Rattle.directory.specs.declared.Directory.{Directory}
 use Rattle.directory.specs.declared.Status.{Status}
-use Rattle.directory.specs.Live.{liveAt}
-use Rattle.directory.specs.Directory.{isLive, primaryOf, secondaryOf, backupOf, awaitsCard}
+use Rattle.directory.specs.Directory.{liveAt, isLive, primaryOf, secondaryOf, backupOf, awaitsCard}
 use Rattle.protocol.specs.Checks.{outsideLimits, fewLive, badHome, badPage, badStatus, badRelease, badCard}
 use Rattle.protocol.specs.Checks.{unfitRack}
 use Rattle.protocol.specs.Release.{sizeOf, openList, stepsOf}

@@ -1,19 +1,13 @@
 -- What a rack that passes check 2 keeps to: homes that are cards, a card that is live, an awaited card that is dead.
-use Prim.Native.Nat.{ℕ, _<_}
-use mathlib.Core.Path.{_≡_, sym, _∙_}
-use mathlib.Core.List.{List}
-use mathlib.Core.Bool.{Bool, true, false, false≢true}
-use native.Mathlib.Omega.{arith}
-use borrow.Author.Tests.{leb-false, ltb-false, ltb-true, lt-ltb}
-use lib.Dec.{leb, eqb}
+use Rattle.laws.proofs.Prelude.{ℕ, _<_, _≡_, sym, _∙_, List, Bool, true, false, false≢true, arith, leb-false, ltb-false}
+use Rattle.laws.proofs.Prelude.{ltb-true, lt-ltb, leb, eqb}
 use Rattle.laws.specs.Search.{lowest, someBelow, countBelow}
 use Rattle.laws.proofs.Bools.{neither}
 use Rattle.laws.proofs.Search.{none-below, lowest-stops, some-count}
 use Rattle.directory.specs.declared.Directory.{Directory}
 use Rattle.directory.specs.declared.Status.{Status}
 use Rattle.directory.specs.declared.Status.the-variants.{Running, Awaiting}
-use Rattle.directory.specs.Live.{liveAt}
-use Rattle.directory.specs.Directory.{isLive, primaryOf, secondaryOf}
+use Rattle.directory.specs.Directory.{liveAt, isLive, primaryOf, secondaryOf}
 use Rattle.protocol.specs.Checks.{fewLive, badHome, badPage, badStatus, unfitRack, awaitsRecovery}
 use Rattle.protocol.specs.Recovery.{awaitedCard}
 

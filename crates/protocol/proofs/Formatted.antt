@@ -1,20 +1,13 @@
 -- A formatted rack runs, and agrees with a new book.
-use Prim.Native.Nat.{ℕ, zero, suc, _%_, _<_}
-use mathlib.Core.Path.{_≡_, refl, sym, _∙_}
-use mathlib.Core.Logic.{_≢_}
-use mathlib.Core.Bool.{true, false, true≢false}
-use native.Mathlib.Omega.{arith}
-use native.Mathlib.Decide.{decLt}
+use Rattle.laws.proofs.Prelude.{ℕ, zero, suc, _%_, _<_, _≡_, refl, sym, _∙_, _≢_, true, false, true≢false, arith, decLt}
+use Rattle.laws.proofs.Prelude.{lt-ltb, ltb-true, ltb}
 use native.Mathlib.Nat.{mod-lt}
-use borrow.Author.Tests.{lt-ltb, ltb-true}
-use lib.Dec.{ltb}
 use Rattle.memory.specs.Layout.{ownDesk, deskSize}
 use Rattle.memory.specs.Area.{load, zeros}
 use Rattle.memory.proofs.Runs.{length-zeros, getD-zeros, load-zeros, load-run-zeros}
 use Rattle.directory.specs.declared.Directory.{Directory}
-use Rattle.directory.specs.Live.{nextLive}
-use Rattle.directory.specs.Directory.{isLive, primaryOf, secondaryOf, backupOf, formattedMarks, formattedPrimary}
-use Rattle.directory.specs.Directory.{formattedSecondary, formattedDirectory}
+use Rattle.directory.specs.Directory.{nextLive, isLive, primaryOf, secondaryOf, backupOf, formattedMarks}
+use Rattle.directory.specs.Directory.{formattedPrimary, formattedSecondary, formattedDirectory}
 use Rattle.directory.proofs.Live.{next-live-is-live, next-live-other}
 use Rattle.directory.proofs.Table.{table-length, table-read, read-past-end}
 use Rattle.diff.proofs.Prices.{names-none}

@@ -1,11 +1,6 @@
 -- The invariant between two calls: what a call finds is as good as what the last call left, whatever the areas of
 -- cards that are away hold.
-use Prim.Native.Nat.{ℕ, _+_, _*_, _≤_, _<_}
-use mathlib.Core.Path.{_≡_, refl, _∙_}
-use mathlib.Core.Logic.{_⊎_, inl, inr}
-use mathlib.Core.List.{List}
-use mathlib.Core.Bool.{Bool, true, false}
-use native.Mathlib.Omega.{arith}
+use Rattle.laws.proofs.Prelude.{ℕ, _+_, _*_, _≤_, _<_, _≡_, refl, _∙_, _⊎_, inl, inr, List, Bool, true, false, arith}
 use Rattle.memory.specs.Area.{load}
 use Rattle.memory.specs.Layout.{recordStamp, recordDone, recordDesk}
 use Rattle.directory.specs.declared.Directory.{Directory}

@@ -1,13 +1,8 @@
 -- The two halves of the pages, tentative and committed, as claims on them speak of them.
-use Prim.Native.Nat.{ℕ, suc, _+_, _-_, _*_, _≤_, _<_}
-use mathlib.Core.Path.{_≡_, refl, _∙_}
-use mathlib.Core.List.{List, [], _∷_, _++_}
-use mathlib.Core.Bool.{Bool, true, false, cond}
-use native.Mathlib.Omega.{arith}
-use borrow.Author.Tests.{lt-ltb, le-ltb}
-use lib.ListN.{length, drop, drop-of-length-le}
+use Rattle.laws.proofs.Prelude.{ℕ, suc, _+_, _-_, _*_, _≤_, _<_, _≡_, refl, _∙_, List, [], _∷_, _++_, Bool, true, false}
+use Rattle.laws.proofs.Prelude.{cond, arith, lt-ltb, le-ltb, length, drop, ltb}
+use lib.ListN.{drop-of-length-le}
 use lib.Seq.{drop-append-add}
-use lib.Dec.{ltb}
 use Rattle.memory.specs.Layout.{pageStart, tentativeHalf, committedHalf, recordStamp, recordDone, recordDesk}
 use Rattle.directory.specs.declared.Directory.{Directory}
 use Rattle.diff.specs.declared.Price.{Price}
@@ -18,8 +13,8 @@ use Rattle.protocol.specs.Release.{Release, Write, priceWrites, runWrite
 use Rattle.protocol.specs.Book.{Opened, none, opened, listPrices}
 use Rattle.protocol.proofs.Writes.{length-writes, length-price-writes, length-run-writes}
 use Rattle.protocol.proofs.Over.{over, over-none, over-first, over-append, over-miss, written, Misses}
-use Rattle.protocol.proofs.Over.{misses-append}
-use Rattle.protocol.proofs.Over.{misses-drop, run-misses, prices-miss, unnamed-miss, prices-over, HomeOf}
+use Rattle.protocol.proofs.Over.{misses-append, misses-drop, run-misses, prices-miss, unnamed-miss, prices-over}
+use Rattle.protocol.proofs.Over.{HomeOf}
 use Rattle.protocol.proofs.BookLaws.{pricesIn, EightWords, uncounted, uncounted-none}
 use Rattle.protocol.proofs.Claims.{Half}
 use Rattle.protocol.proofs.Stepped.{stepWrite}

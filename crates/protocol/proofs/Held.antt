@@ -1,19 +1,14 @@
 -- What a card's record on its backup says beside the book, and that a step keeps it so. `f o` is the word at offset o
 -- of the backup's area.
-use Prim.Native.Nat.{ℕ, suc, _+_, _*_, _≤_, _<_}
-use mathlib.Core.Path.{_≡_, refl, sym, ap, _∙_}
-use mathlib.Core.Logic.{_≢_}
-use mathlib.Core.List.{List}
-use native.Mathlib.Omega.{arith}
-use native.Mathlib.Decide.{ℕ-discrete}
-use lib.ListN.{length, getD}
+use Rattle.laws.proofs.Prelude.{ℕ, suc, _+_, _*_, _≤_, _<_, _≡_, refl, sym, ap, _∙_, _≢_, List, arith, ℕ-discrete}
+use Rattle.laws.proofs.Prelude.{length, getD}
 use Rattle.memory.specs.Layout.{recordStamp, recordDone, recordDesk}
 use Rattle.directory.specs.declared.Directory.{Directory}
 use Rattle.protocol.specs.Release.{Release, countsAt}
 use Rattle.protocol.specs.Book.{Opened, none, opened, listPrices}
 use Rattle.protocol.proofs.Writes.{Phase, phase, to-tentative, to-desk, to-stamp, to-committed, to-done}
-use Rattle.protocol.proofs.Writes.{to-close}
-use Rattle.protocol.proofs.Writes.{write-tentative, write-desk, write-stamp, write-committed, write-done}
+use Rattle.protocol.proofs.Writes.{to-close, write-tentative, write-desk, write-stamp, write-committed}
+use Rattle.protocol.proofs.Writes.{write-done}
 use Rattle.protocol.proofs.Over.{written, written-here, written-other-offset}
 use Rattle.protocol.proofs.Stepped.{stepWrite}
 

@@ -1,11 +1,6 @@
 -- The invariant of demand 3: a rack that runs, and one that awaits the recovery of a card, beside the book.
-use Prim.Native.Nat.{ℕ, _+_, _≤_, _<_}
-use mathlib.Core.Path.{_≡_, sym, _∙_}
-use mathlib.Core.Logic.{_≢_, _⊎_}
-use mathlib.Core.List.{List}
-use mathlib.Core.Bool.{Bool, true, false}
-use native.Mathlib.Decide.{ℕ-discrete}
-use lib.ListN.{length, getD, set}
+use Rattle.laws.proofs.Prelude.{ℕ, _+_, _≤_, _<_, _≡_, sym, _∙_, _≢_, _⊎_, List, Bool, true, false, ℕ-discrete, length}
+use Rattle.laws.proofs.Prelude.{getD, set}
 use lib.Seq.{set-set, set-getD}
 use Rattle.memory.specs.Layout.{recordStamp, recordDone, recordDesk}
 use Rattle.memory.specs.Area.{load}

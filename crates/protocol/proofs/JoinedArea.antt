@@ -1,23 +1,15 @@
 -- The area of a card that joins: its own stamp and desk, and the records that are copied to it. No other
 -- card's word changes.
-use Prim.Native.Nat.{ℕ, zero, suc, _+_, _-_, _*_, _≤_, _<_}
-use mathlib.Core.Path.{_≡_, refl, sym, _∙_}
-use mathlib.Core.Logic.{_≢_, _⊎_, inl, inr}
-use mathlib.Core.List.{List, _∷_}
-use mathlib.Core.Bool.{Bool, true, false, cond, not, _&&_, true≢false}
+use Rattle.laws.proofs.Prelude.{ℕ, zero, suc, _+_, _-_, _*_, _≤_, _<_, _≡_, refl, sym, _∙_, _≢_, _⊎_, inl, inr, List}
+use Rattle.laws.proofs.Prelude.{_∷_, Bool, true, false, cond, not, _&&_, true≢false, arith, ℕ-discrete, decLt, ne-eqb}
+use Rattle.laws.proofs.Prelude.{length, getD, eqb}
 use native.Mathlib.Nat.{zero-add}
-use native.Mathlib.Omega.{arith}
-use native.Mathlib.Decide.{ℕ-discrete, decLt}
-use borrow.Author.Tests.{ne-eqb}
-use lib.ListN.{length, getD}
-use lib.Dec.{eqb}
 use Rattle.laws.specs.Search.{inTurn}
 use Rattle.memory.specs.Layout.{deskSize, ownStamp, ownDesk, recordStamp, recordSize}
 use Rattle.memory.specs.Area.{AreaIn, load, clearRun, copyRun}
 use Rattle.memory.proofs.Index.{outside-other-card, outside-below, outside-above}
-use Rattle.memory.proofs.Runs.{length-store-run, length-clear-run, length-copy-run, load-run-is}
-use Rattle.memory.proofs.Runs.{load-store-run-outside, load-store-run-inside, load-clear-run-outside}
-use Rattle.memory.proofs.Runs.{load-clear-run-inside}
+use Rattle.memory.proofs.Runs.{length-store-run, length-clear-run, length-copy-run, load-run-is, load-store-run-outside}
+use Rattle.memory.proofs.Runs.{load-store-run-inside, load-clear-run-outside, load-clear-run-inside}
 use Rattle.memory.proofs.Runs.{load-copy-run-outside, load-copy-run-inside}
 use Rattle.directory.specs.declared.Directory.{Directory}
 use Rattle.directory.specs.Directory.{isLive, nextLiveOf}

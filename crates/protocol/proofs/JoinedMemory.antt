@@ -1,13 +1,6 @@
 -- The memory after a join: other cards' words as they were; on the card that joins its own stamp and desk, no open
 -- release, the other dead cards' records and that of the live card whose backup it now is.
-use Prim.Native.Nat.{ℕ, _<_}
-use mathlib.Core.Path.{_≡_, sym, _∙_}
-use mathlib.Core.Logic.{_≢_}
-use mathlib.Core.List.{List}
-use mathlib.Core.Bool.{true, false, true≢false}
-use native.Mathlib.Omega.{arith}
-use borrow.Author.Tests.{eq-eqb}
-use lib.ListN.{length}
+use Rattle.laws.proofs.Prelude.{ℕ, _<_, _≡_, sym, _∙_, _≢_, List, true, false, true≢false, arith, eq-eqb, length}
 use Rattle.laws.specs.Search.{inTurn}
 use Rattle.laws.proofs.Bools.{and-first, and-both}
 use Rattle.memory.specs.Layout.{releaseOpen}

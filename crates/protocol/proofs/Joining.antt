@@ -1,11 +1,6 @@
 -- A join leaves a rack that runs, beside the same book.
-use Prim.Native.Nat.{ℕ, _≤_, _<_}
-use mathlib.Core.Path.{_≡_, refl, sym, _∙_}
-use mathlib.Core.Logic.{_≢_, inl, inr}
-use mathlib.Core.List.{List}
-use mathlib.Core.Bool.{true, false, true≢false}
-use native.Mathlib.Omega.{arith}
-use native.Mathlib.Decide.{ℕ-discrete}
+use Rattle.laws.proofs.Prelude.{ℕ, _≤_, _<_, _≡_, refl, sym, _∙_, _≢_, inl, inr, List, true, false, true≢false, arith}
+use Rattle.laws.proofs.Prelude.{ℕ-discrete}
 use lib.ListN.{length-set}
 use Rattle.memory.specs.Area.{load}
 use Rattle.directory.specs.declared.Directory.{Directory}

@@ -1,9 +1,5 @@
 -- What a rack that passes check 1 keeps to.
-use Prim.Native.Nat.{ℕ, _*_, _≤_}
-use mathlib.Core.Path.{_≡_}
-use mathlib.Core.Bool.{false}
-use borrow.Author.Tests.{ltb-false, eqb-true, not-false}
-use lib.Dec.{ltb, eqb}
+use Rattle.laws.proofs.Prelude.{ℕ, _*_, _≤_, _≡_, false, ltb-false, eqb-true, not-false, ltb, eqb}
 use Rattle.laws.proofs.Bools.{neither}
 use Rattle.memory.specs.Layout.{areaSize}
 use Rattle.protocol.specs.Checks.{outsideLimits}

@@ -1,13 +1,7 @@
 -- The directory after a recovery: marks and limits as they were, each page's homes kept or replaced.
-use Prim.Native.Nat.{ℕ, zero, suc, _≤_, _<_}
-use mathlib.Core.Path.{_≡_, refl, sym, _∙_}
-use mathlib.Core.Logic.{_≢_}
-use mathlib.Core.Bool.{Bool, true, false, cond, _||_, false≢true}
-use native.Mathlib.Omega.{arith}
-use native.Mathlib.Decide.{ℕ-discrete}
-use borrow.Author.Tests.{eq-eqb, ne-eqb}
-use lib.ListN.{length, length-set}
-use lib.Dec.{eqb}
+use Rattle.laws.proofs.Prelude.{ℕ, zero, suc, _≤_, _<_, _≡_, refl, sym, _∙_, _≢_, Bool, true, false, cond, _||_}
+use Rattle.laws.proofs.Prelude.{false≢true, arith, ℕ-discrete, eq-eqb, ne-eqb, length, eqb}
+use lib.ListN.{length-set}
 use Rattle.laws.specs.Search.{inTurn}
 use Rattle.directory.specs.declared.Directory.{Directory}
 use Rattle.directory.specs.declared.Status.the-variants.{Running}

@@ -1,15 +1,9 @@
 -- The invariant survives an accepted opening.
-use Prim.Native.Nat.{ℕ, suc, _+_, _-_, _*_, _≤_, _<_}
-use mathlib.Core.Path.{_≡_, refl, sym, ap, _∙_}
-use mathlib.Core.Logic.{_≢_, _⊎_, inl, inr}
-use mathlib.Core.List.{List, _∷_, _++_}
-use mathlib.Core.Bool.{Bool, true, false, true≢false}
+use Rattle.laws.proofs.Prelude.{ℕ, suc, _+_, _-_, _*_, _≤_, _<_, _≡_, refl, sym, ap, _∙_, _≢_, _⊎_, inl, inr, List, _∷_}
+use Rattle.laws.proofs.Prelude.{_++_, Bool, true, false, true≢false, arith, ℕ-discrete, length, getD}
 use native.Mathlib.Nat.{zero-add}
-use native.Mathlib.Omega.{arith}
-use native.Mathlib.Decide.{ℕ-discrete}
-use lib.ListN.{length, getD}
-use Rattle.memory.specs.Layout.{deskSize, releaseOpen, releaseDesk, listStart, listSize}
-use Rattle.memory.specs.Layout.{pageStart, tentativeHalf, committedHalf}
+use Rattle.memory.specs.Layout.{deskSize, releaseOpen, releaseDesk, listStart, listSize, pageStart, tentativeHalf}
+use Rattle.memory.specs.Layout.{committedHalf}
 use Rattle.memory.specs.Area.{AreaIn, load, loadRun, storeRun}
 use Rattle.memory.proofs.Index.{outside-other-card, outside-below, outside-above}
 use Rattle.memory.proofs.Runs.{length-store-run, load-store-run-outside, load-store-run-inside, load-run-store-run}
@@ -32,8 +26,8 @@ use Rattle.protocol.proofs.Over.{over-none}
 use Rattle.protocol.proofs.BookLaws.{pricesIn, EightWords, uncounted-early, uncounted-none, update-same}
 use Rattle.protocol.proofs.BookLaws.{update-other, update-each}
 use Rattle.protocol.proofs.Claims.{Apart, HomeWord, Claim, claim-moves}
-use Rattle.protocol.proofs.Halves.{tentatives, committeds, pending-none, committed-none}
-use Rattle.protocol.proofs.Halves.{committed-early, tentative-first}
+use Rattle.protocol.proofs.Halves.{tentatives, committeds, pending-none, committed-none, committed-early}
+use Rattle.protocol.proofs.Halves.{tentative-first}
 use Rattle.protocol.proofs.Held.{Numbers, Own, Held, held-kept}
 use Rattle.protocol.proofs.Core.{Core, Standing, Under, standing-kept}
 

@@ -1,15 +1,8 @@
 -- What a list of writes, made in order, leaves in one word of a card's area.
-use Prim.Native.Nat.{ℕ, zero, suc, _+_, _*_, _≤_, _<_}
-use mathlib.Core.Path.{_≡_, refl, sym, ap, _∙_}
-use mathlib.Core.Logic.{_≢_, _⊎_, inl, inr}
-use mathlib.Core.List.{List, [], _∷_, _++_}
-use mathlib.Core.Bool.{Bool, true, false, cond, _&&_, true≢false}
-use native.Mathlib.Omega.{arith}
-use native.Mathlib.Decide.{ℕ-discrete}
-use borrow.Author.Tests.{eq-eqb, ne-eqb}
-use lib.ListN.{length, getD, drop}
+use Rattle.laws.proofs.Prelude.{ℕ, zero, suc, _+_, _*_, _≤_, _<_, _≡_, refl, sym, ap, _∙_, _≢_, _⊎_, inl, inr, List, []}
+use Rattle.laws.proofs.Prelude.{_∷_, _++_, Bool, true, false, cond, _&&_, true≢false, arith, ℕ-discrete, eq-eqb, ne-eqb}
+use Rattle.laws.proofs.Prelude.{length, getD, drop, eqb}
 use lib.Seq.{drop-cons}
-use lib.Dec.{eqb}
 use Rattle.memory.specs.Layout.{pageStart}
 use Rattle.directory.specs.declared.Directory.{Directory}
 use Rattle.directory.specs.Directory.{primaryOf, secondaryOf}

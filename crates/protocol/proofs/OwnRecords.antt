@@ -1,12 +1,6 @@
 -- Records of cards made from their own stamps and desks, on the cards that are to hold them, where they are due.
-use Prim.Native.Nat.{ℕ, zero, suc, _+_, _*_, _≤_, _<_}
-use mathlib.Core.Path.{_≡_, refl, sym, ap, _∙_}
-use mathlib.Core.Logic.{_≢_, _⊎_, inl, inr}
-use mathlib.Core.List.{List}
-use mathlib.Core.Bool.{Bool, true, false, cond, true≢false}
-use native.Mathlib.Omega.{arith}
-use native.Mathlib.Decide.{ℕ-discrete, decLt}
-use lib.ListN.{length}
+use Rattle.laws.proofs.Prelude.{ℕ, zero, suc, _+_, _*_, _≤_, _<_, _≡_, refl, sym, ap, _∙_, _≢_, _⊎_, inl, inr, List}
+use Rattle.laws.proofs.Prelude.{Bool, true, false, cond, true≢false, arith, ℕ-discrete, decLt, length}
 use Rattle.laws.specs.Search.{inTurn}
 use Rattle.memory.specs.Area.{AreaIn, load}
 use Rattle.protocol.specs.Release.{ownRelease}

@@ -1,9 +1,6 @@
 -- The proof that nothing past a directory's cards and pages is read, and that calls keep it: it rests on each call by a
 -- directory and by the same one cut off there, and on demand 1 for refused calls.
-use Prim.Native.Nat.{ℕ}
-use mathlib.Core.Path.{_≡_, refl, sym, ap, _∙_}
-use mathlib.Core.List.{List}
-use mathlib.Core.Bool.{Bool, true, false}
+use Rattle.laws.proofs.Prelude.{ℕ, _≡_, refl, sym, ap, _∙_, List, Bool, true, false}
 use Rattle.directory.specs.declared.Directory.{Directory}
 use Rattle.protocol.specs.Result.{Result, accepted}
 use Rattle.protocol.specs.Book.{Call, open-release, make-step, fetch-page, fail-card, recover, join-card}

@@ -1,9 +1,5 @@
 -- The release that a record tells of.
-use Prim.Native.Nat.{ℕ, _+_, _≤_, _<_}
-use mathlib.Core.Path.{_≡_}
-use mathlib.Core.List.{List}
-use native.Mathlib.Omega.{arith}
-use lib.ListN.{length, getD}
+use Rattle.laws.proofs.Prelude.{ℕ, _+_, _≤_, _<_, _≡_, List, arith, length, getD}
 use Rattle.memory.specs.Layout.{deskSize, recordStamp, recordDesk}
 use Rattle.memory.specs.Area.{AreaIn, load}
 use Rattle.memory.proofs.Runs.{load-run-is}

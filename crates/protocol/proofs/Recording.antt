@@ -1,14 +1,8 @@
 -- Settled records written: what such a record says, and that nothing else changes.
-use Prim.Native.Nat.{ℕ, suc, _+_, _*_, _%_, _≤_, _<_}
-use mathlib.Core.Path.{_≡_, refl, _∙_}
-use mathlib.Core.Logic.{_≢_, _⊎_, inl, inr}
-use mathlib.Core.List.{List, _∷_, _++_}
-use mathlib.Core.Bool.{Bool, true, false, cond}
-use native.Mathlib.Omega.{arith}
-use borrow.Author.Tests.{eqb-true, eqb-false}
-use lib.ListN.{length, getD, length-append, List·getD-append}
+use Rattle.laws.proofs.Prelude.{ℕ, suc, _+_, _*_, _%_, _≤_, _<_, _≡_, refl, _∙_, _≢_, _⊎_, inl, inr, List, _∷_, _++_}
+use Rattle.laws.proofs.Prelude.{Bool, true, false, cond, arith, eqb-true, eqb-false, length, getD, eqb}
+use lib.ListN.{length-append, List·getD-append}
 use lib.Seq.{getD-append-add}
-use lib.Dec.{eqb}
 use Rattle.memory.specs.Layout.{deskSize, recordStamp, recordDone, recordDesk}
 use Rattle.memory.specs.Area.{AreaIn, load, zeros}
 use Rattle.memory.proofs.Index.{outside-other-card, outside-below, outside-above}

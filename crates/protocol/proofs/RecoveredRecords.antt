@@ -1,14 +1,7 @@
 -- The records after a recovery: the failed card's on every live card, and that of each card whose backup it was on the
 -- card's new backup. Own words, pages and the other records stay as they were.
-use Prim.Native.Nat.{ℕ, _+_, _*_, _≤_, _<_}
-use mathlib.Core.Path.{_≡_, refl, sym, _∙_}
-use mathlib.Core.Logic.{_≢_, _⊎_, inl, inr}
-use mathlib.Core.List.{List}
-use mathlib.Core.Bool.{Bool, true, false, true≢false}
-use native.Mathlib.Omega.{arith}
-use native.Mathlib.Decide.{ℕ-discrete, decLt}
-use borrow.Author.Tests.{eq-eqb, eqb-true}
-use lib.ListN.{length}
+use Rattle.laws.proofs.Prelude.{ℕ, _+_, _*_, _≤_, _<_, _≡_, refl, sym, _∙_, _≢_, _⊎_, inl, inr, List, Bool, true, false}
+use Rattle.laws.proofs.Prelude.{true≢false, arith, ℕ-discrete, decLt, eq-eqb, eqb-true, length}
 use Rattle.laws.specs.Search.{inTurn}
 use Rattle.laws.proofs.Bools.{and-first, and-second}
 use Rattle.memory.specs.Layout.{pageStart}

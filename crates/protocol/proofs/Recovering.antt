@@ -1,14 +1,7 @@
 -- Recovery takes a rack that awaits it to one that runs, and answers the failed card's last number and desk.
-use Prim.Native.Nat.{ℕ, zero, suc, _+_, _*_, _≤_, _<_}
-use mathlib.Core.Path.{_≡_, refl, sym, ap, _∙_}
-use mathlib.Core.Logic.{_≢_, _⊎_, inl, inr}
-use mathlib.Core.List.{List}
-use mathlib.Core.Bool.{Bool, true, false, cond, true≢false, false≢true}
-use native.Mathlib.Omega.{arith}
-use native.Mathlib.Decide.{ℕ-discrete}
-use borrow.Author.Tests.{eq-eqb, eqb-true}
-use lib.ListN.{length}
-use lib.Dec.{ltb, eqb}
+use Rattle.laws.proofs.Prelude.{ℕ, zero, suc, _+_, _*_, _≤_, _<_, _≡_, refl, sym, ap, _∙_, _≢_, _⊎_, inl, inr, List}
+use Rattle.laws.proofs.Prelude.{Bool, true, false, cond, true≢false, false≢true, arith, ℕ-discrete, eq-eqb, eqb-true}
+use Rattle.laws.proofs.Prelude.{length, ltb, eqb}
 use Rattle.laws.specs.Search.{inTurn}
 use Rattle.memory.specs.Layout.{recordStamp, recordDone}
 use Rattle.memory.specs.Area.{load}

@@ -1,12 +1,7 @@
 -- The proof of demand 1: a refused call leaves memory, directory and buffers as they were. It rests on the order of
 -- each call's checks, and for the list maker on its three tests.
-use Prim.Native.Nat.{ℕ}
-use mathlib.Core.Path.{_≡_, refl}
-use mathlib.Core.List.{List, [], _∷_}
-use mathlib.Core.Bool.{Bool, true, false, cond, true≢false}
-use borrow.Author.Tests.{eq-eqb}
-use lib.ListN.{length}
-use lib.Dec.{ltb, eqb}
+use Rattle.laws.proofs.Prelude.{ℕ, _≡_, refl, List, [], _∷_, Bool, true, false, cond, true≢false, eq-eqb, length, ltb}
+use Rattle.laws.proofs.Prelude.{eqb}
 use Rattle.memory.specs.Layout.{deskSize}
 use Rattle.memory.specs.Area.{zeros}
 use Rattle.answer.specs.declared.Outcome.{Outcome}

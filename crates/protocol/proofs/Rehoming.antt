@@ -1,12 +1,6 @@
 -- Pages copied to new homes: what shows the book's prices goes on showing them, and each new home shows them too.
-use Prim.Native.Nat.{ℕ, zero, suc, _+_, _*_, _≤_, _<_}
-use mathlib.Core.Path.{_≡_, refl, sym, _∙_}
-use mathlib.Core.Logic.{_≢_, _⊎_, inl, inr}
-use mathlib.Core.List.{List}
-use mathlib.Core.Bool.{Bool, true, false, true≢false}
-use native.Mathlib.Omega.{arith}
-use native.Mathlib.Decide.{ℕ-discrete}
-use lib.ListN.{length}
+use Rattle.laws.proofs.Prelude.{ℕ, zero, suc, _+_, _*_, _≤_, _<_, _≡_, refl, sym, _∙_, _≢_, _⊎_, inl, inr, List, Bool}
+use Rattle.laws.proofs.Prelude.{true, false, true≢false, arith, ℕ-discrete, length}
 use Rattle.laws.specs.Search.{inTurn}
 use Rattle.memory.specs.Layout.{pageStart, pageSize, tentative, tentativeHalf, committedHalf}
 use Rattle.memory.specs.Area.{load, copyRun}

@@ -1,14 +1,8 @@
 -- Restoring the pages: at each live home of each page the one half becomes what the other is, and
 -- nothing else changes.
-use Prim.Native.Nat.{ℕ, zero, suc, _+_, _≤_, _<_}
-use mathlib.Core.Path.{_≡_, refl, _∙_}
-use mathlib.Core.Logic.{_≢_, _⊎_, inl, inr}
-use mathlib.Core.List.{List}
-use mathlib.Core.Bool.{Bool, true, false, cond}
+use Rattle.laws.proofs.Prelude.{ℕ, zero, suc, _+_, _≤_, _<_, _≡_, refl, _∙_, _≢_, _⊎_, inl, inr, List, Bool, true}
+use Rattle.laws.proofs.Prelude.{false, cond, arith, ℕ-discrete, length}
 use native.Mathlib.Nat.{add-zero}
-use native.Mathlib.Omega.{arith}
-use native.Mathlib.Decide.{ℕ-discrete}
-use lib.ListN.{length}
 use Rattle.laws.specs.Search.{inTurn}
 use Rattle.memory.specs.Layout.{pageStart, pageSize, tentative, committed, tentativeHalf, committedHalf}
 use Rattle.memory.specs.Area.{load, copyRun}

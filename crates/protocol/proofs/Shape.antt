@@ -1,12 +1,7 @@
 -- A memory of its stated length, and what a card's own words say when they are kept.
-use Prim.Native.Nat.{ℕ, _+_, _*_, _≤_, _<_}
-use mathlib.Core.Path.{_≡_, _∙_}
-use mathlib.Core.List.{List}
-use mathlib.Core.Bool.{Bool, true}
-use native.Mathlib.Omega.{arith}
-use lib.ListN.{length}
-use Rattle.memory.specs.Layout.{deskSize, ownStamp, ownDesk, releaseOpen, stepsMade, releaseNumber}
-use Rattle.memory.specs.Layout.{releaseDesk, listStart, listSize}
+use Rattle.laws.proofs.Prelude.{ℕ, _+_, _*_, _≤_, _<_, _≡_, _∙_, List, Bool, true, arith, length}
+use Rattle.memory.specs.Layout.{deskSize, ownStamp, ownDesk, releaseOpen, stepsMade, releaseNumber, releaseDesk}
+use Rattle.memory.specs.Layout.{listStart, listSize}
 use Rattle.memory.specs.Area.{AreaIn, load, loadRun}
 use Rattle.memory.proofs.Index.{area-in}
 use Rattle.memory.proofs.Runs.{load-run-kept}

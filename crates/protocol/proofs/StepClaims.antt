@@ -1,12 +1,6 @@
 -- The claims on both halves survive a step of a release.
-use Prim.Native.Nat.{ℕ, suc, _+_, _*_, _/_, _≤_, _<_}
-use mathlib.Core.Path.{_≡_, refl, sym, ap, _∙_}
-use mathlib.Core.Logic.{_≢_}
-use mathlib.Core.List.{List}
-use mathlib.Core.Bool.{false}
-use native.Mathlib.Omega.{arith}
-use native.Mathlib.Decide.{ℕ-discrete, decLt}
-use lib.ListN.{length}
+use Rattle.laws.proofs.Prelude.{ℕ, suc, _+_, _*_, _/_, _≤_, _<_, _≡_, refl, sym, ap, _∙_, _≢_, List, false, arith}
+use Rattle.laws.proofs.Prelude.{ℕ-discrete, decLt, length}
 use Rattle.memory.specs.Layout.{pageStart, tentativeHalf, committedHalf}
 use Rattle.directory.specs.declared.Directory.{Directory}
 use Rattle.diff.specs.Prices.{names, laidAt}
@@ -15,17 +9,14 @@ use Rattle.diff.proofs.Stored.{price-on-page}
 use Rattle.protocol.specs.Release.{Release, releaseWrites, countsAt}
 use Rattle.protocol.specs.Book.{Opened, none, opened, listPrices, update}
 use Rattle.protocol.proofs.Writes.{noPrice, length-writes, Phase, phase, to-tentative, to-desk, to-stamp}
-use Rattle.protocol.proofs.Writes.{to-committed}
-use Rattle.protocol.proofs.Writes.{to-done, to-close, write-tentative, write-desk, write-stamp}
+use Rattle.protocol.proofs.Writes.{to-committed, to-done, to-close, write-tentative, write-desk, write-stamp}
 use Rattle.protocol.proofs.Over.{over-none, written, written-miss, written-other-offset, misses-at}
 use Rattle.protocol.proofs.Stepped.{stepWrite}
 use Rattle.protocol.proofs.BookLaws.{EightWords, uncounted, uncounted-early, uncounted-late}
 use Rattle.protocol.proofs.Claims.{Apart, HomeWord, Half, wordIn, Agrees, Claim, Moves, claim-moves}
 use Rattle.protocol.proofs.Claims.{claim-struck, claim-kept}
-use Rattle.protocol.proofs.Halves.{on-pages, tentative-misses, committed-misses}
-use Rattle.protocol.proofs.Halves.{pending-first, pending-over, committed-early}
-use Rattle.protocol.proofs.Halves.{committed-late, committed-first}
-use Rattle.protocol.proofs.Halves.{tentatives, committeds}
+use Rattle.protocol.proofs.Halves.{on-pages, tentative-misses, committed-misses, pending-first, pending-over}
+use Rattle.protocol.proofs.Halves.{committed-early, committed-late, committed-first, tentatives, committeds}
 
 -- the book's prices after a step: counted with the release's own if the step counts it
 pub record PricesAfter (k s : ℕ) (price price′ : ℕ → ℕ) (laid : ℕ → ℕ) : Type 0 where

@@ -1,12 +1,6 @@
 -- The invariant survives a step of any open release: its writes, and its close.
-use Prim.Native.Nat.{ℕ, suc, _+_, _*_, _≤_, _<_}
-use mathlib.Core.Path.{_≡_, refl, sym, _∙_, subst}
-use mathlib.Core.Logic.{_≢_, _⊎_, inl, inr}
-use mathlib.Core.List.{List}
-use mathlib.Core.Bool.{true, false, false≢true}
-use native.Mathlib.Omega.{arith}
-use native.Mathlib.Decide.{ℕ-discrete, decLt}
-use lib.ListN.{length}
+use Rattle.laws.proofs.Prelude.{ℕ, suc, _+_, _*_, _≤_, _<_, _≡_, refl, sym, _∙_, subst, _≢_, _⊎_, inl, inr, List, true}
+use Rattle.laws.proofs.Prelude.{false, false≢true, arith, ℕ-discrete, decLt, length}
 use Rattle.memory.specs.Area.{load}
 use Rattle.directory.specs.declared.Directory.{Directory}
 use Rattle.directory.specs.Directory.{isLive}
@@ -15,8 +9,8 @@ use Rattle.protocol.specs.Release.{Release, sizeOf, ownRelease, stepMemo
 use Rattle.protocol.specs.Book.{Opened, none, opened, listPrices, Book, update, setOpen, stepBook}
 use Rattle.protocol.proofs.Shape.{SameOwn, shape-kept, area-of-live, own-kept, same-own-release}
 use Rattle.protocol.proofs.Stepped.{step-closes, length-close, load-close, close-own, close-word-9}
-use Rattle.protocol.proofs.BookLaws.{EightWords, update-same, update-other, update-each}
-use Rattle.protocol.proofs.BookLaws.{step-book-plain, step-book-counts, step-book-closes}
+use Rattle.protocol.proofs.BookLaws.{EightWords, update-same, update-other, update-each, step-book-plain}
+use Rattle.protocol.proofs.BookLaws.{step-book-counts, step-book-closes}
 use Rattle.protocol.proofs.Claims.{Apart}
 use Rattle.protocol.proofs.StepClaims.{close-tentatives, close-committeds}
 use Rattle.protocol.proofs.Held.{Numbers, Own, Held, held-kept, close-held}

@@ -1,36 +1,26 @@
 -- What a step makes of the words of live cards: the one word that it writes, and the card's own words at the close.
-use Prim.Native.Nat.{ℕ, suc, _+_, _*_, _/_, _≤_, _<_}
-use mathlib.Core.Path.{_≡_, refl, sym, ap, _∙_}
-use mathlib.Core.Logic.{_≢_, _⊎_, inl, inr}
-use mathlib.Core.List.{List, _∷_}
-use mathlib.Core.Bool.{Bool, true, false, cond, _&&_, true≢false}
+use Rattle.laws.proofs.Prelude.{ℕ, suc, _+_, _*_, _/_, _≤_, _<_, _≡_, refl, sym, ap, _∙_, _≢_, _⊎_, inl, inr, List, _∷_}
+use Rattle.laws.proofs.Prelude.{Bool, true, false, cond, _&&_, true≢false, arith, ℕ-discrete, lt-ltb, le-ltb, length}
+use Rattle.laws.proofs.Prelude.{getD}
 use native.Mathlib.Nat.{zero-add}
 use native.Mathlib.Numerals.{add-one}
-use native.Mathlib.Omega.{arith}
-use native.Mathlib.Decide.{ℕ-discrete}
-use borrow.Author.Tests.{lt-ltb, le-ltb}
-use lib.ListN.{length, getD}
-use Rattle.memory.specs.Layout.{areaSize, deskSize, ownStamp, ownDesk, releaseOpen, releaseSize, stepsMade}
-use Rattle.memory.specs.Layout.{releaseDesk}
+use Rattle.memory.specs.Layout.{areaSize, deskSize, ownStamp, ownDesk, releaseOpen, releaseSize, stepsMade, releaseDesk}
 use Rattle.memory.specs.Layout.{listStart, listSize, pageStart}
 use Rattle.memory.specs.Area.{indexOf, AreaIn, load, store, storeRun}
 use Rattle.memory.proofs.Index.{index-same-card, index-same-offset, outside-other-card, outside-below, outside-above}
 use Rattle.memory.proofs.Words.{length-store, load-store-same, load-store-elsewhere, load-store-other-card}
 use Rattle.memory.proofs.Words.{load-store-other-offset}
-use Rattle.memory.proofs.Runs.{length-load-run, load-run-is, length-store-run, length-clear-run}
-use Rattle.memory.proofs.Runs.{load-store-run-outside, load-store-run-inside, load-clear-run-outside}
-use Rattle.memory.proofs.Runs.{load-clear-run-inside}
+use Rattle.memory.proofs.Runs.{length-load-run, load-run-is, length-store-run, length-clear-run, load-store-run-outside}
+use Rattle.memory.proofs.Runs.{load-store-run-inside, load-clear-run-outside, load-clear-run-inside}
 use Rattle.directory.specs.declared.Directory.{Directory}
-use Rattle.directory.specs.Live.{liveAt}
-use Rattle.directory.specs.Directory.{isLive}
+use Rattle.directory.specs.Directory.{liveAt, isLive}
 use Rattle.diff.specs.declared.Price.{Price}
 use Rattle.diff.proofs.Stored.{OnPages, prices-on-pages, price-on-page}
 use Rattle.protocol.specs.Release.{Release, Write, noWrite, sizeOf, ownRelease, openRelease, openPrices, stepsOf}
-use Rattle.protocol.specs.Release.{isOpen}
-use Rattle.protocol.specs.Release.{releaseWrites, makeWrite, close, stepMemory}
+use Rattle.protocol.specs.Release.{isOpen, releaseWrites, makeWrite, close, stepMemory}
 use Rattle.protocol.proofs.Writes.{noPrice, length-writes, Phase, phase, to-tentative, to-desk, to-stamp}
-use Rattle.protocol.proofs.Writes.{to-committed, to-done, to-close}
-use Rattle.protocol.proofs.Writes.{write-tentative, write-desk, write-stamp, write-committed, write-done}
+use Rattle.protocol.proofs.Writes.{to-committed, to-done, to-close, write-tentative, write-desk, write-stamp}
+use Rattle.protocol.proofs.Writes.{write-committed, write-done}
 use Rattle.protocol.proofs.Over.{written, written-here, written-other-card, written-other-offset}
 use Rattle.protocol.proofs.Shape.{SameOwn, SameRelease}
 

@@ -1,11 +1,7 @@
 -- The book (document 01, "The book of demand 3"): the reference model of the rack. It is fed each call and whether it
 -- was accepted; it sees neither memory nor directory nor an answer.
 -- Assumes nothing: these are definitions.
-use Prim.Native.Nat.{ℕ, suc}
-use mathlib.Core.List.{List}
-use mathlib.Core.Bool.{Bool, cond}
-use lib.ListN.{length}
-use lib.Dec.{ltb, eqb}
+use Rattle.laws.specs.Prelude.{ℕ, suc, List, Bool, cond, length, ltb, eqb}
 use Rattle.laws.specs.Search.{inTurn}
 use Rattle.memory.specs.Layout.{deskSize}
 use Rattle.memory.specs.Area.{zeros}

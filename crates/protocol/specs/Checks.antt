@@ -1,10 +1,7 @@
 -- What a call refuses, in order (document 01, "What the rack refuses, by who caused it"), and refusals 1, 2 and 11.
 -- Assumes nothing: these are definitions.
-use Prim.Native.Nat.{ℕ, _+_, _*_}
-use mathlib.Core.List.{List, [], _∷_, _++_}
-use mathlib.Core.Bool.{Bool, true, false, cond, not, _&&_, _||_}
-use lib.ListN.{length}
-use lib.Dec.{ltb, leb, eqb}
+use Rattle.laws.specs.Prelude.{ℕ, _+_, _*_, List, [], _∷_, _++_, Bool, true, false, cond, not, _&&_, _||_, length, ltb}
+use Rattle.laws.specs.Prelude.{leb, eqb}
 use Rattle.laws.specs.Search.{someBelow, countBelow}
 use Rattle.answer.specs.declared.Outcome.{Outcome}
 use Rattle.answer.specs.Outcome.{given, refusedAt, limits, unfit, noCard, recoveryAwaited}
@@ -13,8 +10,7 @@ use Rattle.memory.specs.Area.{load}
 use Rattle.directory.specs.declared.Directory.{Directory}
 use Rattle.directory.specs.declared.Status.{Status}
 use Rattle.directory.specs.declared.Status.the-variants.{Running, Awaiting}
-use Rattle.directory.specs.Live.{liveAt}
-use Rattle.directory.specs.Directory.{isLive, primaryOf, secondaryOf, awaitsCard}
+use Rattle.directory.specs.Directory.{liveAt, isLive, primaryOf, secondaryOf, awaitsCard}
 use Rattle.diff.specs.declared.Verdict.{Verdict}
 use Rattle.diff.specs.declared.Verdict.the-variants.{Good, Faulty}
 use Rattle.diff.specs.Reading.{readDiff}

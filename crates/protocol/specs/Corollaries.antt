@@ -1,18 +1,13 @@
 -- What follows from demand 3's invariant beside demand 3: a rack so reached always fits, and a release counts once.
 -- Assumes nothing: these are definitions.
-use Prim.Native.Nat.{ℕ, suc, _≤_}
-use mathlib.Core.Path.{_≡_}
-use mathlib.Core.Logic.{_≢_, _⊎_}
-use mathlib.Core.List.{[], _∷_}
-use mathlib.Core.Bool.{true}
+use Rattle.laws.specs.Prelude.{ℕ, suc, _≤_, _≡_, _≢_, _⊎_, [], _∷_, true}
 use Rattle.answer.specs.Outcome.{unfit, releaseOpen, numberUsed}
 use Rattle.directory.specs.declared.Directory.{Directory}
 use Rattle.directory.specs.declared.Status.the-variants.{Running}
 use Rattle.directory.specs.Directory.{isLive}
 use Rattle.protocol.specs.Result.{accepted}
 use Rattle.protocol.specs.Book.{Call, open-release, make-step, fetch-page, fail-card, recover, join-card}
-use Rattle.protocol.specs.Book.{ask-desk}
-use Rattle.protocol.specs.Book.{Opened, none, opened, Book, feedIf}
+use Rattle.protocol.specs.Book.{ask-desk, Opened, none, opened, Book, feedIf}
 use Rattle.protocol.specs.Demand1.{isAmong}
 use Rattle.protocol.specs.Demand3.{Visit, answerTo, Everywhere}
 

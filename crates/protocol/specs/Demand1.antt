@@ -1,12 +1,7 @@
 -- Demand 1 over the definitions: "a refusal changes no word of what was lent", and has a number of
 -- document 01's table.
 -- Assumes nothing: these are definitions.
-use Prim.Native.Nat.{ℕ}
-use mathlib.Core.Path.{_≡_}
-use mathlib.Core.List.{List, [], _∷_}
-use mathlib.Core.Bool.{Bool, true, false, cond}
-use lib.ListN.{length}
-use lib.Dec.{eqb}
+use Rattle.laws.specs.Prelude.{ℕ, _≡_, List, [], _∷_, Bool, true, false, cond, length, eqb}
 use Rattle.answer.specs.declared.Outcome.{Outcome}
 use Rattle.memory.specs.Layout.{deskSize}
 use Rattle.memory.specs.Area.{zeros}

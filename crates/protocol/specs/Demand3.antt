@@ -1,9 +1,5 @@
 -- Demand 3 (document 01, "The book of demand 3"): one claim about every list of calls on a newly formatted rack.
-use Prim.Native.Nat.{ℕ, _+_, _*_, _<_}
-use mathlib.Core.Path.{_≡_}
-use mathlib.Core.List.{List, [], _∷_}
-use mathlib.Core.Bool.{Bool, true, false, cond}
-use lib.ListN.{length}
+use Rattle.laws.specs.Prelude.{ℕ, _+_, _*_, _<_, _≡_, List, [], _∷_, Bool, true, false, cond, length}
 use Rattle.memory.specs.Layout.{deskSize, pageSize}
 use Rattle.memory.specs.Area.{load}
 use Rattle.directory.specs.declared.Directory.{Directory}
@@ -19,9 +15,7 @@ use Rattle.protocol.specs.Recovery.{recovery}
 use Rattle.protocol.specs.Join.{join}
 use Rattle.protocol.specs.DeskQuestion.{deskQuestion}
 use Rattle.protocol.specs.Book.{Call, open-release, make-step, fetch-page, fail-card, recover, join-card}
-use Rattle.protocol.specs.Book.{ask-desk}
-use Rattle.protocol.specs.Book.{none}
-use Rattle.protocol.specs.Book.{Book, newBook, update, feedIf}
+use Rattle.protocol.specs.Book.{ask-desk, none, Book, newBook, update, feedIf}
 
 -- each call by the definition that its contract cites
 unfoldable pub perform : Call → Directory → List ℕ → Result

@@ -1,9 +1,7 @@
 -- A desk question (document 01, "Failure, recovery, join": "A desk question reads the own desk of a live card, or a
 -- dead card's record"; refusals 1, 2, 11, 3).
 -- Assumes nothing: these are definitions.
-use Prim.Native.Nat.{ℕ}
-use mathlib.Core.List.{List}
-use mathlib.Core.Bool.{cond}
+use Rattle.laws.specs.Prelude.{ℕ, List, cond}
 use Rattle.answer.specs.declared.Outcome.{Outcome}
 use Rattle.memory.specs.Layout.{deskSize}
 use Rattle.memory.specs.Area.{zeros}

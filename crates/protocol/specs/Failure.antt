@@ -1,9 +1,7 @@
 -- The failure of a card (document 01, "Failure, recovery, join": "A failure marks the card dead"; refusals 1, 2,
 -- 11, 3, 13).
 -- Assumes nothing: these are definitions.
-use Prim.Native.Nat.{ℕ}
-use mathlib.Core.List.{List, [], _∷_, _++_}
-use lib.Dec.{leb}
+use Rattle.laws.specs.Prelude.{ℕ, List, [], _∷_, _++_, leb}
 use Rattle.laws.specs.Search.{countBelow}
 use Rattle.answer.specs.declared.Outcome.{Outcome}
 use Rattle.answer.specs.Outcome.{twoLive}

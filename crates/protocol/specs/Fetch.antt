@@ -1,10 +1,6 @@
 -- Fetching a page (document 01: "A fetch copies the committed page at its primary"; refusals 1, 2, 11, 9, 10, 17).
 -- Assumes nothing: these are definitions.
-use Prim.Native.Nat.{ℕ}
-use mathlib.Core.List.{List, [], _∷_, _++_}
-use mathlib.Core.Bool.{Bool, true, false, cond, not, _&&_}
-use lib.ListN.{length}
-use lib.Dec.{leb, eqb}
+use Rattle.laws.specs.Prelude.{ℕ, List, [], _∷_, _++_, Bool, true, false, cond, not, _&&_, length, leb, eqb}
 use Rattle.laws.specs.Search.{lowest, someBelow}
 use Rattle.answer.specs.declared.Outcome.{Outcome}
 use Rattle.answer.specs.Outcome.{noPage, pageInMotion, wrongBuffer}

@@ -1,8 +1,6 @@
 -- Formatting (document 01, "Cards, pages, memory": "Formatting zeroes the memory"; refusal 1).
 -- Assumes nothing: these are definitions.
-use Prim.Native.Nat.{ℕ}
-use mathlib.Core.List.{List, [], _∷_}
-use lib.ListN.{length}
+use Rattle.laws.specs.Prelude.{ℕ, List, [], _∷_, length}
 use Rattle.answer.specs.declared.Outcome.{Outcome}
 use Rattle.answer.specs.Outcome.{limits}
 use Rattle.memory.specs.Area.{zeros}

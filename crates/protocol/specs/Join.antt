@@ -1,9 +1,6 @@
 -- A dead card joins again (document 01, "Failure, recovery, join"; refusals 1, 2, 11, 3, 14, 15).
 -- Assumes nothing: these are definitions.
-use Prim.Native.Nat.{ℕ}
-use mathlib.Core.List.{List, [], _∷_, _++_}
-use mathlib.Core.Bool.{Bool, cond, not, _&&_}
-use lib.Dec.{eqb}
+use Rattle.laws.specs.Prelude.{ℕ, List, [], _∷_, _++_, Bool, cond, not, _&&_, eqb}
 use Rattle.laws.specs.Search.{someBelow, inTurn}
 use Rattle.answer.specs.declared.Outcome.{Outcome}
 use Rattle.answer.specs.Outcome.{cardLive, joinWhileOpen}

@@ -1,9 +1,6 @@
 -- Opening a release (document 01, "A release and its 4k + 11 steps"; refusals 1, 2, 11, 3 to 8).
 -- Assumes nothing: these are definitions.
-use Prim.Native.Nat.{ℕ, _+_}
-use mathlib.Core.List.{List, [], _∷_, _++_}
-use mathlib.Core.Bool.{Bool, true, false, cond, not, _&&_}
-use lib.Dec.{ltb, leb, eqb}
+use Rattle.laws.specs.Prelude.{ℕ, _+_, List, [], _∷_, _++_, Bool, true, false, cond, not, _&&_, ltb, leb, eqb}
 use Rattle.laws.specs.Search.{lowest, someBelow}
 use Rattle.answer.specs.declared.Outcome.{Outcome}
 use Rattle.answer.specs.Outcome.{releaseOpen, numberUsed, numberAhead, faultyList, wordInUse}

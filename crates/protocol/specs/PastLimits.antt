@@ -2,11 +2,7 @@
 -- and pages are never read; formatting makes them dead and 0, all other calls keep them"), for every call on any memory
 -- and any directory, accepted or refused.
 -- Assumes nothing: these are definitions.
-use Prim.Native.Nat.{ℕ, _≤_}
-use mathlib.Core.Path.{_≡_}
-use mathlib.Core.List.{List}
-use mathlib.Core.Bool.{false}
-use lib.ListN.{take, drop}
+use Rattle.laws.specs.Prelude.{ℕ, _≤_, _≡_, List, false, take, drop}
 use Rattle.directory.specs.declared.Directory.{Directory}
 use Rattle.directory.specs.Directory.{directoryOf, isLive, primaryOf, secondaryOf}
 use Rattle.protocol.specs.Result.{Result}

@@ -1,9 +1,6 @@
 -- A card's record on another card: stamp, done mark, even desk, odd desk (document 01, "Cards, pages, memory").
 -- Assumes nothing: these are definitions.
-use Prim.Native.Nat.{ℕ, _%_}
-use mathlib.Core.List.{List, _∷_, _++_}
-use mathlib.Core.Bool.{Bool, true, false, cond}
-use lib.Dec.{eqb}
+use Rattle.laws.specs.Prelude.{ℕ, _%_, List, _∷_, _++_, Bool, true, false, cond, eqb}
 use Rattle.memory.specs.Layout.{deskSize, recordStamp, recordDone, recordDesk}
 use Rattle.memory.specs.Area.{load, loadRun, storeRun, zeros}
 use Rattle.protocol.specs.Release.{Release, ownRelease}

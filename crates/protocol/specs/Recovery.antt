@@ -1,10 +1,6 @@
 -- Recovery of a failed card (document 01, "Failure, recovery, join"; refusals 1, 2, 12).
 -- Assumes nothing: these are definitions.
-use Prim.Native.Nat.{ℕ, zero, suc, _+_, _-_}
-use mathlib.Core.List.{List, [], _∷_, _++_}
-use mathlib.Core.Bool.{Bool, cond, not, _&&_, _||_}
-use lib.ListN.{length}
-use lib.Dec.{eqb}
+use Rattle.laws.specs.Prelude.{ℕ, zero, suc, _+_, _-_, List, [], _∷_, _++_, Bool, cond, not, _&&_, _||_, length, eqb}
 use Rattle.laws.specs.Search.{inTurn}
 use Rattle.answer.specs.declared.Outcome.{Outcome}
 use Rattle.answer.specs.Outcome.{noneAwaited}

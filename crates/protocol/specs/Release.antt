@@ -1,17 +1,12 @@
 -- A release and its 4k + 11 steps (document 01, "A release and its 4k + 11 steps").
 -- Assumes nothing: these are definitions.
-use Prim.Native.Nat.{ℕ, suc, _+_, _*_}
-use mathlib.Core.List.{List, [], _∷_, _++_}
-use mathlib.Core.Bool.{Bool, cond, _&&_}
-use lib.ListN.{length, getD}
-use lib.Dec.{ltb, eqb}
+use Rattle.laws.specs.Prelude.{ℕ, suc, _+_, _*_, List, [], _∷_, _++_, Bool, cond, _&&_, length, getD, ltb, eqb}
 use Rattle.memory.specs.Layout.{areaSize, deskSize, ownStamp, ownDesk, releaseOpen, stepsMade, releaseNumber}
-use Rattle.memory.specs.Layout.{releaseDesk, releaseSize, recordStamp, recordDone, recordDesk}
-use Rattle.memory.specs.Layout.{listStart, listSize, pageStart, tentativeHalf, committedHalf}
+use Rattle.memory.specs.Layout.{releaseDesk, releaseSize, recordStamp, recordDone, recordDesk, listStart, listSize}
+use Rattle.memory.specs.Layout.{pageStart, tentativeHalf, committedHalf}
 use Rattle.memory.specs.Area.{load, store, loadRun, storeRun, clearRun}
 use Rattle.directory.specs.declared.Directory.{Directory}
-use Rattle.directory.specs.Live.{liveAt}
-use Rattle.directory.specs.Directory.{primaryOf, secondaryOf}
+use Rattle.directory.specs.Directory.{liveAt, primaryOf, secondaryOf}
 use Rattle.diff.specs.declared.Price.{Price}
 use Rattle.diff.specs.Prices.{pricesOf}
 

@@ -1,9 +1,6 @@
 -- What a call comes to and leaves.
 -- Assumes nothing: these are definitions.
-use Prim.Native.Nat.{ℕ}
-use mathlib.Core.List.{List}
-use mathlib.Core.Bool.{Bool, cond}
-use lib.Dec.{eqb}
+use Rattle.laws.specs.Prelude.{ℕ, List, Bool, cond, eqb}
 use Rattle.answer.specs.declared.Outcome.{Outcome}
 use Rattle.directory.specs.declared.Directory.{Directory}
 

@@ -1,8 +1,6 @@
 -- One step of a release (document 01, "A release and its 4k + 11 steps"; refusals 1, 2, 11, 3, 16).
 -- Assumes nothing: these are definitions.
-use Prim.Native.Nat.{ℕ}
-use mathlib.Core.List.{List, [], _∷_, _++_}
-use mathlib.Core.Bool.{not}
+use Rattle.laws.specs.Prelude.{ℕ, List, [], _∷_, _++_, not}
 use Rattle.answer.specs.declared.Outcome.{Outcome}
 use Rattle.answer.specs.Outcome.{noneOpen}
 use Rattle.directory.specs.declared.Directory.{Directory}

@@ -1,19 +1,12 @@
 -- A rack that passed checks 1 and 2: within its limits, with homes that are cards and open releases that read well.
-use Prim.Native.Nat.{ℕ, _<_}
-use mathlib.Core.Path.{_≡_}
-use mathlib.Core.List.{List}
-use mathlib.Core.Bool.{Bool, true, false}
-use native.Mathlib.Omega.{arith}
-use lib.ListN.{length}
-use lib.Dec.{ltb}
+use Rattle.laws.proofs.Prelude.{ℕ, _<_, _≡_, List, Bool, true, false, arith, length, ltb}
 use Rattle.laws.specs.Search.{someBelow}
 use Rattle.laws.proofs.Bools.{neither, and-first, and-second}
 use Rattle.laws.proofs.Search.{none-below}
 use Rattle.memory.specs.Layout.{areaSize, releaseOpen}
 use Rattle.memory.specs.Area.{load}
 use Rattle.directory.specs.declared.Directory.{Directory}
-use Rattle.directory.specs.Live.{liveAt}
-use Rattle.directory.specs.Directory.{primaryOf, secondaryOf, nextLiveOf}
+use Rattle.directory.specs.Directory.{liveAt, primaryOf, secondaryOf, nextLiveOf}
 use Rattle.directory.proofs.Live.{next-live-below}
 use Rattle.protocol.specs.Release.{sizeOf, isOpen}
 use Rattle.protocol.specs.Checks.{fewLive, badPage, badStatus, badCard, unfitRack, awaitsRecovery}

@@ -1,11 +1,5 @@
 -- What a call leaves, by the outcome that its checks reach: a refusal leaves all as it was.
-use Prim.Native.Nat.{ℕ, _<_}
-use mathlib.Core.Path.{_≡_, refl, sym, _∙_}
-use mathlib.Core.Logic.{_≢_}
-use mathlib.Core.List.{List, []}
-use mathlib.Core.Bool.{true}
-use borrow.Author.Tests.{eq-eqb, ne-eqb, not-false}
-use lib.ListN.{length}
+use Rattle.laws.proofs.Prelude.{ℕ, _<_, _≡_, refl, sym, _∙_, _≢_, List, [], true, eq-eqb, ne-eqb, not-false, length}
 use Rattle.answer.specs.declared.Outcome.{Outcome}
 use Rattle.answer.specs.Outcome.{given, refused}
 use Rattle.memory.specs.Layout.{deskSize}
@@ -23,9 +17,8 @@ use Rattle.protocol.specs.Recovery.{recovery, recoveryChecks, recoveredDirector
 use Rattle.protocol.specs.Recovery.{awaitedCard}
 use Rattle.protocol.specs.Join.{join, joinChecks, joinedMemory}
 use Rattle.protocol.specs.DeskQuestion.{deskQuestion, deskChecks, deskOf}
-use Rattle.protocol.proofs.Accepting.{Passed, numbered, all-passed, Runs, OpeningPassed, StepPassed, FetchPassed}
-use Rattle.protocol.proofs.Accepting.{Fits, JoinPassed, join-passed}
-use Rattle.protocol.proofs.Accepting.{opening-passed, step-passed, fetch-passed, desk-passed}
+use Rattle.protocol.proofs.Accepting.{Passed, numbered, all-passed, Runs, OpeningPassed, StepPassed, FetchPassed, Fits}
+use Rattle.protocol.proofs.Accepting.{JoinPassed, join-passed, opening-passed, step-passed, fetch-passed, desk-passed}
 use Rattle.checks.proofs.Order.{refused-before, passed-before, no-check}
 
 -- ---- any call

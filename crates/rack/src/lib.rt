@@ -1,16 +1,12 @@
 // The calls of the rack (document 01). Each takes the lent memory and the directory, and answers
 // on any of them: it refuses by number and place, and a refusal changes no word of what was lent.
-ghost use mathlib.Core.Path.{_≡_};
-ghost use mathlib.Core.List.{[]};
-ghost use Prim.Native.Nat.{_*_, _<_, _≤_};
-ghost use lib.ListN.{length};
+ghost use Rattle.laws.specs.Prelude.{_≡_, [], _*_, _<_, _≤_, length};
 ghost use Rattle.answer.specs.Outcome.{answerOf};
 ghost use Rattle.answer.specs.declared.Answer.the-variants.{Refused};
 ghost use Rattle.memory.specs.Layout.{areaSize, deskSize};
 ghost use Rattle.memory.specs.Area.{zeros};
 ghost use Rattle.directory.specs.declared.Status.the-variants.{Running};
-ghost use Rattle.directory.specs.Live.{nextLive};
-ghost use Rattle.directory.specs.Directory.{directoryOf};
+ghost use Rattle.directory.specs.Directory.{nextLive, directoryOf};
 ghost use Rattle.protocol.specs.Release.{releaseOf};
 ghost use Rattle.protocol.specs.Formatting.{formatting};
 ghost use Rattle.protocol.specs.Checks.{firstRefusal};

@@ -1,9 +1,5 @@
 -- The part of the memory that is lent as a card's list: its 512 words.
-use Prim.Native.Nat.{ℕ, _+_, _-_}
-use mathlib.Core.Path.{_≡_}
-use mathlib.Core.List.{List}
-use native.Mathlib.Omega.{arith}
-use lib.ListN.{take, drop}
+use Rattle.laws.proofs.Prelude.{ℕ, _+_, _-_, _≡_, List, arith, take, drop}
 use Rattle.memory.specs.Layout.{listStart, listSize}
 use Rattle.memory.specs.Area.{indexOf, loadRun}
 

@@ -1,14 +1,11 @@
 -- The prices of a list written out, one number for each: what is left to write, written from here on, gives the whole.
-use Prim.Native.Nat.{ℕ, zero, suc, _+_, _≤_, _<_}
-use mathlib.Core.Path.{_≡_, refl, ap, _∙_}
-use mathlib.Core.List.{List, [], _∷_, map}
-use mathlib.Core.Bool.{Bool, true, false, cond}
+use Rattle.laws.proofs.Prelude.{ℕ, zero, suc, _+_, _≤_, _<_, _≡_, refl, ap, _∙_, List, [], _∷_, Bool, true, false, cond}
+use Rattle.laws.proofs.Prelude.{arith, length, drop, getD, set, ltb}
+use mathlib.Core.List.{map}
 use native.Mathlib.Nat.{zero-add}
 use native.Mathlib.Numerals.{add-one}
-use native.Mathlib.Omega.{arith}
-use lib.ListN.{length, drop, getD, set, length-map, length-append}
+use lib.ListN.{length-map, length-append}
 use lib.Seq.{sets}
-use lib.Dec.{ltb}
 use Rattle.laws.proofs.Lists.{getD-sets-inside}
 use Rattle.diff.specs.declared.Cursor.{Cursor}
 use Rattle.diff.specs.declared.Price.{Price}

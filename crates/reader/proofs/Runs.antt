@@ -1,12 +1,8 @@
 -- Several prices of a run read at once: the cursor moved past them. A run that is cut short ends the reading.
-use Prim.Native.Nat.{ℕ, zero, suc, _+_, _-_, _*_, _≤_, _<_, min}
-use mathlib.Core.Path.{_≡_, refl, sym, ap, _∙_}
-use mathlib.Core.List.{List, []}
+use Rattle.laws.proofs.Prelude.{ℕ, zero, suc, _+_, _-_, _*_, _≤_, _<_, _≡_, refl, sym, ap, _∙_, List, [], decLt, arith}
+use Rattle.laws.proofs.Prelude.{lt-ltb, le-ltb, length, drop, getD}
+use Prim.Native.Nat.{min}
 use native.Mathlib.Nat.{add-zero, sub-zero}
-use native.Mathlib.Decide.{decLt}
-use native.Mathlib.Omega.{arith}
-use borrow.Author.Tests.{lt-ltb, le-ltb}
-use lib.ListN.{length, drop, getD}
 use Rattle.diff.specs.declared.Cursor.{Cursor}
 use Rattle.diff.specs.declared.Step.{Step}
 use Rattle.diff.specs.declared.Step.the-variants.{Next}
@@ -18,8 +14,8 @@ use Rattle.reader.specs.declared.Found.the-variants.{Nothing}
 use Rattle.reader.specs.Found.{nthPrice}
 use Rattle.reader.specs.Runs.{pastPrices, nthDue}
 use Rattle.reader.proofs.Keeping.{Idle, Passed, word-passed}
-use Rattle.reader.proofs.Turns.{read-end, read-long, read-turn, prices-end, prices-due, prices-turn}
-use Rattle.reader.proofs.Turns.{nth-first, nth-later, nth-none}
+use Rattle.reader.proofs.Turns.{read-end, read-long, read-turn, prices-end, prices-due, prices-turn, nth-first}
+use Rattle.reader.proofs.Turns.{nth-later, nth-none}
 
 -- ---- the cursor
 

@@ -1,7 +1,6 @@
 -- One price of a diff, by its number.
 -- Assumes nothing: these are definitions.
-use Prim.Native.Nat.{ℕ, zero, suc}
-use mathlib.Core.List.{List, [], _∷_}
+use Rattle.laws.specs.Prelude.{ℕ, zero, suc, List, [], _∷_}
 use Rattle.diff.specs.declared.Price.{Price}
 use Rattle.reader.specs.declared.Found.{Found}
 use Rattle.reader.specs.declared.Found.the-variants.{Priced, Nothing}

@@ -1,6 +1,6 @@
 -- What a list of prices is written out as, beside its labels (`labelOf`).
 -- Assumes nothing: these are definitions.
-use Prim.Native.Nat.{ℕ}
+use Rattle.laws.specs.Prelude.{ℕ}
 use Rattle.diff.specs.declared.Price.{Price}
 
 -- the number that a price sets its word to

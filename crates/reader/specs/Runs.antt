@@ -1,10 +1,6 @@
 -- Several prices of a run passed at once.
 -- Assumes nothing: these are definitions.
-use Prim.Native.Nat.{ℕ, _+_, _-_}
-use mathlib.Core.List.{List}
-use mathlib.Core.Bool.{cond}
-use lib.ListN.{length, getD}
-use lib.Dec.{ltb}
+use Rattle.laws.specs.Prelude.{ℕ, _+_, _-_, List, cond, length, getD, ltb}
 use Rattle.diff.specs.declared.Cursor.{Cursor}
 use Rattle.diff.specs.Prices.{pricedWord}
 use Rattle.reader.specs.declared.Found.{Found}

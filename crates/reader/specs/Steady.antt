@@ -1,5 +1,5 @@
 -- States that reading within 512 words can reach: their sums fit. Only the reader's own functions require it.
-use Prim.Native.Nat.{_+_, _*_, _≤_}
+use Rattle.laws.specs.Prelude.{_+_, _*_, _≤_}
 use Rattle.diff.specs.declared.Cursor.{Cursor}
 
 pub record Steady (s : Cursor) : Type 0 where

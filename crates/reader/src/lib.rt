@@ -1,14 +1,14 @@
 // Reading a diff (document 01's list of changes): a list handed in, a list that stands in a card's
 // area, and one price.
-ghost use mathlib.Core.Path.{_≡_};
-ghost use Prim.Native.Nat.{_+_, _<_, _≤_, min};
+ghost use Rattle.laws.specs.Prelude.{_≡_, _+_, _<_, _≤_, length};
+ghost use Prim.Native.Nat.{min};
 ghost use mathlib.Core.List.{map};
-ghost use lib.ListN.{length};
 ghost use lib.Seq.{sets};
 ghost use Rattle.answer.specs.Outcome.{answerOf};
 ghost use Rattle.memory.specs.Layout.{listStart, listSize};
 ghost use Rattle.memory.specs.Area.{AreaIn, loadRun};
-ghost use Rattle.diff.specs.Reading.{start, pastPrice, pageStep, runStep, endStep, wordStep, readDiff, checkDiff};
+ghost use Rattle.diff.specs.Reading.{start, pastPrice, pageStep, runStep, endStep, wordStep};
+ghost use Rattle.diff.specs.Reading.{readDiff, checkDiff};
 ghost use Rattle.diff.specs.Prices.{labelOf, pricesOf};
 ghost use Rattle.reader.specs.Steady.{Steady};
 ghost use Rattle.reader.specs.Found.{nthPrice};

@@ -1,9 +1,6 @@
 -- What recovery and join rely on: each card of a rack has its mark and area, and the length of the
 -- memory alone counts.
-use Prim.Native.Nat.{ℕ, _<_}
-use mathlib.Core.Path.{_≡_}
-use mathlib.Core.List.{List}
-use mathlib.Core.Bool.{Bool}
+use Rattle.laws.proofs.Prelude.{ℕ, _<_, _≡_, List, Bool}
 use Rattle.memory.specs.Layout.{areaSize}
 use Rattle.release.specs.Stepping.{CardIn}
 use Rattle.release.proofs.Callers.{card-in}

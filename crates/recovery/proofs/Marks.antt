@@ -1,16 +1,11 @@
 -- Marks with one card more: a live card is live by them too, and a card that joins is the backup of those before it.
-use Prim.Native.Nat.{ℕ, _<_}
-use mathlib.Core.Path.{_≡_, refl, sym, ap, _∙_}
-use mathlib.Core.List.{List}
-use mathlib.Core.Bool.{Bool, true, false, cond}
-use native.Mathlib.Decide.{ℕ-discrete}
-use lib.ListN.{length, set}
+use Rattle.laws.proofs.Prelude.{ℕ, _<_, _≡_, refl, sym, ap, _∙_, List, Bool, true, false, cond, ℕ-discrete, length, set}
+use Rattle.laws.proofs.Prelude.{eqb-true}
 use lib.Seq.{getD-set-same, getD-set-other}
-use borrow.Author.Tests.{eqb-true}
 use Rattle.laws.specs.Search.{inTurn}
 use Rattle.laws.proofs.Bools.{and-second}
 use Rattle.directory.specs.declared.Directory.{Directory}
-use Rattle.directory.specs.Live.{liveAt, nextLive}
+use Rattle.directory.specs.Directory.{liveAt, nextLive}
 use Rattle.protocol.specs.Release.{sizeOf, ownRelease}
 use Rattle.protocol.specs.Record.{writeRecord, writeOwnRecord}
 use Rattle.protocol.specs.Join.{resetArea, copyDeadRecord, joinedMemory}

@@ -1,18 +1,13 @@
 -- Recovery: each part looks at that of the directory which it is lent.
-use Prim.Native.Nat.{ℕ}
-use mathlib.Core.Path.{_≡_, refl, sym, ap, _∙_}
-use mathlib.Core.List.{List}
-use mathlib.Core.Bool.{Bool, true}
-use lib.ListN.{set}
+use Rattle.laws.proofs.Prelude.{ℕ, _≡_, refl, sym, ap, _∙_, List, Bool, true, set}
 use Rattle.laws.specs.Search.{inTurn}
 use Rattle.directory.specs.declared.Directory.{Directory}
 use Rattle.directory.specs.Directory.{backupOf}
 use Rattle.protocol.specs.Release.{Release, sizeOf}
 use Rattle.protocol.specs.Record.{writeOwnRecord}
-use Rattle.protocol.specs.Recovery.{restoreHome, restorePage, restorePages, lostHome, keptHome, newHome}
-use Rattle.protocol.specs.Recovery.{copyToNewHome, copyToNewHomes, writeFailed, writeRecords}
-use Rattle.protocol.specs.Recovery.{runToClose, closeReleases, failedRelease, restoredMemory}
-use Rattle.protocol.specs.Recovery.{recoveredMemory, recoveredDirectory}
+use Rattle.protocol.specs.Recovery.{restoreHome, restorePage, restorePages, lostHome, keptHome, newHome, copyToNewHome}
+use Rattle.protocol.specs.Recovery.{copyToNewHomes, writeFailed, writeRecords, runToClose, closeReleases, failedRelease}
+use Rattle.protocol.specs.Recovery.{restoredMemory, recoveredMemory, recoveredDirectory}
 use Rattle.release.proofs.Callers.{homes, times-by-homes}
 use Rattle.recovery.specs.Rack.{marksOf, backedBy}
 use Rattle.recovery.specs.Closing.{recoveredClosed}

@@ -1,9 +1,5 @@
 -- A loop that makes a change of the memory for 0, 1, .. and n - 1 in turn: how far it is.
-use Prim.Native.Nat.{ℕ, zero, suc, _+_, _≤_, _<_}
-use mathlib.Core.Path.{_≡_, refl, sym, _∙_}
-use mathlib.Core.List.{List}
-use native.Mathlib.Omega.{arith}
-use lib.ListN.{length}
+use Rattle.laws.proofs.Prelude.{ℕ, zero, suc, _+_, _≤_, _<_, _≡_, refl, sym, _∙_, List, arith, length}
 use Rattle.laws.specs.Search.{inTurn}
 use Rattle.laws.proofs.Search.{in-turn-none, in-turn-more}
 

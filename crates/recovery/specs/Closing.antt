@@ -1,8 +1,5 @@
 -- What closing the open releases relies on, as a rack that passed its checks has it, and the memory after recovery.
-use Prim.Native.Nat.{ℕ, _<_}
-use mathlib.Core.Path.{_≡_}
-use mathlib.Core.List.{List}
-use mathlib.Core.Bool.{Bool, true}
+use Rattle.laws.specs.Prelude.{ℕ, _<_, _≡_, List, Bool, true}
 use Rattle.memory.specs.Layout.{areaSize}
 use Rattle.directory.specs.declared.Directory.{Directory}
 use Rattle.directory.specs.Directory.{nextLiveOf}

@@ -1,16 +1,10 @@
 -- What recovery and join rely on, as a rack that passed its checks has it; a directory as far as they look at it.
-use Prim.Native.Nat.{ℕ, _*_, _<_, _≤_}
-use mathlib.Core.Path.{_≡_}
-use mathlib.Core.List.{List, []}
-use mathlib.Core.Bool.{Bool, true, cond, _&&_}
-use lib.ListN.{length}
-use lib.Dec.{eqb}
+use Rattle.laws.specs.Prelude.{ℕ, _*_, _<_, _≤_, _≡_, List, [], Bool, true, cond, _&&_, length, eqb}
 use Rattle.memory.specs.Layout.{areaSize, recordStamp}
 use Rattle.memory.specs.Area.{storeRun}
 use Rattle.directory.specs.declared.Directory.{Directory}
 use Rattle.directory.specs.declared.Status.the-variants.{Running}
-use Rattle.directory.specs.Live.{liveAt, nextLive}
-use Rattle.directory.specs.Directory.{directoryOf, isLive}
+use Rattle.directory.specs.Directory.{liveAt, nextLive, directoryOf, isLive}
 use Rattle.protocol.specs.Release.{sizeOf}
 
 -- marks of at most 8 cards, and a memory of one area for each card

@@ -1,8 +1,5 @@
 // Open releases, each run to its close.
-ghost use mathlib.Core.Path.{_≡_};
-ghost use mathlib.Core.Bool.{true};
-ghost use Prim.Native.Nat.{_<_};
-ghost use lib.ListN.{length};
+ghost use Rattle.laws.specs.Prelude.{_≡_, true, _<_, length};
 ghost use Rattle.protocol.specs.Release.{isOpen};
 ghost use Rattle.memory.specs.Layout.{areaSize};
 ghost use Rattle.protocol.specs.Recovery.{backupBefore, stepTimes, runToClose, closeReleases};

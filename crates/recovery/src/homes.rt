@@ -1,7 +1,5 @@
 // Pages that lost a home: the home that each keeps, and its copies and homes from then on.
-ghost use mathlib.Core.Path.{_≡_};
-ghost use Prim.Native.Nat.{_<_};
-ghost use lib.ListN.{length};
+ghost use Rattle.laws.specs.Prelude.{_≡_, _<_, length};
 ghost use Rattle.memory.specs.Layout.{areaSize};
 ghost use Rattle.protocol.specs.Recovery.{lostHome, keptHome, copyToNewHome, copyToNewHomes};
 ghost use Rattle.protocol.specs.Recovery.{moveHome, recoveredDirectory};

@@ -1,7 +1,5 @@
 // The area of a card that joins: its own stamp and desk, and the records of the other dead cards.
-ghost use mathlib.Core.Path.{_≡_};
-ghost use Prim.Native.Nat.{_<_};
-ghost use lib.ListN.{length};
+ghost use Rattle.laws.specs.Prelude.{_≡_, _<_, length};
 ghost use Rattle.laws.specs.Search.{inTurn};
 ghost use Rattle.protocol.specs.Join.{resetArea, copyDeadRecord};
 ghost use Rattle.recovery.specs.Rack.{RackIn, SomeLive, marksOf};

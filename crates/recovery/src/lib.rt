@@ -1,8 +1,6 @@
 // Recovery of a failed card, and a dead card that joins again: what they write in the memory of a
 // rack that passed its checks; which calls are refused is decided above.
-ghost use mathlib.Core.Path.{_≡_};
-ghost use Prim.Native.Nat.{_<_};
-ghost use lib.ListN.{length};
+ghost use Rattle.laws.specs.Prelude.{_≡_, _<_, length};
 ghost use Rattle.protocol.specs.Recovery.{failedRelease, recoveredMemory, recoveredDirectory};
 ghost use Rattle.protocol.specs.Join.{joinedMemory};
 ghost use Rattle.release.specs.Stepping.{HomesIn};

@@ -1,14 +1,11 @@
 // Records on backups: read, and written from a release that a record tells, or from a card's own
 // stamp and desk.
-ghost use mathlib.Core.Path.{_≡_};
-ghost use mathlib.Core.Bool.{true};
-ghost use Prim.Native.Nat.{_<_, _≤_};
-ghost use lib.ListN.{length, set};
+ghost use Rattle.laws.specs.Prelude.{_≡_, true, _<_, _≤_, length, set};
 ghost use Rattle.memory.specs.Area.{AreaIn};
 ghost use Rattle.protocol.specs.Release.{releaseOf, ownRelease};
 ghost use Rattle.laws.specs.Search.{inTurn};
 ghost use Rattle.memory.specs.Layout.{areaSize};
-ghost use Rattle.directory.specs.Live.{nextLive};
+ghost use Rattle.directory.specs.Directory.{nextLive};
 ghost use Rattle.protocol.specs.Record.{recordedRelease, underWay, settledRecord, writeRecord};
 ghost use Rattle.protocol.specs.Record.{writeOwnRecord};
 ghost use Rattle.protocol.specs.Recovery.{writeRecords};

@@ -1,8 +1,6 @@
 // Pages rolled forward or back: at each live home tentative is copied to committed, or committed to
 // tentative.
-ghost use mathlib.Core.Path.{_≡_};
-ghost use Prim.Native.Nat.{_<_, _≤_};
-ghost use lib.ListN.{length};
+ghost use Rattle.laws.specs.Prelude.{_≡_, _<_, _≤_, length};
 ghost use Rattle.memory.specs.Layout.{areaSize};
 ghost use Rattle.protocol.specs.Recovery.{restoreHome, restorePage, restorePages};
 ghost use Rattle.release.specs.Stepping.{CardIn, HomesIn, homesOf};

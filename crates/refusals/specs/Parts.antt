@@ -1,9 +1,6 @@
 -- The last checks of an opening (document 01, refusals 4 to 8) in the two parts that the code makes of them.
 -- Assumes nothing: these are definitions.
-use Prim.Native.Nat.{ℕ, _+_}
-use mathlib.Core.List.{List, [], _∷_}
-use mathlib.Core.Bool.{Bool}
-use lib.Dec.{ltb, leb}
+use Rattle.laws.specs.Prelude.{ℕ, _+_, List, [], _∷_, Bool, ltb, leb}
 use Rattle.laws.specs.Search.{lowest, someBelow}
 use Rattle.answer.specs.Outcome.{releaseOpen, numberUsed, numberAhead, faultyList, wordInUse}
 use Rattle.memory.specs.Layout.{areaSize}

@@ -1,10 +1,7 @@
 // Which calls the rack refuses: document 01's checks, in its order, for each call. A function
 // answers the first refusal with its place, or the number 0 where the call is accepted. A directory's
 // arrays are lent one by one: a directory handed on by value would be copied at each call.
-ghost use mathlib.Core.Path.{_≡_};
-ghost use Prim.Native.Nat.{_*_, _<_, _≤_};
-ghost use mathlib.Core.List.{[], _∷_};
-ghost use lib.ListN.{length};
+ghost use Rattle.laws.specs.Prelude.{_≡_, _*_, _<_, _≤_, [], _∷_, length};
 ghost use Rattle.answer.specs.Outcome.{refusedAt};
 ghost use Rattle.memory.specs.Layout.{areaSize};
 ghost use Rattle.directory.specs.Directory.{directoryOf};

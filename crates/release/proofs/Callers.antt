@@ -1,11 +1,6 @@
 -- For those who call a step: what it relies on, from the checks of a rack; what it looks at in their directory.
-use Prim.Native.Nat.{ℕ, zero, suc, _*_, _<_, _≤_}
-use mathlib.Core.Path.{_≡_, refl, ap}
-use mathlib.Core.List.{List, [], _∷_}
-use mathlib.Core.Bool.{Bool, false, true≢false}
-use native.Mathlib.Omega.{arith}
-use borrow.Author.Tests.{ltb-false}
-use lib.ListN.{length}
+use Rattle.laws.proofs.Prelude.{ℕ, zero, suc, _*_, _<_, _≤_, _≡_, refl, ap, List, [], _∷_, Bool, false, true≢false}
+use Rattle.laws.proofs.Prelude.{arith, ltb-false, length}
 use Rattle.memory.specs.Layout.{areaSize}
 use Rattle.memory.proofs.Index.{area-in}
 use Rattle.directory.specs.declared.Directory.{Directory}
@@ -14,8 +9,8 @@ use Rattle.diff.specs.declared.Price.{Price}
 use Rattle.diff.specs.declared.Verdict.{Verdict}
 use Rattle.diff.specs.declared.Verdict.the-variants.{Good, Faulty}
 use Rattle.diff.specs.Reading.{readDiff}
-use Rattle.protocol.specs.Release.{Release, openList, stepsOf, stepMemory}
-use Rattle.protocol.specs.Release.{Write, priceWrite, priceWrites, releaseWrites}
+use Rattle.protocol.specs.Release.{Release, openList, stepsOf, stepMemory, Write, priceWrite, priceWrites}
+use Rattle.protocol.specs.Release.{releaseWrites}
 use Rattle.protocol.specs.Checks.{badRelease}
 use Rattle.protocol.specs.Recovery.{stepTimes}
 use Rattle.release.specs.Stepping.{CardIn, HomesIn, GoodRelease, homesOf}

@@ -1,18 +1,13 @@
 -- Steps that store prices, counted once: a memory whose count is still to be written, with that count, is the one that
 -- the single steps leave.
-use Prim.Native.Nat.{ℕ, _+_, _-_, _*_, _/_, _<_, _≤_}
-use mathlib.Core.Path.{_≡_, refl, sym, ap, _∙_}
-use mathlib.Core.List.{List}
-use mathlib.Core.Bool.{Bool}
+use Rattle.laws.proofs.Prelude.{ℕ, _+_, _-_, _*_, _/_, _<_, _≤_, _≡_, refl, sym, ap, _∙_, List, Bool, arith, length}
 use native.Mathlib.Nat.{add-zero, sub-zero}
-use native.Mathlib.Omega.{arith}
-use lib.ListN.{length}
 use Rattle.laws.proofs.Bools.{by-cond}
 use Rattle.memory.specs.Layout.{areaSize, stepsMade}
 use Rattle.memory.specs.Area.{AreaIn, store}
 use Rattle.memory.proofs.Words.{length-store, load-store-same, store-loaded, store-twice, store-swap}
 use Rattle.directory.specs.declared.Directory.{Directory}
-use Rattle.directory.specs.Live.{liveAt}
+use Rattle.directory.specs.Directory.{liveAt}
 use Rattle.diff.specs.declared.Price.{Price}
 use Rattle.protocol.specs.Release.{sizeOf, openPrices, stepsOf, Write, makeWrite, stepMemory}
 use Rattle.protocol.specs.Recovery.{stepTimes}

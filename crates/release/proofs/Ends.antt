@@ -1,7 +1,5 @@
 -- Opening and close: the stores that the code makes, in its order, are those of the definitions.
-use Prim.Native.Nat.{ℕ}
-use mathlib.Core.Path.{_≡_}
-use mathlib.Core.List.{List}
+use Rattle.laws.proofs.Prelude.{ℕ, _≡_, List}
 use Rattle.memory.specs.Layout.{ownStamp, ownDesk, deskSize, releaseOpen, stepsMade, releaseNumber, releaseDesk}
 use Rattle.memory.specs.Layout.{releaseSize, listStart, listSize}
 use Rattle.memory.specs.Area.{load, store, loadRun, storeRun, clearRun}

@@ -1,9 +1,5 @@
 -- Which steps store a price: those of the tentative half, and after nine others those of the committed half.
-use Prim.Native.Nat.{ℕ, _+_, _-_, _*_, _<_, _≤_}
-use mathlib.Core.Path.{_≡_, refl}
-use native.Mathlib.Decide.{decLt}
-use native.Mathlib.Omega.{arith}
-use borrow.Author.Tests.{lt-ltb, le-ltb}
+use Rattle.laws.proofs.Prelude.{ℕ, _+_, _-_, _*_, _<_, _≤_, _≡_, refl, decLt, arith, lt-ltb, le-ltb}
 use Rattle.memory.specs.Layout.{tentativeHalf, committedHalf}
 use Rattle.release.specs.Stepping.{pricesNext, halfNext, numberNext}
 

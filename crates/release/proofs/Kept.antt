@@ -1,18 +1,12 @@
 -- What a step of a release leaves as it was: the list and the words 0 to 19 of every card, but for its own steps.
-use Prim.Native.Nat.{ℕ, _+_, _*_, _<_, _≤_}
-use mathlib.Core.Path.{_≡_, refl, sym, _∙_}
-use mathlib.Core.Logic.{_≢_, inl}
-use mathlib.Core.List.{List}
-use native.Mathlib.Decide.{decLt}
+use Rattle.laws.proofs.Prelude.{ℕ, _+_, _*_, _<_, _≤_, _≡_, refl, sym, _∙_, _≢_, inl, List, decLt, arith, length}
 use native.Mathlib.Numerals.{add-one}
-use native.Mathlib.Omega.{arith}
-use lib.ListN.{length}
 use Rattle.memory.specs.Area.{AreaIn}
 use Rattle.directory.specs.declared.Directory.{Directory}
 use Rattle.protocol.specs.Release.{sizeOf, openRelease, openPrices, stepsOf, close, stepMemory}
 use Rattle.protocol.proofs.Shape.{SameOwn, SameRelease}
-use Rattle.protocol.proofs.Stepped.{StandsIn, length-step, steps-step, step-keeps, step-keeps-other}
-use Rattle.protocol.proofs.Stepped.{length-close, load-close}
+use Rattle.protocol.proofs.Stepped.{StandsIn, length-step, steps-step, step-keeps, step-keeps-other, length-close}
+use Rattle.protocol.proofs.Stepped.{load-close}
 use Rattle.release.proofs.Stores.{length-desk, stands-here, step-closed}
 
 module _ (d : Directory) (backup : ℕ) (m : List ℕ) (c : ℕ) (few : c < 8) (area : AreaIn (length m) (sizeOf d) c) where

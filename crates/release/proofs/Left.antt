@@ -1,10 +1,7 @@
 -- Several steps of a release: those that it has left fall one by one.
-use Prim.Native.Nat.{ℕ, zero, suc, _+_, _-_, _<_, _≤_, min}
-use mathlib.Core.Path.{_≡_, refl, sym, ap, _∙_}
-use mathlib.Core.List.{List}
+use Rattle.laws.proofs.Prelude.{ℕ, zero, suc, _+_, _-_, _<_, _≤_, _≡_, refl, sym, ap, _∙_, List, arith, length}
+use Prim.Native.Nat.{min}
 use native.Mathlib.Nat.{sub-zero}
-use native.Mathlib.Omega.{arith}
-use lib.ListN.{length}
 use Rattle.memory.specs.Layout.{areaSize, listStart, listSize}
 use Rattle.memory.specs.Area.{AreaIn, loadRun}
 use Rattle.directory.specs.declared.Directory.{Directory}

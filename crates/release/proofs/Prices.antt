@@ -1,13 +1,9 @@
 -- The prices of an open release: how many there are, the one that is found by its number, and a table of them.
-use Prim.Native.Nat.{ℕ, zero, suc, _-_, _/_, _%_, _<_, _≤_}
-use mathlib.Core.Path.{_≡_, refl, sym, ap, _∙_}
-use mathlib.Core.List.{List, [], _∷_, map}
-use mathlib.Core.Bool.{Bool, true, false}
-use native.Mathlib.Omega.{arith}
-use borrow.Author.Tests.{ltb-true, ltb-false}
-use lib.ListN.{length, getD, List·getD-eq-default}
+use Rattle.laws.proofs.Prelude.{ℕ, zero, suc, _-_, _/_, _%_, _<_, _≤_, _≡_, refl, sym, ap, _∙_, List, [], _∷_, Bool}
+use Rattle.laws.proofs.Prelude.{true, false, arith, ltb-true, ltb-false, length, getD, ltb}
+use mathlib.Core.List.{map}
+use lib.ListN.{List·getD-eq-default}
 use lib.Seq.{sets}
-use lib.Dec.{ltb}
 use Rattle.memory.specs.Layout.{areaSize, listStart, listSize}
 use Rattle.memory.specs.Area.{AreaIn, loadRun}
 use Rattle.memory.proofs.Runs.{length-load-run}
@@ -25,8 +21,7 @@ use Rattle.reader.specs.Listed.{priceOf}
 use Rattle.reader.proofs.Listing.{listed-at, few-prices}
 use Rattle.protocol.specs.Release.{openList, openPrices}
 use Rattle.protocol.proofs.Writes.{noPrice}
-use Rattle.release.specs.Stepping.{GoodRelease, Counted, Listed}
-use Rattle.release.specs.Stepping.{NumberedPrice, listedPrice}
+use Rattle.release.specs.Stepping.{GoodRelease, Counted, Listed, NumberedPrice, listedPrice}
 
 -- what reading the list of a good release finds: as many prices as it says, and they are few
 module _ (pages size : ℕ) (m : List ℕ) (card : ℕ) (sized : size ≡ areaSize pages) (good : GoodRelease pages m card)

@@ -1,25 +1,19 @@
 -- The store of each step: the store that the code makes is the one that the definition has at this place.
-use Prim.Native.Nat.{ℕ, _+_, _*_, _/_, _%_, _<_, _≤_}
-use mathlib.Core.Path.{_≡_, refl, sym, _∙_}
-use mathlib.Core.List.{List}
-use mathlib.Core.Bool.{Bool, true, false}
+use Rattle.laws.proofs.Prelude.{ℕ, _+_, _*_, _/_, _%_, _<_, _≤_, _≡_, refl, sym, _∙_, List, Bool, true, false, arith}
+use Rattle.laws.proofs.Prelude.{ltb-true, ltb-false, length, getD, ltb, eqb}
 use native.Mathlib.Nat.{add-zero}
-use native.Mathlib.Omega.{arith}
-use borrow.Author.Tests.{ltb-true, ltb-false}
-use lib.ListN.{length, getD}
-use lib.Dec.{ltb, eqb}
 use Rattle.laws.proofs.Bools.{by-cond}
-use Rattle.memory.specs.Layout.{areaSize, deskSize, stepsMade, releaseDesk, recordStamp, recordDone}
-use Rattle.memory.specs.Layout.{pageStart, tentativeHalf, committedHalf}
+use Rattle.memory.specs.Layout.{areaSize, deskSize, stepsMade, releaseDesk, recordStamp, recordDone, pageStart}
+use Rattle.memory.specs.Layout.{tentativeHalf, committedHalf}
 use Rattle.memory.specs.Area.{AreaIn, load, store}
 use Rattle.memory.proofs.Runs.{getD-load-run, length-load-run}
 use Rattle.directory.specs.declared.Directory.{Directory}
-use Rattle.directory.specs.Live.{liveAt}
+use Rattle.directory.specs.Directory.{liveAt}
 use Rattle.diff.specs.declared.Price.{Price}
 use Rattle.protocol.specs.Release.{sizeOf, Release, openRelease, openPrices, stepsOf, Write, writeOf, noWrite}
 use Rattle.protocol.specs.Release.{priceWrites, makeWrite, close, stepMemory}
-use Rattle.protocol.proofs.Writes.{noPrice, price-write-at, write-tentative, write-desk}
-use Rattle.protocol.proofs.Writes.{write-stamp, write-committed, write-done}
+use Rattle.protocol.proofs.Writes.{noPrice, price-write-at, write-tentative, write-desk, write-stamp, write-committed}
+use Rattle.protocol.proofs.Writes.{write-done}
 use Rattle.protocol.proofs.Stepped.{StandsIn, step-writes, step-closes}
 use Rattle.release.specs.Stepping.{CardIn, HomesIn, homesOf, storeAfter, homeAt, recordWrite}
 use Rattle.release.proofs.Halves.{HalfFrom, tentative, committed}

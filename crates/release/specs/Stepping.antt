@@ -1,11 +1,6 @@
 -- What a step relies on: a memory of its stated length, homes that are cards, and a release whose list reads well.
 -- A rack that passed its checks has it.
-use Prim.Native.Nat.{ℕ, _*_, _+_, _-_, _/_, _%_, _<_, _≤_}
-use mathlib.Core.Path.{_≡_}
-use mathlib.Core.List.{List}
-use mathlib.Core.Bool.{Bool, cond}
-use lib.ListN.{length, getD}
-use lib.Dec.{ltb, eqb}
+use Rattle.laws.specs.Prelude.{ℕ, _*_, _+_, _-_, _/_, _%_, _<_, _≤_, _≡_, List, Bool, cond, length, getD, ltb, eqb}
 use Rattle.memory.specs.Layout.{areaSize, recordStamp, recordDesk, tentativeHalf, committedHalf}
 use Rattle.memory.specs.Area.{AreaIn}
 use Rattle.directory.specs.declared.Directory.{Directory}
@@ -14,9 +9,8 @@ use Rattle.directory.specs.Directory.{directoryOf}
 use Rattle.diff.specs.declared.Price.{Price}
 use Rattle.diff.specs.declared.Verdict.the-variants.{Good}
 use Rattle.diff.specs.Reading.{readDiff}
-use Rattle.protocol.specs.Release.{sizeOf, openRelease, openList, openPrices, stepsOf, stepsIn}
-use Rattle.protocol.specs.Release.{Release, Write, writeOf, noWrite, releaseWrites, makeWrite}
-use Rattle.protocol.specs.Release.{stepMemory}
+use Rattle.protocol.specs.Release.{sizeOf, openRelease, openList, openPrices, stepsOf, stepsIn, Release, Write, writeOf}
+use Rattle.protocol.specs.Release.{noWrite, releaseWrites, makeWrite, stepMemory}
 use Rattle.protocol.specs.Recovery.{stepTimes}
 
 -- a card with a mark, and with an area in a memory of so many words

@@ -1,18 +1,14 @@
 // A release on its card: opening it, one step of it, its close. These write the memory of a rack
 // that passed its checks; which calls are refused is decided above.
-ghost use mathlib.Core.Path.{_≡_};
-ghost use mathlib.Core.List.{List};
-ghost use Prim.Native.Nat.{ℕ, _+_, _*_, _<_, _≤_};
-ghost use lib.ListN.{length, getD};
-ghost use Rattle.memory.specs.Layout.{areaSize, stepsMade, pageStart, recordStamp};
-ghost use Rattle.memory.specs.Layout.{recordDesk};
+ghost use Rattle.laws.specs.Prelude.{_≡_, List, ℕ, _+_, _*_, _<_, _≤_, length, getD};
+ghost use Rattle.memory.specs.Layout.{areaSize, stepsMade, pageStart, recordStamp, recordDesk};
 ghost use Rattle.memory.specs.Area.{AreaIn, store};
 ghost use Rattle.protocol.specs.Release.{releaseOf, openRelease, openPrices, stepsOf, writeOf};
 ghost use Rattle.protocol.specs.Release.{makeWrite, close};
 ghost use Rattle.protocol.specs.Opening.{openMemory};
-ghost use Rattle.release.specs.Stepping.{CardIn, HomesIn, GoodRelease, Counted};
-ghost use Rattle.release.specs.Stepping.{homeAt, afterStore, afterStep, recordWrite};
-ghost use Rattle.release.specs.Stepping.{pricesNext, halfNext, numberNext, NumberedPrice};
+ghost use Rattle.release.specs.Stepping.{CardIn, HomesIn, GoodRelease, Counted, homeAt};
+ghost use Rattle.release.specs.Stepping.{afterStore, afterStep, recordWrite, pricesNext};
+ghost use Rattle.release.specs.Stepping.{halfNext, numberNext, NumberedPrice};
 
 mod running;
 

@@ -1,7 +1,6 @@
 // Several steps of a release.
-ghost use mathlib.Core.Path.{_≡_};
-ghost use Prim.Native.Nat.{ℕ, _+_, _-_, _*_, _<_, _≤_, min};
-ghost use lib.ListN.{length};
+ghost use Rattle.laws.specs.Prelude.{_≡_, ℕ, _+_, _-_, _*_, _<_, _≤_, length};
+ghost use Prim.Native.Nat.{min};
 ghost use Rattle.memory.specs.Layout.{areaSize};
 ghost use Rattle.memory.specs.Area.{AreaIn};
 ghost use Rattle.protocol.specs.Release.{stepsOf, stepsIn};

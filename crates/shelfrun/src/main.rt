@@ -1,8 +1,6 @@
 // shelfrun (document 01, "Numbers to hold it against"): formats a rack of 3 cards and 4 pages, and
 // answers the commands that it reads from standard input, line by line.
-ghost use mathlib.Core.Path.{_≡_};
-ghost use Prim.Native.Nat.{_+_, _≤_, _<_};
-ghost use lib.ListN.{length, take};
+ghost use Rattle.laws.specs.Prelude.{_≡_, _+_, _≤_, _<_, length, take};
 ghost use lib.Seq.{sets};
 ghost use Rattle.interpreter.specs.Transcript.{stateOf, stateAfter, printed};
 use interpreter::Progress;

@@ -1,10 +1,6 @@
 -- The rows hold: what is a number is computed, by one test over the list, and the two rows on every number and every
 -- stamp are proved.
-use Prim.Native.Nat.{ℕ, _≤_}
-use mathlib.Core.Path.{_≡_, refl, ap, _∙_}
-use mathlib.Core.List.{List, [], _∷_}
-use native.Mathlib.Omega.{arith}
-use borrow.Author.Tests.{le-leb, lt-leb}
+use Rattle.laws.proofs.Prelude.{ℕ, _≤_, _≡_, refl, ap, _∙_, List, [], _∷_, arith, le-leb, lt-leb}
 use Rattle.laws.specs.Search.{lowestFrom, countBelow, inTurn}
 use Rattle.laws.specs.Examples.{AllHold, sameWords, failuresFrom, Claims}
 use Rattle.laws.proofs.Examples.{all-hold}
@@ -12,8 +8,7 @@ use Rattle.answer.specs.declared.Outcome.{Outcome}
 use Rattle.answer.specs.Outcome.{refusedAt, numberUsed}
 use Rattle.memory.specs.Area.{load, store, loadRun, overwrite, storeRun, clearRun, copyRun, zeros}
 use Rattle.directory.specs.declared.Directory.{Directory}
-use Rattle.directory.specs.Directory.{formattedDirectory, emptyDirectory, tableFrom}
-use Rattle.directory.specs.Live.{nextLive}
+use Rattle.directory.specs.Directory.{formattedDirectory, emptyDirectory, tableFrom, nextLive}
 use Rattle.diff.specs.Making.{changesFrom, encodeFrom, madeDiff, runLength, header, lentPages, makeDiff}
 use Rattle.diff.specs.Prices.{pricesOf, pricesFrom, names}
 use Rattle.diff.specs.Reading.{readFrom, wordStep, checkDiff}
@@ -21,8 +16,7 @@ use Rattle.protocol.specs.Release.{Release, sizeOf, ownRelease, openRelease, op
 use Rattle.protocol.specs.Release.{makeWrite, close, stepMemory}
 use Rattle.protocol.specs.Record.{recordedRelease, underWay, settledRecord, writeRecord, writeOwnRecord}
 use Rattle.protocol.specs.Checks.{firstRefusal, outsideLimits, fewLive, badHome, badPage, badStatus, badRelease}
-use Rattle.protocol.specs.Checks.{badCard}
-use Rattle.protocol.specs.Checks.{unfitRack, awaitsRecovery}
+use Rattle.protocol.specs.Checks.{badCard, unfitRack, awaitsRecovery}
 use Rattle.protocol.specs.Result.{Result}
 use Rattle.protocol.specs.Formatting.{formatting}
 use Rattle.protocol.specs.Opening.{shareWord, sharesWith, openingChecks, openMemory, opening}
@@ -30,10 +24,9 @@ use Rattle.protocol.specs.Step.{step}
 use Rattle.protocol.specs.Fetch.{namesPage, inMotion, committedPage, fetch}
 use Rattle.protocol.specs.Failure.{failure}
 use Rattle.protocol.specs.Recovery.{stepTimes, runToClose, closeReleases, restoreHome, restorePage, restorePages}
-use Rattle.protocol.specs.Recovery.{lostHome}
-use Rattle.protocol.specs.Recovery.{keptHome, newHome, copyToNewHome, copyToNewHomes, moveHome, recoveredDirectory}
-use Rattle.protocol.specs.Recovery.{writeFailed, writeRecords, failedRelease, restoredMemory, recoveredMemory}
-use Rattle.protocol.specs.Recovery.{awaitedCard, recovery}
+use Rattle.protocol.specs.Recovery.{lostHome, keptHome, newHome, copyToNewHome, copyToNewHomes, moveHome}
+use Rattle.protocol.specs.Recovery.{recoveredDirectory, writeFailed, writeRecords, failedRelease, restoredMemory}
+use Rattle.protocol.specs.Recovery.{recoveredMemory, awaitedCard, recovery}
 use Rattle.protocol.proofs.Accepting.{outcome-of}
 use Rattle.worked.specs.Rows.{newRack, changedPages, twoPrices, noPrice, opened, stepped, recoveredFrom}
 use Rattle.worked.specs.Rows.{shownAfter, homesAfter, completed, Idle, rows, shown}

@@ -2,11 +2,8 @@
 -- definitions that the calls' contracts cite. A row shows outcomes beside words, or words that an accepted call alone
 -- changes, and buffers that are lent hold sevens: a call that is refused meets none.
 -- Assumes nothing: these are definitions.
-use Prim.Native.Nat.{ℕ, zero, suc, _≤_, _<_}
-use mathlib.Core.Path.{_≡_}
-use mathlib.Core.List.{List, [], _∷_, _++_}
-use mathlib.Core.Bool.{true, false}
-use lib.ListN.{length, set, take, replicate}
+use Rattle.laws.specs.Prelude.{ℕ, zero, suc, _≤_, _<_, _≡_, List, [], _∷_, _++_, true, false, length, set, take}
+use Rattle.laws.specs.Prelude.{replicate}
 use Rattle.laws.specs.Examples.{Example, computed, claimed}
 use Rattle.answer.specs.Outcome.{inWords, refusedAt, numberUsed}
 use Rattle.memory.specs.Layout.{recordStamp, releaseOpen}

@@ -1,11 +1,7 @@
 -- The pages of a list, marked aside and then joined to other marks, are marked as if among these from the first.
-use Prim.Native.Nat.{ℕ, zero, suc, _≤_, _<_}
-use mathlib.Core.Path.{_≡_, refl, sym, _∙_}
-use mathlib.Core.List.{List}
-use mathlib.Core.Bool.{Bool, false, _||_}
-use native.Mathlib.Decide.{ℕ-discrete}
-use native.Mathlib.Omega.{arith}
-use lib.ListN.{length, getD, length-set}
+use Rattle.laws.proofs.Prelude.{ℕ, zero, suc, _≤_, _<_, _≡_, refl, sym, _∙_, List, Bool, false, _||_, ℕ-discrete, arith}
+use Rattle.laws.proofs.Prelude.{length, getD}
+use lib.ListN.{length-set}
 use lib.Seq.{getD-set-same, getD-set-other, ext-getD}
 use Rattle.laws.specs.Search.{inTurn}
 use Rattle.diff.specs.Prices.{pricesOf}

@@ -1,11 +1,7 @@
 -- One turn of the walk over an open list: what the price that is due adds, and what is left gives the whole.
-use Prim.Native.Nat.{ℕ, _+_, _<_, _≤_}
-use mathlib.Core.Path.{_≡_, refl, ap, _∙_}
-use mathlib.Core.List.{List, [], _∷_, _++_}
-use mathlib.Core.Bool.{Bool, true, false, cond, _||_, _&&_}
-use native.Mathlib.Omega.{arith}
-use lib.ListN.{length, length-append}
-use lib.Dec.{ltb, leb, eqb}
+use Rattle.laws.proofs.Prelude.{ℕ, _+_, _<_, _≤_, _≡_, refl, ap, _∙_, List, [], _∷_, _++_, Bool, true, false, cond}
+use Rattle.laws.proofs.Prelude.{_||_, _&&_, arith, length, ltb, leb, eqb}
+use lib.ListN.{length-append}
 use Rattle.memory.specs.Layout.{areaSize}
 use Rattle.diff.specs.declared.Cursor.{Cursor}
 use Rattle.diff.specs.declared.Price.{Price}

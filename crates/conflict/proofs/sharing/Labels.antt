@@ -1,10 +1,6 @@
 -- The marks of a list's labels stand for its prices: a marked label is one that the list names.
-use Prim.Native.Nat.{ℕ, _≤_}
-use mathlib.Core.Path.{_≡_, refl, _∙_}
-use mathlib.Core.List.{List, [], _∷_}
-use mathlib.Core.Bool.{Bool, true, false, cond, _||_, and-assoc}
-use lib.ListN.{getD}
-use native.Mathlib.Omega.{arith}
+use Rattle.laws.proofs.Prelude.{ℕ, _≤_, _≡_, refl, _∙_, List, [], _∷_, Bool, true, false, cond, _||_, getD, arith}
+use mathlib.Core.Bool.{and-assoc}
 use Rattle.diff.specs.declared.Price.{Price}
 use Rattle.diff.specs.Prices.{labelOf, pricesOf, names}
 use Rattle.diff.proofs.Stored.{prices-on-pages}

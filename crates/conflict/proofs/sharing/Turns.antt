@@ -1,10 +1,6 @@
 -- One turn of the walk over another card's list: what the price that is due finds, and what is left finds the rest.
-use Prim.Native.Nat.{ℕ, _<_, _≤_}
-use mathlib.Core.Path.{_≡_, refl, ap, _∙_}
-use mathlib.Core.List.{List, [], _∷_, _++_}
-use mathlib.Core.Bool.{Bool, true, false, cond, _||_}
-use lib.ListN.{length, getD}
-use lib.Dec.{ltb}
+use Rattle.laws.proofs.Prelude.{ℕ, _<_, _≤_, _≡_, refl, ap, _∙_, List, [], _∷_, _++_, Bool, true, false, cond, _||_}
+use Rattle.laws.proofs.Prelude.{length, getD, ltb}
 use Rattle.memory.specs.Layout.{areaSize}
 use Rattle.diff.specs.declared.Cursor.{Cursor}
 use Rattle.diff.specs.declared.Price.{Price}

@@ -1,9 +1,6 @@
 -- A call by a directory cut off at its cards and pages, and by the whole of it: the checks decide alike, and what an
 -- accepted call leaves is the same.
-use Prim.Native.Nat.{ℕ}
-use mathlib.Core.Path.{_≡_, sym, _∙_}
-use mathlib.Core.List.{List}
-use mathlib.Core.Bool.{true}
+use Rattle.laws.proofs.Prelude.{ℕ, _≡_, sym, _∙_, List, true}
 use Rattle.directory.specs.declared.Directory.{Directory}
 use Rattle.protocol.specs.Checks.{Check, firstRefusal}
 use Rattle.protocol.specs.Result.{Result, accepted, resultOf}

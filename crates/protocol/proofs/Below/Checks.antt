@@ -1,19 +1,13 @@
 -- Check 2, and the checks that calls share, read nothing past a directory's cards and pages.
-use Prim.Native.Nat.{ℕ, _<_}
-use mathlib.Core.Path.{_≡_, refl, ap}
-use mathlib.Core.List.{List, _∷_, _++_}
-use mathlib.Core.Bool.{Bool, not, _&&_}
-use native.Mathlib.Omega.{arith}
-use lib.Dec.{ltb}
+use Rattle.laws.proofs.Prelude.{ℕ, _<_, _≡_, refl, ap, List, _∷_, _++_, Bool, not, _&&_, arith, ltb}
 use Rattle.laws.specs.Search.{lowest, someBelow}
 use Rattle.answer.specs.Outcome.{unfit, noCard}
 use Rattle.directory.specs.declared.Directory.{Directory}
 use Rattle.directory.specs.declared.Status.{Status}
 use Rattle.directory.specs.declared.Status.the-variants.{Running, Awaiting}
-use Rattle.directory.specs.Live.{liveAt}
-use Rattle.directory.specs.Directory.{primaryOf, secondaryOf, awaitsCard}
-use Rattle.protocol.specs.Checks.{fewLive, badHome, badPage, badStatus, badCard, unfitRack}
-use Rattle.protocol.specs.Checks.{Check, check, checkAt, fittingChecks, runningChecks, noLiveCard}
+use Rattle.directory.specs.Directory.{liveAt, primaryOf, secondaryOf, awaitsCard}
+use Rattle.protocol.specs.Checks.{fewLive, badHome, badPage, badStatus, badCard, unfitRack, Check, check, checkAt}
+use Rattle.protocol.specs.Checks.{fittingChecks, runningChecks, noLiveCard}
 use Rattle.protocol.specs.PastLimits.{belowLimits}
 use Rattle.protocol.proofs.Accepting.{live-card}
 use Rattle.protocol.proofs.Agreeing.{lowest-agree, some-agree, count-agree, SameChecks, more}

@@ -1,19 +1,11 @@
 -- What a directory says of its cards and pages is the same once the marks and homes past them are cut off.
-use Prim.Native.Nat.{ℕ, zero, suc, _<_}
-use mathlib.Core.Path.{_≡_, refl, ap, _∙_}
-use mathlib.Core.List.{List, [], _∷_}
-use mathlib.Core.Bool.{Bool, true, false, _||_}
-use native.Mathlib.Omega.{arith}
+use Rattle.laws.proofs.Prelude.{ℕ, zero, suc, _<_, _≡_, refl, ap, _∙_, List, [], _∷_, Bool, true, false, _||_, arith}
+use Rattle.laws.proofs.Prelude.{decLt, le-leb, take, set, leb}
 use native.Mathlib.Nat.{le-refl}
-use native.Mathlib.Decide.{decLt}
-use borrow.Author.Tests.{le-leb}
-use lib.ListN.{take, set}
 use lib.Seq.{getD-take, take-take}
-use lib.Dec.{leb}
 use Rattle.directory.specs.declared.Directory.{Directory}
-use Rattle.directory.specs.Live.{liveAt}
-use Rattle.directory.specs.Directory.{isLive, primaryOf, secondaryOf, nextLiveOf, backupOf}
-use Rattle.directory.specs.Directory.{withMark, markedLive, withHomes}
+use Rattle.directory.specs.Directory.{liveAt, isLive, primaryOf, secondaryOf, nextLiveOf, backupOf, withMark}
+use Rattle.directory.specs.Directory.{markedLive, withHomes}
 use Rattle.directory.proofs.Live.{next-live-past-cards}
 use Rattle.protocol.specs.Release.{isOpen}
 use Rattle.protocol.specs.PastLimits.{belowLimits}

@@ -1,9 +1,5 @@
 -- A failure reads nothing past a directory's cards and pages, and keeps what stands there.
-use Prim.Native.Nat.{ℕ}
-use mathlib.Core.Path.{refl, ap}
-use mathlib.Core.List.{List, []}
-use mathlib.Core.Bool.{false}
-use lib.Dec.{leb}
+use Rattle.laws.proofs.Prelude.{ℕ, refl, ap, List, [], false, leb}
 use Rattle.answer.specs.Outcome.{twoLive}
 use Rattle.directory.specs.declared.Directory.{Directory}
 use Rattle.directory.specs.declared.Status.the-variants.{Awaiting}

@@ -1,15 +1,9 @@
 -- A formatted directory is blank past its cards and pages, and so is the one of a refused formatting.
-use Prim.Native.Nat.{ℕ, _<_}
-use mathlib.Core.Path.{_≡_, refl, sym, _∙_}
-use mathlib.Core.List.{List, [], _∷_}
-use mathlib.Core.Bool.{Bool, true, false}
-use native.Mathlib.Omega.{arith}
-use native.Mathlib.Decide.{decLt}
-use borrow.Author.Tests.{le-ltb}
-use lib.ListN.{length, getD, replicate, getD-replicate}
+use Rattle.laws.proofs.Prelude.{ℕ, _<_, _≡_, refl, sym, _∙_, List, [], _∷_, Bool, true, false, arith, decLt, le-ltb}
+use Rattle.laws.proofs.Prelude.{length, getD, replicate}
+use lib.ListN.{getD-replicate}
 use Rattle.answer.specs.Outcome.{limits}
-use Rattle.directory.specs.Directory.{table, formattedPrimary, formattedSecondary}
-use Rattle.directory.specs.Directory.{formattedDirectory, emptyDirectory}
+use Rattle.directory.specs.Directory.{table, formattedPrimary, formattedSecondary, formattedDirectory, emptyDirectory}
 use Rattle.directory.proofs.Table.{table-length, table-read, read-past-end}
 use Rattle.protocol.specs.Checks.{Check, check, firstRefusal, outsideLimits}
 use Rattle.protocol.specs.Result.{accepted}

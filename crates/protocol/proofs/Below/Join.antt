@@ -1,9 +1,5 @@
 -- A join reads nothing past a directory's cards and pages, and keeps what stands there.
-use Prim.Native.Nat.{ℕ, _<_}
-use mathlib.Core.Path.{_≡_, refl, ap}
-use mathlib.Core.List.{List, []}
-use mathlib.Core.Bool.{Bool, true}
-use borrow.Author.Tests.{leb-false}
+use Rattle.laws.proofs.Prelude.{ℕ, _<_, _≡_, refl, ap, List, [], Bool, true, leb-false}
 use Rattle.answer.specs.Outcome.{cardLive, joinWhileOpen}
 use Rattle.directory.specs.declared.Directory.{Directory}
 use Rattle.protocol.specs.Release.{sizeOf}

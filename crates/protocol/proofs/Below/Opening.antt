@@ -1,8 +1,5 @@
 -- Opening a release reads nothing past a directory's cards and pages.
-use Prim.Native.Nat.{ℕ, _<_}
-use mathlib.Core.Path.{_≡_, refl, ap}
-use mathlib.Core.List.{List, []}
-use mathlib.Core.Bool.{Bool}
+use Rattle.laws.proofs.Prelude.{ℕ, _<_, _≡_, refl, ap, List, [], Bool}
 use Rattle.answer.specs.Outcome.{releaseOpen, wordInUse}
 use Rattle.directory.specs.declared.Directory.{Directory}
 use Rattle.protocol.specs.Release.{Release, sizeOf}

@@ -1,9 +1,5 @@
 -- The calls that only read, fetches and desk questions, read nothing past a directory's cards and pages.
-use Prim.Native.Nat.{ℕ, _<_}
-use mathlib.Core.Path.{_≡_, refl}
-use mathlib.Core.List.{List}
-use borrow.Author.Tests.{leb-false}
-use lib.ListN.{length}
+use Rattle.laws.proofs.Prelude.{ℕ, _<_, _≡_, refl, List, leb-false, length}
 use Rattle.answer.specs.Outcome.{pageInMotion}
 use Rattle.directory.specs.declared.Directory.{Directory}
 use Rattle.memory.specs.Layout.{deskSize}

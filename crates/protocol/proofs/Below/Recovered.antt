@@ -1,8 +1,5 @@
 -- A recovery reads nothing past a directory's cards and pages.
-use Prim.Native.Nat.{ℕ, zero, suc, _<_}
-use mathlib.Core.Path.{_≡_, refl, _∙_}
-use mathlib.Core.List.{List}
-use mathlib.Core.Bool.{Bool, true, false}
+use Rattle.laws.proofs.Prelude.{ℕ, zero, suc, _<_, _≡_, refl, _∙_, List, Bool, true, false}
 use Rattle.directory.specs.declared.Directory.{Directory}
 use Rattle.directory.specs.Directory.{isLive, primaryOf, secondaryOf, backupOf, markedLive}
 use Rattle.directory.proofs.Live.{next-live-below, live-not-dead}

@@ -1,9 +1,5 @@
 -- A recovery reads nothing past a directory's cards and pages, and keeps what stands there.
-use Prim.Native.Nat.{ℕ}
-use mathlib.Core.Path.{_≡_, refl, ap}
-use mathlib.Core.List.{List}
-use mathlib.Core.Bool.{false}
-use borrow.Author.Tests.{not-false}
+use Rattle.laws.proofs.Prelude.{ℕ, _≡_, refl, ap, List, false, not-false}
 use Rattle.memory.specs.Layout.{deskSize}
 use Rattle.memory.specs.Area.{zeros}
 use Rattle.directory.specs.declared.Directory.{Directory}

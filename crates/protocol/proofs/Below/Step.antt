@@ -1,8 +1,5 @@
 -- A step reads nothing past a directory's cards and pages.
-use Prim.Native.Nat.{ℕ}
-use mathlib.Core.Path.{_≡_, refl, ap}
-use mathlib.Core.List.{List, []}
-use mathlib.Core.Bool.{Bool, not}
+use Rattle.laws.proofs.Prelude.{ℕ, _≡_, refl, ap, List, [], Bool, not}
 use Rattle.answer.specs.Outcome.{noneOpen}
 use Rattle.directory.specs.declared.Directory.{Directory}
 use Rattle.directory.specs.Directory.{backupOf}

@@ -1,10 +1,6 @@
 -- What one step writes goes by nothing past a directory's cards and pages: the prices are on pages that the rack has,
 -- and their homes and the backup are cards that it has.
-use Prim.Native.Nat.{ℕ, zero, suc, _<_}
-use mathlib.Core.Path.{_≡_, refl}
-use mathlib.Core.List.{List, [], _∷_, _++_}
-use native.Mathlib.Omega.{arith}
-use lib.ListN.{getD}
+use Rattle.laws.proofs.Prelude.{ℕ, zero, suc, _<_, _≡_, refl, List, [], _∷_, _++_, arith, getD}
 use Rattle.memory.specs.Layout.{recordStamp, recordDone, recordDesk, tentativeHalf, committedHalf}
 use Rattle.directory.specs.declared.Directory.{Directory}
 use Rattle.diff.specs.declared.Price.{Price}

@@ -1,11 +1,10 @@
 -- The examples of joins and desk questions hold: each is computed.
-use mathlib.Core.Path.{refl}
+use Rattle.laws.proofs.Prelude.{refl}
 use Rattle.laws.specs.Search.{lowestFrom, countBelow, inTurn}
 use Rattle.laws.specs.Examples.{AllHold, sameWords, failuresFrom, Claims}
 use Rattle.laws.proofs.Examples.{all-hold}
 use Rattle.memory.specs.Area.{load, loadRun, overwrite, storeRun, clearRun, copyRun, zeros}
-use Rattle.directory.specs.Directory.{formattedDirectory, tableFrom}
-use Rattle.directory.specs.Live.{nextLive}
+use Rattle.directory.specs.Directory.{formattedDirectory, tableFrom, nextLive}
 use Rattle.protocol.specs.Release.{ownRelease, isOpen}
 use Rattle.protocol.specs.Record.{recordedRelease, settledRecord, writeRecord, writeOwnRecord}
 use Rattle.protocol.specs.Checks.{firstRefusal, outsideLimits, fewLive, badHome, badPage, badStatus, badRelease}

@@ -1,15 +1,14 @@
 -- The examples of recoveries hold: each is computed.
-use mathlib.Core.Path.{refl}
+use Rattle.laws.proofs.Prelude.{refl}
 use Rattle.laws.specs.Search.{lowestFrom, countBelow, inTurn}
 use Rattle.laws.specs.Examples.{AllHold, sameWords, failuresFrom, Claims}
 use Rattle.laws.proofs.Examples.{all-hold}
 use Rattle.memory.specs.Area.{load, store, loadRun, overwrite, storeRun, clearRun, copyRun, zeros}
-use Rattle.directory.specs.Directory.{formattedDirectory, tableFrom}
-use Rattle.directory.specs.Live.{nextLive}
+use Rattle.directory.specs.Directory.{formattedDirectory, tableFrom, nextLive}
 use Rattle.diff.specs.Reading.{wordStep, readFrom}
 use Rattle.diff.specs.Prices.{pricesFrom, pricesOf}
-use Rattle.protocol.specs.Release.{ownRelease, openRelease, openList, stepsOf, isOpen, releaseWrites}
-use Rattle.protocol.specs.Release.{makeWrite, close, stepMemory}
+use Rattle.protocol.specs.Release.{ownRelease, openRelease, openList, stepsOf, isOpen, releaseWrites, makeWrite}
+use Rattle.protocol.specs.Release.{close, stepMemory}
 use Rattle.protocol.specs.Record.{recordedRelease, underWay, settledRecord, writeRecord, writeOwnRecord}
 use Rattle.protocol.specs.Checks.{firstRefusal, outsideLimits, fewLive, badHome, badPage, badStatus, badRelease}
 use Rattle.protocol.specs.Checks.{badCard, unfitRack, awaitsRecovery}
@@ -19,9 +18,8 @@ use Rattle.protocol.specs.Recovery.{lostHome, keptHome, newHome, copyToN
 use Rattle.protocol.specs.Recovery.{recoveredDirectory, writeFailed, writeRecords, failedRelease, restoredMemory}
 use Rattle.protocol.specs.Recovery.{recoveredMemory, awaitedCard, recovery}
 use Rattle.protocol.specs.examples.Racks.{smallMemory}
-use Rattle.protocol.specs.examples.Recoveries.{rolledForward, rolledBack, deadArea, closedWithout1}
-use Rattle.protocol.specs.examples.Recoveries.{closedInTurn, recovered}
-use Rattle.protocol.specs.examples.Recoveries.{recoveryExamples}
+use Rattle.protocol.specs.examples.Recoveries.{rolledForward, rolledBack, deadArea, closedWithout1, closedInTurn}
+use Rattle.protocol.specs.examples.Recoveries.{recovered, recoveryExamples}
 
 pub recoveries-hold : AllHold recoveryExamples
 unfolding sameWords failuresFrom Claims lowestFrom countBelow inTurn load store loadRun overwrite storeRun clearRun

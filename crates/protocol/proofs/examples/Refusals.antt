@@ -1,15 +1,14 @@
 -- The examples of refusals hold: each is computed.
-use mathlib.Core.Path.{refl}
+use Rattle.laws.proofs.Prelude.{refl}
 use Rattle.laws.specs.Search.{lowestFrom, countBelow, inTurn}
 use Rattle.laws.specs.Examples.{AllHold, sameWords, failuresFrom, Claims}
 use Rattle.laws.proofs.Examples.{all-hold}
 use Rattle.memory.specs.Area.{load, store, loadRun, overwrite, storeRun, clearRun, copyRun, zeros}
-use Rattle.directory.specs.Directory.{formattedDirectory, emptyDirectory, tableFrom}
-use Rattle.directory.specs.Live.{nextLive}
+use Rattle.directory.specs.Directory.{formattedDirectory, emptyDirectory, tableFrom, nextLive}
 use Rattle.diff.specs.Reading.{wordStep, readFrom, checkDiff}
 use Rattle.diff.specs.Prices.{pricesFrom, pricesOf, names}
-use Rattle.protocol.specs.Release.{ownRelease, openRelease, openList, stepsOf, isOpen, releaseWrites}
-use Rattle.protocol.specs.Release.{makeWrite, close, stepMemory}
+use Rattle.protocol.specs.Release.{ownRelease, openRelease, openList, stepsOf, isOpen, releaseWrites, makeWrite}
+use Rattle.protocol.specs.Release.{close, stepMemory}
 use Rattle.protocol.specs.Record.{recordedRelease}
 use Rattle.protocol.specs.Checks.{firstRefusal, outsideLimits, fewLive, badHome, badPage, badStatus, badRelease}
 use Rattle.protocol.specs.Checks.{badCard, unfitRack, awaitsRecovery}

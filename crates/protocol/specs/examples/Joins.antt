@@ -1,8 +1,7 @@
 -- Joins and desk questions: worked examples. Every word of the memory is its own index, so that it shows where each
 -- word comes from.
 -- Assumes nothing: these are definitions.
-use mathlib.Core.List.{List, [], _∷_, _++_}
-use lib.ListN.{replicate}
+use Rattle.laws.specs.Prelude.{List, [], _∷_, _++_, replicate}
 use Rattle.laws.specs.Examples.{Example, computed}
 use Rattle.memory.specs.Area.{zeros}
 use Rattle.directory.specs.declared.Directory.{Directory}

@@ -1,9 +1,7 @@
 -- Recoveries: worked examples. In most of them every word of the memory is its own index, so that it shows where each
 -- word comes from.
 -- Assumes nothing: these are definitions.
-use Prim.Native.Nat.{ℕ}
-use mathlib.Core.List.{List, [], _∷_, _++_}
-use lib.ListN.{replicate}
+use Rattle.laws.specs.Prelude.{ℕ, List, [], _∷_, _++_, replicate}
 use Rattle.laws.specs.Examples.{Example, computed}
 use Rattle.memory.specs.Area.{store, zeros}
 use Rattle.directory.specs.declared.Directory.{Directory}

@@ -1,8 +1,6 @@
 -- What calls refuse, with number and place, beside what they take: worked examples.
 -- Assumes nothing: these are definitions.
-use Prim.Native.Nat.{ℕ}
-use mathlib.Core.List.{List, [], _∷_, _++_}
-use lib.ListN.{replicate}
+use Rattle.laws.specs.Prelude.{ℕ, List, [], _∷_, _++_, replicate}
 use Rattle.laws.specs.Examples.{Example, computed}
 use Rattle.memory.specs.Area.{store, storeRun, zeros}
 use Rattle.directory.specs.declared.Directory.{Directory}

@@ -1,7 +1,6 @@
 -- A release opened, stepped and closed, and a card's record: worked examples.
 -- Assumes nothing: these are definitions.
-use Prim.Native.Nat.{ℕ, _+_}
-use mathlib.Core.List.{List, [], _∷_, _++_}
+use Rattle.laws.specs.Prelude.{ℕ, _+_, List, [], _∷_, _++_}
 use Rattle.laws.specs.Examples.{Example, computed}
 use Rattle.memory.specs.Area.{store, storeRun, zeros}
 use Rattle.diff.specs.declared.Price.{Price}

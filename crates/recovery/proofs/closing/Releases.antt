@@ -1,16 +1,10 @@
 -- A release run to its close: its steps fall one by one, and what other cards' releases stand in is left as it was.
-use Prim.Native.Nat.{ℕ, zero, suc, _+_, _<_, _≤_}
-use mathlib.Core.Path.{_≡_, sym, _∙_}
-use mathlib.Core.Logic.{_≢_}
-use mathlib.Core.List.{List}
-use mathlib.Core.Bool.{true, false}
-use native.Mathlib.Omega.{arith}
-use lib.ListN.{length, set}
+use Rattle.laws.proofs.Prelude.{ℕ, zero, suc, _+_, _<_, _≤_, _≡_, sym, _∙_, _≢_, List, true, false, arith, length, set}
 use Rattle.laws.proofs.Bools.{by-cond, and-first}
 use Rattle.memory.specs.Area.{AreaIn}
 use Rattle.memory.proofs.Index.{area-in}
 use Rattle.directory.specs.declared.Directory.{Directory}
-use Rattle.directory.specs.Live.{liveAt}
+use Rattle.directory.specs.Directory.{liveAt}
 use Rattle.directory.proofs.Live.{next-live-below}
 use Rattle.protocol.specs.Release.{sizeOf, isOpen, stepMemory}
 use Rattle.protocol.specs.Recovery.{backupBefore, stepTimes, runToClose}

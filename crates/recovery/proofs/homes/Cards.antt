@@ -1,15 +1,10 @@
 -- Homes of a page: the one that it keeps is a card, and so is the next live card after it.
-use Prim.Native.Nat.{ℕ, _<_, _≤_}
-use mathlib.Core.List.{List}
-use mathlib.Core.Bool.{Bool}
-use native.Mathlib.Omega.{arith}
-use lib.ListN.{getD}
-use lib.Dec.{eqb}
+use Rattle.laws.proofs.Prelude.{ℕ, _<_, _≤_, List, Bool, arith, getD, eqb}
 use Rattle.laws.proofs.Bools.{by-cond}
 use Rattle.memory.specs.Layout.{areaSize}
 use Rattle.memory.specs.Area.{AreaIn}
 use Rattle.memory.proofs.Index.{area-in}
-use Rattle.directory.specs.Live.{nextLive}
+use Rattle.directory.specs.Directory.{nextLive}
 use Rattle.directory.proofs.Live.{next-live-below}
 use Rattle.protocol.specs.Recovery.{keptHome}
 use Rattle.release.specs.Stepping.{CardIn, HomesIn}

@@ -1,10 +1,6 @@
 -- Homes moved page by page, in the arrays where they stand: a page's own are there until its turn.
-use Prim.Native.Nat.{ℕ, zero, suc, _+_, _<_, _≤_}
-use mathlib.Core.Path.{_≡_, refl, sym, ap, _∙_}
-use mathlib.Core.List.{List}
-use mathlib.Core.Bool.{Bool, true, false, cond}
-use native.Mathlib.Omega.{arith}
-use lib.ListN.{length}
+use Rattle.laws.proofs.Prelude.{ℕ, zero, suc, _+_, _<_, _≤_, _≡_, refl, sym, ap, _∙_, List, Bool, true, false, cond}
+use Rattle.laws.proofs.Prelude.{arith, length}
 use lib.Seq.{getD-set-other}
 use Rattle.laws.specs.Search.{inTurn}
 use Rattle.laws.proofs.Bools.{by-cond}

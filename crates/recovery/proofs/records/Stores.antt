@@ -1,11 +1,6 @@
 -- The runs that records and own words are stored as.
-use Prim.Native.Nat.{ℕ, _+_, _*_, _%_}
-use mathlib.Core.Path.{_≡_, _∙_}
-use mathlib.Core.List.{List, _∷_, append-nil}
-use native.Mathlib.Omega.{arith}
-use native.Mathlib.Decide.{ℕ-discrete}
-use borrow.Author.Tests.{eq-eqb, ne-eqb}
-use lib.ListN.{length}
+use Rattle.laws.proofs.Prelude.{ℕ, _+_, _*_, _%_, _≡_, _∙_, List, _∷_, arith, ℕ-discrete, eq-eqb, ne-eqb, length}
+use mathlib.Core.List.{append-nil}
 use lib.Seq.{sets-eq}
 use Rattle.memory.specs.Layout.{ownStamp, ownDesk}
 use Rattle.memory.specs.Area.{store, storeRun, zeros}
