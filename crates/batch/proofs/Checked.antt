@@ -11,9 +11,9 @@ use Rattle.directory.specs.declared.Directory.{Directory}
 use Rattle.directory.specs.Directory.{liveAt, backupOf}
 use Rattle.protocol.specs.Release.{sizeOf, isOpen, openPrices, stepsOf, stepMemory}
 use Rattle.protocol.specs.Checks.{badRelease, badCard, unfitRack}
-use Rattle.protocol.proofs.Accepting.{Runs, StepPassed}
-use Rattle.protocol.proofs.Shape.{SameOwn, SameRelease, same-own-release, list-kept, is-open-kept, steps-kept}
-use Rattle.protocol.proofs.Stepped.{close-word-9, close-not-open}
+use Rattle.protocol.proofs.checks.Passed.{Runs, StepPassed}
+use Rattle.protocol.proofs.release.Shape.{SameOwn, SameRelease, same-own-release, list-kept, is-open-kept, steps-kept}
+use Rattle.protocol.proofs.release.Close.{close-word-9, close-not-open}
 use Rattle.release.specs.Stepping.{GoodRelease, leftOf}
 use Rattle.release.proofs.Stores.{length-desk, step-closed}
 use Rattle.release.proofs.Kept.{steps-more, step-keeps-own, step-keeps-others}

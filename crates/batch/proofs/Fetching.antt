@@ -11,8 +11,9 @@ use Rattle.memory.specs.Layout.{pageSize}
 use Rattle.directory.specs.declared.Directory.{Directory}
 use Rattle.protocol.specs.Checks.{firstRefusal, awaitsRecovery}
 use Rattle.protocol.specs.Fetch.{inMotion, fetchChecks, committedPage}
-use Rattle.protocol.proofs.Accepting.{Runs, all-passed, desk-passed}
-use Rattle.protocol.proofs.Limits.{within-limits}
+use Rattle.protocol.proofs.checks.Passed.{Runs, desk-passed}
+use Rattle.protocol.proofs.checks.Order.{all-passed}
+use Rattle.protocol.proofs.checks.Limits.{within-limits}
 use Rattle.checks.proofs.Order.{by-number}
 use Rattle.conflict.proofs.InMotion.{motion-marked}
 use Rattle.rack.proofs.Results.{fetch-refused, fetch-accepted}

@@ -10,7 +10,8 @@ use Rattle.protocol.specs.Step.{step, stepChecks}
 use Rattle.protocol.specs.Book.{make-step}
 use Rattle.protocol.specs.Demand1.{isAmong}
 use Rattle.protocol.specs.Demand3.{perform}
-use Rattle.protocol.proofs.Refused.{among, refused-unchanged}
+use Rattle.protocol.proofs.checks.Order.{among}
+use Rattle.protocol.proofs.calls.Refused.{refused-unchanged}
 use Rattle.batch.specs.Steps.{Stepped, stepsFrom, steps, steppedTo}
 use Rattle.batch.specs.FetchAll.{fetchAllChecks, fetchAll}
 use Rattle.batch.specs.Demand1.{NoneFetched, AcceptedSteps, Stopped, BatchedDemand1}

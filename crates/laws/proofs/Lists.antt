@@ -48,3 +48,10 @@ getD-sets-inside (v ∷ vs) l i zero fits inside =
 getD-sets-inside (v ∷ vs) l i (suc j) fits inside =
     let e : i + suc j ≡ suc i + j = omega arith in
     rw e (getD-sets-inside vs (set l i v) (suc i) j (simp length-set (omega arith)) (omega arith))
+
+-- a part of a list with an element set
+pub take-set : {A : Type 0} (n : ℕ) (l : List A) (i : ℕ) (a : A) → take n (set l i a) ≡ set (take n l) i a
+take-set zero l i a = refl
+take-set (suc n) [] i a = refl
+take-set (suc n) (x ∷ xs) zero a = refl
+take-set (suc n) (x ∷ xs) (suc i) a = rw (take-set n xs i a)

@@ -1,7 +1,7 @@
 -- Laws of searches and changes over numbers below a bound.
 use Rattle.laws.proofs.Prelude.{ℕ, zero, suc, _+_, _-_, _<_, _≤_, _≡_, refl, sym, _∙_, _≢_, Bool, true, false}
 use Rattle.laws.proofs.Prelude.{cond, true≢false, ℕ-discrete, decLt, arith, ltb-true, ltb-false, lt-ltb, le-ltb}
-use Rattle.laws.proofs.Prelude.{ltb}
+use Rattle.laws.proofs.Prelude.{ltb, ap}
 use native.Mathlib.Nat.{sub-zero, add-zero}
 use native.Mathlib.Numerals.{add-one}
 use Rattle.laws.specs.Search.{lowestFrom, lowest, someBelow, countBelow, inTurn}
@@ -21,12 +21,31 @@ module _ (test : ℕ → Bool) (i n : ℕ) where
   unfolding lowestFrom
   lowest-skip below fail = let one : n - i ≡ suc (n - (i + 1)) = omega arith in rw (one, fail, add-one)
 
--- two tests that agree find the same
+-- ---- tests that agree below a bound
+
+module _ (test test′ : ℕ → Bool) where
+  pub lowest-from-agree : (i n : ℕ) → ((j : ℕ) → j < i + n → test j ≡ test′ j) → lowestFrom test i n ≡ lowestFrom test′ i n
+  unfolding lowestFrom
+  lowest-from-agree i zero agree = refl
+  lowest-from-agree i (suc n) agree =
+      rw (agree i (omega arith), lowest-from-agree (suc i) n (λ j below. agree j (omega arith)))
+
+  module _ (n : ℕ) (agree : (i : ℕ) → i < n → test i ≡ test′ i) where
+    pub lowest-agree : lowest test n ≡ lowest test′ n
+    lowest-agree = lowest-from-agree 0 n (λ j below. agree j (omega arith))
+
+    pub some-agree : someBelow test n ≡ someBelow test′ n
+    some-agree = ap (λ (found : ℕ). ltb found n) lowest-agree
+
+  pub count-agree : (n : ℕ) → ((i : ℕ) → i < n → test i ≡ test′ i) → countBelow test n ≡ countBelow test′ n
+  unfolding countBelow
+  count-agree zero agree = refl
+  count-agree (suc n) agree = rw (agree n (omega arith), count-agree n (λ i below. agree i (omega arith)))
+
+-- tests that agree everywhere
 pub lowest-same : (test test′ : ℕ → Bool) → ((i : ℕ) → test i ≡ test′ i) → (i n : ℕ)
     → lowestFrom test i n ≡ lowestFrom test′ i n
-unfolding lowestFrom
-lowest-same test test′ agree i zero = refl
-lowest-same test test′ agree i (suc n) = rw (agree i, lowest-same test test′ agree (suc i) n)
+lowest-same test test′ agree i n = lowest-from-agree test test′ i n (λ j _. agree j)
 
 -- ---- where a search of n numbers from i on stops
 
@@ -212,3 +231,13 @@ pub in-turn-more : {A : Type 0} (change : ℕ → A → A) (n : ℕ) (a : A)
     → inTurn change (n + 1) a ≡ change n (inTurn change n a)
 unfolding inTurn
 in-turn-more change n a = rw add-one
+
+-- ---- changes that agree below a bound, made in turn
+
+pub in-turn-agree : {A : Type 0} (change change′ : ℕ → A → A) (n : ℕ)
+    → ((i : ℕ) → i < n → (a : A) → change i a ≡ change′ i a) → (a : A)
+    → inTurn change n a ≡ inTurn change′ n a
+unfolding inTurn
+in-turn-agree change change′ zero agree a = refl
+in-turn-agree change change′ (suc n) agree a =
+    rw (in-turn-agree change change′ n (λ i below. agree i (omega arith)) a) (agree n (omega arith) _)

@@ -11,9 +11,9 @@ use Rattle.directory.proofs.Live.{next-live-below}
 use Rattle.protocol.specs.Release.{sizeOf, isOpen}
 use Rattle.protocol.specs.Checks.{fewLive, badPage, badStatus, badCard, unfitRack, awaitsRecovery}
 use Rattle.protocol.specs.Recovery.{awaitedCard}
-use Rattle.protocol.proofs.Accepting.{Fits}
-use Rattle.protocol.proofs.Fitting as check-2
-use Rattle.protocol.proofs.Limits.{Within, within-limits}
+use Rattle.protocol.proofs.checks.Passed.{Fits}
+use Rattle.protocol.proofs.checks.Fit as check-2
+use Rattle.protocol.proofs.checks.Limits.{Within, within-limits}
 use Rattle.release.specs.Stepping.{CardIn, HomesIn, GoodRelease}
 use Rattle.release.proofs.Callers.{card-in, good-release}
 use Rattle.recovery.specs.Rack.{RackIn, SomeLive}

@@ -17,8 +17,9 @@ use Rattle.protocol.specs.Recovery.{recovery, recoveryChecks, recoveredDirector
 use Rattle.protocol.specs.Recovery.{awaitedCard}
 use Rattle.protocol.specs.Join.{join, joinChecks, joinedMemory}
 use Rattle.protocol.specs.DeskQuestion.{deskQuestion, deskChecks, deskOf}
-use Rattle.protocol.proofs.Accepting.{Passed, numbered, all-passed, Runs, OpeningPassed, StepPassed, FetchPassed, Fits}
-use Rattle.protocol.proofs.Accepting.{JoinPassed, join-passed, opening-passed, step-passed, fetch-passed, desk-passed}
+use Rattle.protocol.proofs.checks.Order.{Passed, numbered, all-passed}
+use Rattle.protocol.proofs.checks.Passed.{Runs, OpeningPassed, StepPassed, FetchPassed, Fits, JoinPassed, join-passed}
+use Rattle.protocol.proofs.checks.Passed.{opening-passed, step-passed, fetch-passed, desk-passed}
 use Rattle.checks.proofs.Order.{refused-before, passed-before, no-check}
 
 -- ---- any call

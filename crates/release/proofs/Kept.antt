@@ -4,9 +4,9 @@ use native.Mathlib.Numerals.{add-one}
 use Rattle.memory.specs.Area.{AreaIn}
 use Rattle.directory.specs.declared.Directory.{Directory}
 use Rattle.protocol.specs.Release.{sizeOf, openRelease, openPrices, stepsOf, close, stepMemory}
-use Rattle.protocol.proofs.Shape.{SameOwn, SameRelease}
-use Rattle.protocol.proofs.Stepped.{StandsIn, length-step, steps-step, step-keeps, step-keeps-other, length-close}
-use Rattle.protocol.proofs.Stepped.{load-close}
+use Rattle.protocol.proofs.release.Shape.{SameOwn, SameRelease}
+use Rattle.protocol.proofs.release.Step.{StandsIn, length-step, steps-step, step-keeps, step-keeps-other}
+use Rattle.protocol.proofs.release.Close.{length-close, load-close}
 use Rattle.release.proofs.Stores.{length-desk, stands-here, step-closed}
 
 module _ (d : Directory) (backup : ℕ) (m : List ℕ) (c : ℕ) (few : c < 8) (area : AreaIn (length m) (sizeOf d) c) where

@@ -8,7 +8,7 @@ use Rattle.directory.specs.declared.Directory.{Directory}
 use Rattle.diff.specs.Prices.{pricesOf}
 use Rattle.protocol.specs.Release.{sizeOf, openList, stepMemory}
 use Rattle.protocol.specs.Recovery.{stepTimes}
-use Rattle.protocol.proofs.Shape.{SameOwn, same-own-release, list-kept, steps-kept}
+use Rattle.protocol.proofs.release.Shape.{SameOwn, same-own-release, list-kept, steps-kept}
 use Rattle.release.specs.Stepping.{GoodRelease, Counted, StepsLeft, leftOf}
 use Rattle.release.proofs.Prices.{read-counts}
 use Rattle.release.proofs.Kept.{steps-more, step-keeps-own, step-length}

@@ -20,7 +20,7 @@ use Rattle.reader.specs.Found.{nthPrice}
 use Rattle.reader.specs.Listed.{priceOf}
 use Rattle.reader.proofs.Listing.{listed-at, few-prices}
 use Rattle.protocol.specs.Release.{openList, openPrices}
-use Rattle.protocol.proofs.Writes.{noPrice}
+use Rattle.protocol.proofs.release.Writes.{noPrice}
 use Rattle.release.specs.Stepping.{GoodRelease, Counted, Listed, NumberedPrice, listedPrice}
 
 -- what reading the list of a good release finds: as many prices as it says, and they are few

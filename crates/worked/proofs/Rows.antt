@@ -27,7 +27,7 @@ use Rattle.protocol.specs.Recovery.{stepTimes, runToClose, closeReleases, resto
 use Rattle.protocol.specs.Recovery.{lostHome, keptHome, newHome, copyToNewHome, copyToNewHomes, moveHome}
 use Rattle.protocol.specs.Recovery.{recoveredDirectory, writeFailed, writeRecords, failedRelease, restoredMemory}
 use Rattle.protocol.specs.Recovery.{recoveredMemory, awaitedCard, recovery}
-use Rattle.protocol.proofs.Accepting.{outcome-of}
+use Rattle.protocol.proofs.checks.Order.{outcome-of}
 use Rattle.worked.specs.Rows.{newRack, changedPages, twoPrices, noPrice, opened, stepped, recoveredFrom}
 use Rattle.worked.specs.Rows.{shownAfter, homesAfter, completed, Idle, rows, shown}
 

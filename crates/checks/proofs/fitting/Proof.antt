@@ -2,7 +2,7 @@
 use mathlib.Core.Path.{sym, _∙_}
 use native.Mathlib.Omega.{arith}
 use borrow.Author.Needs.{needs}
-use Rattle.protocol.proofs.Limits.{within-limits}
+use Rattle.protocol.proofs.checks.Limits.{within-limits}
 use Rattle.protocol.specs.Checks.{firstRefusal}
 use Rattle.checks.proofs.fitting.Statement.{statement}
 use Rattle.checks.proofs.fitting.Tie as tie

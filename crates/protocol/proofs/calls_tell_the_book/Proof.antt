@@ -1,5 +1,5 @@
 -- `protocol::calls_tell_the_book` meets its contract: the theorem is `demand-3` of proofs/Demand3.antt.
-use Rattle.protocol.proofs.Demand3.{demand-3}
+use Rattle.protocol.proofs.demands.Demand3.{demand-3}
 use Rattle.protocol.proofs.calls_tell_the_book.Statement.{statement}
 use Rattle.protocol.proofs.calls_tell_the_book.Tie as tie
 

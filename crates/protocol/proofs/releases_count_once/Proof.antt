@@ -1,5 +1,5 @@
 -- `protocol::releases_count_once` meets its contract: the theorem is `counts-once` of proofs/CountsOnce.antt.
-use Rattle.protocol.proofs.CountsOnce.{counts-once}
+use Rattle.protocol.proofs.demands.CountsOnce.{counts-once}
 use Rattle.protocol.proofs.releases_count_once.Statement.{statement}
 use Rattle.protocol.proofs.releases_count_once.Tie as tie
 

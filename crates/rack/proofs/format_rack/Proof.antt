@@ -3,7 +3,7 @@ use mathlib.Core.Path.{refl, sym, _∙_}
 use borrow.Author.Needs.{needs}
 use Rattle.protocol.specs.Checks.{firstRefusal}
 use Rattle.protocol.specs.Formatting.{formatting}
-use Rattle.protocol.proofs.Limits.{within-limits}
+use Rattle.protocol.proofs.checks.Limits.{within-limits}
 use Rattle.rack.proofs.format_rack.Statement.{statement}
 use Rattle.rack.proofs.format_rack.Tie as tie
 

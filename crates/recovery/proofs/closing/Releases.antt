@@ -8,7 +8,7 @@ use Rattle.directory.specs.Directory.{liveAt}
 use Rattle.directory.proofs.Live.{next-live-below}
 use Rattle.protocol.specs.Release.{sizeOf, isOpen, stepMemory}
 use Rattle.protocol.specs.Recovery.{backupBefore, stepTimes, runToClose}
-use Rattle.protocol.proofs.Shape.{SameOwn, same-own-release, is-open-kept}
+use Rattle.protocol.proofs.release.Shape.{SameOwn, same-own-release, is-open-kept}
 use Rattle.release.specs.Stepping.{CardIn, GoodRelease, StepsLeft, leftOf}
 use Rattle.release.proofs.Callers.{homes, times-by-homes}
 use Rattle.release.proofs.Kept.{step-keeps-others}

@@ -1,0 +1,11 @@
+-- Each accepted call answers what the book holds and keeps the invariant.
+pub mod Refused
+pub mod Accepted
+pub mod Opening
+pub mod Step
+pub mod Fetch
+pub mod Failure
+pub mod Recovery
+pub mod Join
+pub mod DeskQuestion
+pub mod Each

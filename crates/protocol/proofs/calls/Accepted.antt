@@ -1,0 +1,42 @@
+-- What an accepted call must come to, and a call whose checks all pass.
+use Rattle.laws.proofs.Prelude.{ℕ, _≡_, sym, ap, _∙_, subst, inl, inr, List, Bool, true, true≢false, false≢true}
+use Rattle.directory.specs.declared.Directory.{Directory}
+use Rattle.directory.specs.declared.Status.the-variants.{Running}
+use Rattle.protocol.specs.Checks.{Check, firstRefusal, awaitsRecovery}
+use Rattle.protocol.specs.Result.{Result, accepted, resultOf}
+use Rattle.protocol.specs.Book.{Call, Book, feed}
+use Rattle.protocol.specs.Demand3.{away, Tells}
+use Rattle.protocol.proofs.invariant.Rack.{RunningRack, AwaitingRack}
+use Rattle.protocol.proofs.checks.Order.{numbered, Passed, all-passed, when-accepted}
+use Rattle.protocol.proofs.checks.Passed.{Runs}
+use Rattle.protocol.proofs.invariant.Found.{Rack, NoneAway}
+
+pub record Good (call : Call) (out : ℕ → Bool) (b : Book) (result : Result) : Type 0 where
+  pub tells : Tells b call result
+  pub rack : Rack (result .directory) (result .memory) (feed call b)
+  pub here : NoneAway (result .directory) (away call out)
+
+-- a rack by its status
+pub running-rack : {d : Directory} {m : List ℕ} {b : Book} → Rack d m b → d .status ≡ Running → RunningRack d m b
+unfolding awaitsRecovery
+running-rack (inl rack) running = rack
+running-rack (inr rack) running = absurd (true≢false (ap awaitsRecovery (sym (rack .1 .awaiting) ∙ running)))
+
+pub awaiting-rack : {d : Directory} {m : List ℕ} {b : Book} → Rack d m b → awaitsRecovery (d .status) ≡ true
+    → (f : ℕ) × AwaitingRack d f m b
+unfolding awaitsRecovery
+awaiting-rack (inl rack) awaits = absurd (false≢true (ap awaitsRecovery (sym (rack .running)) ∙ awaits))
+awaiting-rack (inr rack) awaits = rack
+
+module _ (d : Directory) (m : List ℕ) (b : Book) (out : ℕ → Bool) (rack : Rack d m b) (here : NoneAway d out) where
+  -- a call whose checks all pass
+  pub by-checks : (call : Call) (checks : List Check) (value : ℕ) (done : Result) (words : List ℕ)
+      → done .outcome ≡ firstRefusal checks value → numbered checks ≡ true → (Passed checks → Good call out b done)
+      → accepted (resultOf (firstRefusal checks value) done d m words .outcome) ≡ true
+      → Good call out b (resultOf (firstRefusal checks value) done d m words)
+  by-checks call checks value done words same real good ok =
+      let taken = when-accepted (firstRefusal checks value) done d m words same ok in
+      subst (Good call out b) (sym (taken .1)) (good (all-passed checks value real (taken .0)))
+
+  pub running : Runs d m → RunningRack d m b
+  running runs = running-rack rack (runs .running)

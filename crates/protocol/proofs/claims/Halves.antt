@@ -1,0 +1,251 @@
+-- The two halves of the pages, tentative and committed, as claims on them speak of them.
+use Rattle.laws.proofs.Prelude.{ℕ, suc, _+_, _-_, _*_, _≤_, _<_, _≡_, refl, _∙_, List, [], _∷_, _++_, Bool, true, false}
+use Rattle.laws.proofs.Prelude.{cond, arith, lt-ltb, le-ltb, length, drop, ltb}
+use lib.ListN.{drop-of-length-le}
+use lib.Seq.{drop-append-add}
+use Rattle.memory.specs.Layout.{pageStart, tentativeHalf, committedHalf, recordStamp, recordDone, recordDesk}
+use Rattle.directory.specs.declared.Directory.{Directory}
+use Rattle.diff.specs.declared.Price.{Price}
+use Rattle.diff.specs.Prices.{names, laidAt}
+use Rattle.diff.proofs.Prices.{laid-none, laid-unnamed}
+use Rattle.diff.proofs.Stored.{OnPages, prices-on-pages}
+use Rattle.protocol.specs.Release.{Release, Write, priceWrites, runWrites, releaseWrites, countsAt}
+use Rattle.protocol.specs.Book.{Opened, none, opened, listPrices}
+use Rattle.protocol.proofs.release.Writes.{length-writes, length-price-writes, length-run-writes}
+use Rattle.protocol.proofs.release.WordAfter.{over, over-none, over-first, over-append, over-miss, written, Misses}
+use Rattle.protocol.proofs.release.WordAfter.{misses-append, misses-drop, run-misses, prices-miss, unnamed-miss, prices-over}
+use Rattle.protocol.proofs.release.WordAfter.{HomeOf}
+use Rattle.protocol.proofs.book.Changes.{pricesIn, EightWords, uncounted, uncounted-none}
+use Rattle.protocol.proofs.claims.Claim.{Half}
+use Rattle.protocol.proofs.release.Step.{stepWrite}
+
+-- the prices of any list are on pages that a rack may have
+pub on-pages : (list : List ℕ) → OnPages 64 (listPrices list)
+on-pages list = prices-on-pages 64 list
+
+-- what is left of two lists past the first
+drop-part : (us ws : List Write) (s n : ℕ) → s ≡ length us + n → drop s (us ++ ws) ≡ drop n ws
+drop-part us ws s n at = rw at (drop-append-add us ws n)
+
+-- ---- the writes of a release, at a page word
+
+module _ (d : Directory) (backup c : ℕ) (r : Release) (ps : List Price) (few : c < 8) (eight : length (r .desk) ≡ 8)
+    (on : OnPages 64 ps) where
+  -- the records stand below the pages
+  records-miss : (card p w half : ℕ) → w < 32 → half ≤ 32
+      → Misses card (pageStart p + (half + w)) (runWrites backup (recordDesk c (r .number)) (r .desk))
+      × Misses card (pageStart p + (half + w)) (runWrites backup (recordStamp c) (r .number ∷ []))
+      × Misses card (pageStart p + (half + w)) (runWrites backup (recordDone c) (r .number ∷ []))
+  records-miss card p w half within small = (
+    run-misses backup (recordDesk c (r .number)) (r .desk) card _ (λ j inside e. omega arith),
+    run-misses backup (recordStamp c) (r .number ∷ []) card _ (λ j inside e. omega arith),
+    run-misses backup (recordDone c) (r .number ∷ []) card _ (λ j inside e. omega arith),
+  )
+
+  -- the writes miss a page word if both halves' writes do
+  all-miss : (card p w half : ℕ) → w < 32 → half ≤ 32
+      → Misses card (pageStart p + (half + w)) (priceWrites d tentativeHalf ps)
+      → Misses card (pageStart p + (half + w)) (priceWrites d committedHalf ps)
+      → Misses card (pageStart p + (half + w)) (releaseWrites d backup c r ps)
+  unfolding releaseWrites
+  all-miss card p w half within small first second =
+      let records = records-miss card p w half within small in
+      misses-append first
+      (misses-append (records .0) (misses-append (records .1) (misses-append second (records .2))))
+
+  -- at a label that the prices do not name
+  pub tentative-misses : (card p w : ℕ) → w < 32 → names ps (32 * p + w) ≡ false
+      → Misses card (pageStart p + (tentativeHalf + w)) (releaseWrites d backup c r ps)
+  tentative-misses card p w within unnamed =
+      all-miss card p w tentativeHalf within (omega arith)
+      (unnamed-miss d tentativeHalf ps card p w within (omega arith) 64 on unnamed)
+      (prices-miss d committedHalf ps card _ (λ q v inside e. omega arith) 64 on)
+
+  pub committed-misses : (card p w : ℕ) → w < 32 → names ps (32 * p + w) ≡ false
+      → Misses card (pageStart p + (committedHalf + w)) (releaseWrites d backup c r ps)
+  committed-misses card p w within unnamed =
+      all-miss card p w committedHalf within (omega arith)
+      (prices-miss d tentativeHalf ps card _ (λ q v inside e. omega arith) 64 on)
+      (unnamed-miss d committedHalf ps card p w within (omega arith) 64 on unnamed)
+
+  -- what follows the tentative words misses them
+  after-tentative : (card p w s : ℕ) → w < 32 → 2 * length ps ≤ s
+      → Misses card (pageStart p + (tentativeHalf + w)) (drop s (releaseWrites d backup c r ps))
+  unfolding releaseWrites
+  after-tentative card p w s within late =
+      let records = records-miss card p w tentativeHalf within (omega arith) in
+      let second = prices-miss d committedHalf ps card (pageStart p + (tentativeHalf + w))
+      (λ q u inside e. omega arith) 64 on in
+      let at : s ≡ length (priceWrites d tentativeHalf ps) + (s - 2 * length ps) =
+      omega (arith, length-price-writes d tentativeHalf ps) in
+      rw (drop-part (priceWrites d tentativeHalf ps) _ s (s - 2 * length ps) at)
+      (misses-drop (s - 2 * length ps)
+      (misses-append (records .0) (misses-append (records .1) (misses-append second (records .2)))))
+
+  -- what follows the stamp
+  after-stamp : drop (countsAt (length ps)) (releaseWrites d backup c r ps)
+      ≡ priceWrites d committedHalf ps ++ runWrites backup (recordDone c) (r .number ∷ [])
+  unfolding releaseWrites
+  after-stamp =
+      let first = length-price-writes d tentativeHalf ps in
+      let desk = length-run-writes backup (recordDesk c (r .number)) (r .desk) ∙ eight in
+      drop-part (priceWrites d tentativeHalf ps) _ (countsAt (length ps)) 9 (omega arith)
+      ∙ drop-part (runWrites backup (recordDesk c (r .number)) (r .desk)) _ 9 1 (omega arith)
+
+  -- the writes from the count on lay the prices on the committed words
+  pub committed-over : (h p w v : ℕ) → w < 32 → HomeOf d h p
+      → over (drop (countsAt (length ps)) (releaseWrites d backup c r ps)) h (pageStart p + (committedHalf + w)) v
+      ≡ laidAt ps (32 * p + w) v
+  committed-over h p w v within home =
+      rw after-stamp
+      (over-append (priceWrites d committedHalf ps) _ h (pageStart p + (committedHalf + w)) v
+      ∙ over-miss _ (records-miss h p w committedHalf within (omega arith) .2)
+      ∙ prices-over d committedHalf ps h p w v within (omega arith) home 64 on)
+
+  -- all of them lay the prices on the tentative words
+  pub tentative-over : (h p w v : ℕ) → w < 32 → HomeOf d h p
+      → over (releaseWrites d backup c r ps) h (pageStart p + (tentativeHalf + w)) v ≡ laidAt ps (32 * p + w) v
+  unfolding releaseWrites
+  tentative-over h p w v within home =
+      let records = records-miss h p w tentativeHalf within (omega arith) in
+      let second = prices-miss d committedHalf ps h (pageStart p + (tentativeHalf + w)) (λ q u inside e. omega arith)
+      64 on in
+      over-append (priceWrites d tentativeHalf ps) _ h (pageStart p + (tentativeHalf + w)) v
+      ∙ over-miss _ (misses-append (records .0) (misses-append (records .1) (misses-append second (records .2))))
+      ∙ prices-over d tentativeHalf ps h p w v within (omega arith) home 64 on
+
+-- ---- what a card's release has still to write
+
+-- all writes from its steps on
+unfoldable pub pending : Directory → (ℕ → ℕ) → ℕ → Opened → List Write
+pending d backup c none = []
+pending d backup c (opened r list s) = drop s (releaseWrites d (backup c) c r (listPrices list))
+
+-- the same once the release counts; before, no committed word is to change
+unfoldable pub pendingCommitted : Directory → (ℕ → ℕ) → ℕ → Opened → List Write
+pendingCommitted d backup c none = []
+pendingCommitted d backup c (opened r list s) =
+    cond (ltb s (countsAt (length (listPrices list)))) [] (drop s (releaseWrites d (backup c) c r (listPrices list)))
+
+module _ (d : Directory) (backup : ℕ → ℕ) where
+  pub pending-none : (c : ℕ) → pending d backup c none ≡ []
+  unfolding pending
+  pending-none c = refl
+
+  pub committed-none : (c : ℕ) → pendingCommitted d backup c none ≡ []
+  unfolding pendingCommitted
+  committed-none c = refl
+
+  pub pending-unnamed : (c h p w v : ℕ) (R : Opened) → c < 8 → EightWords R → w < 32
+      → names (pricesIn R) (32 * p + w) ≡ false
+      → over (pending d backup c R) h (pageStart p + (tentativeHalf + w)) v ≡ v
+  unfolding pending
+  pending-unnamed c h p w v none few eight within unnamed = over-none h _ v
+  pending-unnamed c h p w v (opened r list s) few eight within unnamed =
+      over-miss v
+      (misses-drop s (tentative-misses d (backup c) c r (listPrices list) few eight (on-pages list) h p w within
+      unnamed))
+
+  pub committed-unnamed : (c h p w v : ℕ) (R : Opened) → c < 8 → EightWords R → w < 32
+      → names (pricesIn R) (32 * p + w) ≡ false
+      → over (pendingCommitted d backup c R) h (pageStart p + (committedHalf + w)) v ≡ v
+  unfolding pendingCommitted
+  committed-unnamed c h p w v none few eight within unnamed = over-none h _ v
+  committed-unnamed c h p w v (opened r list s) few eight within unnamed = go
+      (ltb s (countsAt (length (listPrices list))))
+    where
+      go : (early : Bool)
+          → over (cond early [] (drop s (releaseWrites d (backup c) c r (listPrices list)))) h
+          (pageStart p + (committedHalf + w)) v
+          ≡ v
+      go true = over-none h _ v
+      go false =
+          over-miss v
+          (misses-drop s (committed-misses d (backup c) c r (listPrices list) few eight (on-pages list) h p w within
+          unnamed))
+
+-- the writes of an open release, one step on
+module _ (d : Directory) (backup : ℕ → ℕ) (c : ℕ) (r : Release) (list : List ℕ) (s : ℕ) (eight : length (r .desk) ≡ 8)
+  where
+    pub pending-first : (h o v : ℕ) → s < 4 * length (listPrices list) + 10
+        → over (pending d backup c (opened r list s)) h o v
+        ≡ over (pending d backup c (opened r list (suc s))) h o
+        (written (stepWrite d (backup c) c r (listPrices list) s) h o v)
+    unfolding pending
+    pending-first h o v before =
+        over-first (releaseWrites d (backup c) c r (listPrices list)) s h o v
+        (omega (arith, length-writes d (backup c) c r (listPrices list) eight))
+
+    pub pending-over : 4 * length (listPrices list) + 10 ≤ s → pending d backup c (opened r list s) ≡ []
+    unfolding pending
+    pending-over past =
+        drop-of-length-le (releaseWrites d (backup c) c r (listPrices list)) {i = s}
+        (omega (arith, length-writes d (backup c) c r (listPrices list) eight))
+
+    -- once the tentative words are written none of them is to be
+    pub tentative-late : c < 8 → 2 * length (listPrices list) ≤ s → (h p w v : ℕ) → w < 32
+        → over (pending d backup c (opened r list s)) h (pageStart p + (tentativeHalf + w)) v ≡ v
+    unfolding pending
+    tentative-late few late h p w v within =
+        over-miss v (after-tentative d (backup c) c r (listPrices list) few eight (on-pages list) h p w s within late)
+
+    -- at the opening the tentative words are all to be written
+    pub tentative-first : c < 8 → s ≡ 0 → (h p w v : ℕ) → w < 32 → HomeOf d h p
+        → over (pending d backup c (opened r list s)) h (pageStart p + (tentativeHalf + w)) v
+        ≡ laidAt (listPrices list) (32 * p + w) v
+    unfolding pending
+    tentative-first few opening h p w v within home =
+        rw opening (tentative-over d (backup c) c r (listPrices list) few eight (on-pages list) h p w v within home)
+
+    -- at the count the committed words are all to be written
+    pub committed-first : c < 8 → s ≡ countsAt (length (listPrices list)) → (h p w v : ℕ) → w < 32 → HomeOf d h p
+        → over (pending d backup c (opened r list s)) h (pageStart p + (committedHalf + w)) v
+        ≡ laidAt (listPrices list) (32 * p + w) v
+    unfolding pending
+    committed-first few counts h p w v within home =
+        rw counts (committed-over d (backup c) c r (listPrices list) few eight (on-pages list) h p w v within home)
+
+    pub committed-early : s < countsAt (length (listPrices list)) → pendingCommitted d backup c (opened r list s) ≡ []
+    unfolding pendingCommitted
+    committed-early early = rw (lt-ltb s (countsAt (length (listPrices list))) early)
+
+    pub committed-late : countsAt (length (listPrices list)) ≤ s
+        → pendingCommitted d backup c (opened r list s) ≡ pending d backup c (opened r list s)
+    unfolding pendingCommitted pending
+    committed-late late = rw (le-ltb s (countsAt (length (listPrices list))) late)
+
+pub uncounted-unnamed : (label v : ℕ) (R : Opened) → names (pricesIn R) label ≡ false
+    → laidAt (uncounted R) label v ≡ v
+unfolding uncounted
+uncounted-unnamed label v none unnamed = laid-none label v
+uncounted-unnamed label v (opened r list s) unnamed = go (ltb s (countsAt (length (listPrices list))))
+  where
+    go : (early : Bool) → laidAt (cond early (listPrices list) []) label v ≡ v
+    go true = laid-unnamed (listPrices list) label v unnamed
+    go false = laid-none label v
+
+-- ---- the halves
+
+abbrev pub tentatives : (d : Directory) → (ℕ → ℕ) → Half d
+tentatives d backup =
+    record {
+      half = tentativeHalf;
+      todo = pending d backup;
+      due = uncounted;
+      todo-none = pending-none d backup;
+      due-none = uncounted-none;
+      todo-unnamed = pending-unnamed d backup;
+      due-unnamed = uncounted-unnamed;
+    }
+
+abbrev pub committeds : (d : Directory) → (ℕ → ℕ) → Half d
+committeds d backup =
+    record {
+      half = committedHalf;
+      todo = pendingCommitted d backup;
+      due = λ R. [];
+      todo-none = committed-none d backup;
+      due-none = refl;
+      todo-unnamed = committed-unnamed d backup;
+      due-unnamed = λ label v R unnamed. laid-none label v;
+    }

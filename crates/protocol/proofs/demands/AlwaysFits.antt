@@ -1,0 +1,59 @@
+-- No call on a rack that agrees with its book is refused with 2.
+use Rattle.laws.proofs.Prelude.{ℕ, _≡_, refl, sym, _∙_, _≢_, List, [], Bool, true, false, true≢false, arith, eqb-true}
+use Rattle.laws.proofs.Prelude.{length, drop}
+use Rattle.memory.specs.Layout.{deskSize}
+use Rattle.memory.specs.Area.{zeros}
+use Rattle.answer.specs.Outcome.{unfit}
+use Rattle.directory.specs.declared.Directory.{Directory}
+use Rattle.protocol.specs.Checks.{Check, firstRefusal}
+use Rattle.protocol.specs.Result.{Result, accepted, resultOf}
+use Rattle.protocol.specs.Opening.{opening, openingChecks}
+use Rattle.protocol.specs.Step.{step, stepChecks}
+use Rattle.protocol.specs.Fetch.{fetch, fetchChecks}
+use Rattle.protocol.specs.Failure.{failure, failureChecks}
+use Rattle.protocol.specs.Recovery.{recovery, recoveryChecks}
+use Rattle.protocol.specs.Join.{join, joinChecks}
+use Rattle.protocol.specs.DeskQuestion.{deskQuestion, deskChecks}
+use Rattle.protocol.specs.Book.{Call, open-release, make-step, fetch-page, fail-card, recover, join-card}
+use Rattle.protocol.specs.Book.{ask-desk}
+use Rattle.protocol.specs.Demand1.{isAmong}
+use Rattle.protocol.specs.Demand3.{perform, answerTo}
+use Rattle.protocol.specs.Corollaries.{AlwaysFits}
+use Rattle.protocol.proofs.checks.Passed.{Fits}
+use Rattle.protocol.proofs.checks.Order.{outcome-of, numbersOf, among}
+use Rattle.protocol.proofs.invariant.Fits.{rack-fits}
+use Rattle.protocol.proofs.demands.Demand3.{everywhere}
+
+other-number : (cs : List Check) (value : ℕ) → isAmong (numbersOf cs) unfit ≡ false
+    → firstRefusal cs value .number ≢ unfit
+other-number cs value absent same = go (accepted (firstRefusal cs value)) refl
+  where
+    go : (taken : Bool) → accepted (firstRefusal cs value) ≡ taken → ⊥
+    go true ok = omega (arith, same, eqb-true (firstRefusal cs value .number) 0 ok)
+    go false refused = true≢false (sym (among cs value refused) ∙ (rw same absent))
+
+module _ (d : Directory) (m : List ℕ) (fits : Fits d m) where
+  -- a call whose first two checks are 1 and 2
+  by-checks : (cs : List Check) (value : ℕ) (done : Result) (words : List ℕ) → done .outcome ≡ firstRefusal cs value
+      → firstRefusal cs value ≡ firstRefusal (drop 2 cs) value → isAmong (numbersOf (drop 2 cs)) unfit ≡ false
+      → resultOf (firstRefusal cs value) done d m words .outcome .number ≢ unfit
+  by-checks cs value done words same passed absent =
+      rw (outcome-of (firstRefusal cs value) done d m words same, passed) (other-number (drop 2 cs) value absent)
+
+  never-unfit : (call : Call) → perform call d m .outcome .number ≢ unfit
+  unfolding perform opening step fetch failure recovery join deskQuestion firstRefusal isAmong
+  never-unfit (open-release card r list) =
+      by-checks (openingChecks d m card (r .number) list) 0 _ [] refl (rw (fits .limits, fits .fit)) refl
+  never-unfit (make-step card) = by-checks (stepChecks d m card) 0 _ [] refl (rw (fits .limits, fits .fit)) refl
+  never-unfit (fetch-page page buffer) =
+      by-checks (fetchChecks d m page (length buffer)) 0 _ buffer refl (rw (fits .limits, fits .fit)) refl
+  never-unfit (fail-card card) = by-checks (failureChecks d m card) 0 _ [] refl (rw (fits .limits, fits .fit)) refl
+  never-unfit recover = by-checks (recoveryChecks d m) _ _ (zeros deskSize) refl (rw (fits .limits, fits .fit)) refl
+  never-unfit (join-card card) = by-checks (joinChecks d m card) 0 _ [] refl (rw (fits .limits, fits .fit)) refl
+  never-unfit (ask-desk card) =
+      by-checks (deskChecks d m card) 0 _ (zeros deskSize) refl (rw (fits .limits, fits .fit)) refl
+
+pub always-fits : AlwaysFits
+always-fits =
+    everywhere (λ b d v. answerTo d v .outcome .number ≢ unfit)
+    (λ d out b v rack here typed. never-unfit d (v .found) (rack-fits d (v .found) b rack) (v .call))

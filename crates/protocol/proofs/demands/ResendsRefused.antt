@@ -1,0 +1,75 @@
+-- A release that the book has is refused with 4 or 5 when it is sent again.
+use Rattle.laws.proofs.Prelude.{ℕ, _≤_, _≡_, refl, ap, _⊎_, inl, List, [], _∷_, true, arith, le-leb, lt-leb, drop}
+use Rattle.answer.specs.declared.Outcome.{Outcome}
+use Rattle.directory.specs.declared.Directory.{Directory}
+use Rattle.directory.specs.Directory.{isLive}
+use Rattle.protocol.specs.Release.{Release, sizeOf, ownRelease}
+use Rattle.protocol.specs.Checks.{firstRefusal, awaitsRecovery}
+use Rattle.protocol.specs.Result.{Result}
+use Rattle.protocol.specs.Opening.{opening, openingChecks, openMemory}
+use Rattle.protocol.specs.Book.{Call, open-release, make-step, fetch-page, fail-card, recover, join-card}
+use Rattle.protocol.specs.Book.{ask-desk, Opened, none, opened, Book}
+use Rattle.protocol.specs.Demand1.{isAmong}
+use Rattle.protocol.specs.Demand3.{Visit, perform}
+use Rattle.protocol.specs.Corollaries.{OpenUnder, ResendRefused, ResendsRefused}
+use Rattle.protocol.proofs.invariant.Rack.{RunningRack}
+use Rattle.protocol.proofs.checks.Passed.{Fits}
+use Rattle.protocol.proofs.checks.Order.{outcome-of}
+use Rattle.protocol.proofs.invariant.Found.{Rack}
+use Rattle.protocol.proofs.invariant.Running.{is-open, idle-word, own-is-last}
+use Rattle.protocol.proofs.calls.Accepted.{running-rack}
+use Rattle.protocol.proofs.invariant.Fits.{rack-fits}
+use Rattle.protocol.proofs.demands.Demand3.{everywhere}
+
+module _ (d : Directory) (m : List ℕ) (b : Book) (rack : RunningRack d m b) (fits : Fits d m) (c : ℕ)
+    (live : isLive d c ≡ true) (r : Release) (list : List ℕ) where
+  -- the checks before 4 pass
+  number-is : (number : ℕ) → firstRefusal (drop 4 (openingChecks d m c (r .number) list)) 0 .number ≡ number
+      → opening d m c r list .outcome .number ≡ number
+  unfolding opening firstRefusal awaitsRecovery
+  number-is number rest =
+      let o : Outcome = firstRefusal (openingChecks d m c (r .number) list) 0 in
+      let done : Result = record { outcome = o; directory = d; memory = openMemory (sizeOf d) m c r list; words = [] }
+      in
+      rw (
+        outcome-of o done d m [] refl,
+        fits .limits,
+        fits .fit,
+        rack .running,
+        lt-leb (d .cards) c (rack .core .shape .below c live),
+        live,
+      )
+      rest
+
+  resent : (R : Opened) → b .release c ≡ R → (r .number ≤ b .last c .number) ⊎ OpenUnder R (r .number)
+      → isAmong (4 ∷ 5 ∷ []) (opening d m c r list .outcome .number) ≡ true
+  unfolding firstRefusal isAmong
+  resent none is (inl low) =
+      let own : ownRelease (sizeOf d) m c .number ≡ b .last c .number =
+      ap (λ (own : Release). own .number) (own-is-last d m b rack c live is) in
+      rw (number-is 5 (rw (
+        idle-word d m b rack c live is,
+        le-leb (r .number) (ownRelease (sizeOf d) m c .number)
+            (omega arith),
+      )))
+  resent (opened r′ list′ s) is taken = rw (number-is 4 (rw (is-open d m b rack c r′ list′ s is)))
+
+resend-refused : (d : Directory) (b : Book) (v : Visit) → Rack d (v .found) b → (call : Call) → v .call ≡ call
+    → ResendRefused b d v call
+unfolding ResendRefused perform
+resend-refused d b v rack (open-release card r list) is = λ running live taken.
+    rw is
+    (resent d (v .found) b (running-rack rack running) (rack-fits d (v .found) b rack) card live r list
+    (b .release card) refl
+    taken)
+resend-refused d b v rack (make-step card) is = tt
+resend-refused d b v rack (fetch-page page buffer) is = tt
+resend-refused d b v rack (fail-card card) is = tt
+resend-refused d b v rack recover is = tt
+resend-refused d b v rack (join-card card) is = tt
+resend-refused d b v rack (ask-desk card) is = tt
+
+pub resends-refused : ResendsRefused
+resends-refused =
+    everywhere (λ b d v. ResendRefused b d v (v .call))
+    (λ d out b v rack here typed. resend-refused d b v rack (v .call) refl)

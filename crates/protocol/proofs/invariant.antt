@@ -1,0 +1,13 @@
+-- The invariant of demand 3, and what keeps it.
+pub mod Core
+pub mod Kept
+pub mod Rack
+pub mod Found
+pub mod Running
+pub mod Formatted
+pub mod Opening
+pub mod Step
+pub mod Shown
+pub mod Failure
+pub mod TwoLive
+pub mod Fits

@@ -1,0 +1,42 @@
+-- A recovery reads nothing past a directory's cards and pages, and keeps what stands there.
+use Rattle.laws.proofs.Prelude.{ℕ, _≡_, refl, ap, List, false, not-false}
+use Rattle.memory.specs.Layout.{deskSize}
+use Rattle.memory.specs.Area.{zeros}
+use Rattle.directory.specs.declared.Directory.{Directory}
+use Rattle.directory.specs.Directory.{isLive}
+use Rattle.protocol.specs.Release.{Release}
+use Rattle.protocol.specs.Checks.{awaitsRecovery}
+use Rattle.protocol.specs.Recovery.{awaitedCard, recoveryChecks, recovery, failedRelease}
+use Rattle.protocol.specs.PastLimits.{belowLimits}
+use Rattle.protocol.proofs.checks.Order.{Passed, SameChecks, none, more}
+use Rattle.protocol.proofs.checks.Fit.{fitting}
+use Rattle.protocol.proofs.past_limits.Changes.{recovered-same, recovered-kept}
+use Rattle.protocol.proofs.past_limits.Checks.{fitting-then}
+use Rattle.protocol.proofs.past_limits.Call.{CallBelow, by-checks}
+use Rattle.protocol.proofs.past_limits.RecoveredMemory.{release-below, recovered-below}
+
+module _ (d : Directory) (m : List ℕ) where
+  checks-below : SameChecks (recoveryChecks (belowLimits d) m) (recoveryChecks d m)
+  checks-below = fitting-then d m (more refl (λ _. none))
+
+  abbrev f : ℕ
+  f = awaitedCard (d .status)
+
+  dead : Passed (recoveryChecks d m) → isLive d f ≡ false
+  dead p = fitting d m (p .1 .0) .awaited (not-false (awaitsRecovery (d .status)) (p .1 .1 .0)) .1
+
+  same-release : Passed (recoveryChecks d m) → failedRelease (belowLimits d) f m ≡ failedRelease d f m
+  same-release p = release-below d (fitting d m (p .1 .0)) f (dead p) m
+
+  pub recovery-below : CallBelow d (recovery (belowLimits d) m) (recovery d m)
+  unfolding recovery
+  recovery-below =
+      by-checks d m _ _ (zeros deskSize) checks-below refl refl refl
+      (λ p. ap (λ (r : Release). r .number) (same-release p))
+      (λ p.
+      record {
+        directory = recovered-same d f;
+        memory = recovered-below d (fitting d m (p .1 .0)) f (dead p) m;
+        words = ap (λ (r : Release). r .desk) (same-release p);
+        kept = recovered-kept d f;
+      })

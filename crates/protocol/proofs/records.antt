@@ -1,0 +1,6 @@
+-- A card's record on another card: what it says, and how it is written.
+pub mod Matching
+pub mod Reading
+pub mod Settled
+pub mod Failed
+pub mod Own

@@ -1,0 +1,143 @@
+-- Pages copied to new homes: what shows the book's prices goes on showing them, and each new home shows them too.
+use Rattle.laws.proofs.Prelude.{ℕ, zero, suc, _+_, _*_, _≤_, _<_, _≡_, refl, sym, _∙_, _≢_, _⊎_, inl, inr, List, Bool}
+use Rattle.laws.proofs.Prelude.{true, false, true≢false, arith, ℕ-discrete, length}
+use Rattle.laws.specs.Search.{inTurn}
+use Rattle.memory.specs.Layout.{pageStart, pageSize, tentative, tentativeHalf, committedHalf}
+use Rattle.memory.specs.Area.{load, copyRun}
+use Rattle.memory.proofs.Index.{Outside, outside-other-card, outside-below, outside-other-offset}
+use Rattle.memory.proofs.Runs.{length-copy-run, load-copy-run-outside, load-copy-run-inside}
+use Rattle.directory.specs.declared.Directory.{Directory}
+use Rattle.directory.specs.Directory.{isLive}
+use Rattle.protocol.specs.Release.{sizeOf}
+use Rattle.protocol.specs.Recovery.{lostHome, keptHome, newHome, copyToNewHome, copyToNewHomes}
+use Rattle.protocol.proofs.release.Shape.{Shape, area-of-live, shape-kept}
+
+-- both halves of a page at a card are the book's
+pub record Right (size : ℕ) (price : ℕ → ℕ) (m : List ℕ) (h p : ℕ) : Type 0 where
+  pub tentatives : (w : ℕ) → w < 32 → load size m h (pageStart p + (tentativeHalf + w)) ≡ price (32 * p + w)
+  pub committeds : (w : ℕ) → w < 32 → load size m h (pageStart p + (committedHalf + w)) ≡ price (32 * p + w)
+
+-- a page whose words are those of a page that is right
+pub right-same : {size : ℕ} {price : ℕ → ℕ} {m m′ : List ℕ} {h h′ p : ℕ}
+    → ((o : ℕ) → o < 64 → load size m′ h′ (pageStart p + o) ≡ load size m h (pageStart p + o)) → Right size price m h p
+    → Right size price m′ h′ p
+right-same same right =
+    record {
+      tentatives = λ w within. same (tentativeHalf + w) (omega arith) ∙ right .tentatives w within;
+      committeds = λ w within. same (committedHalf + w) (omega arith) ∙ right .committeds w within;
+    }
+
+-- ---- one page
+
+module _ (d : Directory) (f page : ℕ) (m : List ℕ) where
+  copies : lostHome d f page ≡ true
+      → copyToNewHome d f page m
+      ≡ copyRun (sizeOf d) m (keptHome d f page) (tentative page) (newHome d f page) (tentative page)
+      (pageSize + pageSize)
+  unfolding copyToNewHome
+  copies lost = rw lost
+
+  copies-not : lostHome d f page ≡ false → copyToNewHome d f page m ≡ m
+  unfolding copyToNewHome
+  copies-not whole = rw whole
+
+  module _ (lost : lostHome d f page ≡ true) (fits : page < d .pages) where
+    outside : (h o : ℕ) → Outside (sizeOf d) (newHome d f page) (tentative page) (pageSize + pageSize) h o
+        → load (sizeOf d) (copyToNewHome d f page m) h o ≡ load (sizeOf d) m h o
+    outside h o away = rw (copies lost) (load-copy-run-outside (sizeOf d) m _ _ _ _ (pageSize + pageSize) h o away)
+
+    copied-low : (h o : ℕ) → o < 676 → load (sizeOf d) (copyToNewHome d f page m) h o ≡ load (sizeOf d) m h o
+    copied-low h o low = outside h o (outside-below (omega arith) (omega arith))
+
+    copied-elsewhere : (h p o : ℕ) → p < d .pages → o < 64 → (h ≢ newHome d f page) ⊎ (p ≢ page)
+        → load (sizeOf d) (copyToNewHome d f page m) h (pageStart p + o) ≡ load (sizeOf d) m h (pageStart p + o)
+    copied-elsewhere h p o inside within (inl other) = outside h _
+        (outside-other-card other (omega arith) (omega arith))
+    copied-elsewhere h p o inside within (inr other) =
+        outside h _ (outside-other-offset (λ j below e. omega arith) (omega arith) (omega arith))
+
+    copied-there : Shape d m → isLive d (keptHome d f page) ≡ true → isLive d (newHome d f page) ≡ true → (o : ℕ)
+        → o < 64
+        → load (sizeOf d) (copyToNewHome d f page m) (newHome d f page) (pageStart page + o)
+        ≡ load (sizeOf d) m (keptHome d f page) (pageStart page + o)
+    copied-there shape kept new o within =
+        rw (copies lost)
+        (load-copy-run-inside (sizeOf d) m (keptHome d f page) (tentative page) (newHome d f page) (tentative page)
+        (pageSize + pageSize) (area-of-live shape _ kept) (area-of-live shape _ new) (omega arith) (omega arith) o
+        within)
+
+-- ---- the pages below n
+
+pub record RehomedBelow (d : Directory) (f : ℕ) (price : ℕ → ℕ) (n : ℕ) (m m′ : List ℕ) : Type 0 where
+  pub same-length : length m′ ≡ length m
+  pub low : (h o : ℕ) → o < 676 → load (sizeOf d) m′ h o ≡ load (sizeOf d) m h o
+  pub stays : (h p : ℕ) → p < d .pages → Right (sizeOf d) price m h p → Right (sizeOf d) price m′ h p
+  pub new : (p : ℕ) → p < n → p < d .pages → lostHome d f p ≡ true → Right (sizeOf d) price m′ (newHome d f p) p
+
+module _ (d : Directory) (f : ℕ) (price : ℕ → ℕ) (m : List ℕ) (shape : Shape d m)
+    (kept-live : (p : ℕ) → p < d .pages → lostHome d f p ≡ true → isLive d (keptHome d f p) ≡ true)
+    (kept-right : (p : ℕ) → p < d .pages → lostHome d f p ≡ true → Right (sizeOf d) price m (keptHome d f p) p)
+    (new-live : (p : ℕ) → p < d .pages → lostHome d f p ≡ true → isLive d (newHome d f p) ≡ true) where
+  one-page : (n : ℕ) (m′ : List ℕ) → n < d .pages → RehomedBelow d f price n m m′
+      → RehomedBelow d f price (suc n) m (copyToNewHome d f n m′)
+  one-page n m′ fits below = go (lostHome d f n) refl
+    where
+      go : (was : Bool) → lostHome d f n ≡ was → RehomedBelow d f price (suc n) m (copyToNewHome d f n m′)
+      go false whole =
+          rw (copies-not d f n m′ whole)
+          (record {
+            same-length = below .same-length;
+            low = below .low;
+            stays = below .stays;
+            new = λ p before inside lost.
+                elim (ℕ-discrete p n) [
+                  | yes same ↦ absurd (true≢false (sym lost ∙ rw same whole))
+                  | no other ↦ below .new p (omega arith) inside lost
+                ];
+          })
+      go true lost =
+          record {
+            same-length = rw (copies d f n m′ lost) (length-copy-run _ _ _ _ _ _ _ ∙ below .same-length);
+            low = λ h o small. copied-low d f n m′ lost fits h o small ∙ below .low h o small;
+            stays = λ h p inside right. still h p inside (below .stays h p inside right);
+            new = λ p before inside lost-too.
+                elim (ℕ-discrete p n) [
+                  | yes same ↦ rw same there
+                  | no other ↦ still (newHome d f p) p inside (below .new p (omega arith) inside lost-too)
+                ];
+          }
+        where
+          there : Right (sizeOf d) price (copyToNewHome d f n m′) (newHome d f n) n
+          there =
+              right-same
+              (copied-there d f n m′ lost fits (shape-kept shape m′ (below .same-length)) (kept-live n fits lost)
+              (new-live n fits lost))
+              (below .stays (keptHome d f n) n fits (kept-right n fits lost))
+
+          still : (h p : ℕ) → p < d .pages → Right (sizeOf d) price m′ h p
+              → Right (sizeOf d) price (copyToNewHome d f n m′) h p
+          still h p inside right =
+              elim (ℕ-discrete p n) [
+                | yes same ↦ elim (ℕ-discrete h (newHome d f n)) [
+                  | yes here ↦ rw (same, here) there
+                  | no other ↦ right-same
+                      (λ o within. copied-elsewhere d f n m′ lost fits h p o inside within (inl other)) right
+                ]
+                | no other ↦ right-same
+                    (λ o within. copied-elsewhere d f n m′ lost fits h p o inside within (inr other)) right
+              ]
+
+  pub rehomed-below : (n : ℕ) → n ≤ d .pages → RehomedBelow d f price n m (inTurn (copyToNewHome d f) n m)
+  unfolding inTurn
+  rehomed-below zero fits =
+      record {
+        same-length = refl;
+        low = λ h o small. refl;
+        stays = λ h p inside right. right;
+        new = λ p before inside lost. absurd (omega arith);
+      }
+  rehomed-below (suc n) fits = one-page n _ (omega arith) (rehomed-below n (omega arith))
+
+  pub rehomed : RehomedBelow d f price (d .pages) m (copyToNewHomes d f m)
+  unfolding copyToNewHomes
+  rehomed = rehomed-below (d .pages) (omega arith)

@@ -1,0 +1,159 @@
+-- Recovery takes a rack that awaits it to one that runs, and answers the failed card's last number and desk.
+use Rattle.laws.proofs.Prelude.{ℕ, _+_, _*_, _≤_, _<_, _≡_, refl, sym, _∙_, _≢_, _⊎_, inl, inr, List, Bool, true, false}
+use Rattle.laws.proofs.Prelude.{arith, ℕ-discrete, length}
+use Rattle.memory.specs.Layout.{recordStamp, recordDone}
+use Rattle.memory.specs.Area.{load}
+use Rattle.directory.specs.declared.Directory.{Directory}
+use Rattle.directory.specs.Directory.{isLive, primaryOf, nextLiveOf}
+use Rattle.protocol.specs.Release.{sizeOf}
+use Rattle.protocol.specs.Record.{underWay}
+use Rattle.protocol.specs.Recovery.{backupBefore, closeReleases, restoredMemory, keptHome, newHome}
+use Rattle.protocol.specs.Recovery.{copyToNewHomes, failedRelease}
+use Rattle.protocol.specs.Book.{Book, countOpen, strikeOpen}
+use Rattle.protocol.proofs.release.Shape.{area-of-live, shape-kept}
+use Rattle.protocol.proofs.release.WordAfter.{HomeOf}
+use Rattle.protocol.proofs.claims.Claim.{HomeWord, idle-words}
+use Rattle.protocol.proofs.claims.Halves.{tentatives, committeds}
+use Rattle.protocol.proofs.invariant.Core.{Core}
+use Rattle.protocol.proofs.recovery.Closing.{close-core-all}
+use Rattle.protocol.proofs.recovery.Restoring.{source, halfWord, RestoredBelow, restored}
+use Rattle.protocol.proofs.recovery.Copying.{Right, RehomedBelow, rehomed}
+use Rattle.protocol.proofs.recovery.Homes.{kept-primary, kept-secondary}
+use Rattle.protocol.proofs.records.Reading.{recorded-is, under-way-yes, under-way-no}
+use Rattle.protocol.proofs.invariant.Rack.{AwaitingRack, stampOf, doneOf, next-is-live, next-is-other}
+use Rattle.protocol.proofs.book.Counting.{count-open-last}
+
+-- ---- the releases closed, the pages restored and copied
+
+module _ (d : Directory) (f : ℕ) (m : List ℕ) (b : Book) (rack : AwaitingRack d f m b) where
+  abbrev b₁ : Book
+  b₁ = strikeOpen (countOpen b)
+
+  abbrev m₁ : List ℕ
+  m₁ = closeReleases d f m
+
+  pub few : f < 8
+  few = omega (arith, rack .real, rack .core .shape .few-cards)
+
+  past-dead : (x : ℕ) → d .cards ≤ x → isLive d x ≡ false
+  past-dead x past = go (isLive d x) refl
+    where
+      go : (up : Bool) → isLive d x ≡ up → isLive d x ≡ false
+      go true live = absurd (omega (arith, rack .core .shape .below x live))
+      go false dead = dead
+
+  pub closed : Core d (backupBefore d f) (load (sizeOf d) m) (stampOf d f m ≢ doneOf d f m)
+      (stampOf d f m ≡ doneOf d f m) m₁ b₁
+  closed = close-core-all d f _ _ _ m b past-dead (rack .core)
+
+  up : isLive d (nextLiveOf d f) ≡ true
+  up = next-is-live d (rack .two) (rack .core .shape .below) f
+
+  -- f's record is not touched
+  record-kept : (o : ℕ) → 20 + 18 * f ≤ o → o < 38 + 18 * f
+      → load (sizeOf d) m₁ (nextLiveOf d f) o ≡ load (sizeOf d) m (nextLiveOf d f) o
+  record-kept o above below = closed .dead f (nextLiveOf d f) o (rack .lost) (rack .real) up above below
+
+  pub last-same : (g : ℕ) → isLive d g ≡ false → b₁ .last g ≡ b .last g
+  last-same g dead = count-open-last b g (rack .core .gone g dead)
+
+  -- the answer
+  pub answers : failedRelease d f m ≡ b .last f
+  unfolding failedRelease
+  answers =
+      recorded-is (sizeOf d) m₁ (nextLiveOf d f) f (b .last f) (area-of-live (closed .shape) (nextLiveOf d f) up)
+      (omega arith)
+      few (rack .core .last-eight f) (record-kept (recordStamp f) (omega arith) (omega arith) ∙ rack .stamped)
+      (λ j within. record-kept _ (omega arith) (omega arith) ∙ rack .desked j within)
+
+  abbrev forward : Bool
+  forward = underWay (sizeOf d) m₁ (nextLiveOf d f) f
+
+  abbrev m₂ : List ℕ
+  m₂ = restoredMemory d f m
+
+  -- the pages are restored from what stands once the releases are closed
+  m₂-restored : RestoredBelow d forward (d .pages) m₁ m₂
+  unfolding restoredMemory
+  m₂-restored = restored d forward m₁ (closed .shape)
+
+  -- the half that is copied from is the book's, at live homes
+  source-right : (way : Bool) → forward ≡ way → (h p w : ℕ) → HomeWord d h p w
+      → halfWord (sizeOf d) m₁ h p (source way) w ≡ b₁ .price (32 * p + w)
+  source-right true is h p w word =
+      let differ : stampOf d f m ≢ doneOf d f m = λ same.
+      under-way-yes (sizeOf d) m₁ (nextLiveOf d f) f is
+      (record-kept (recordStamp f) (omega arith) (omega arith) ∙ same
+      ∙ sym (record-kept (recordDone f) (omega arith) (omega arith))) in
+      idle-words d (tentatives d (backupBefore d f)) (b₁ .release) (b₁ .price) m₁ (λ c. refl)
+      (closed .tentative differ) h p w word
+  source-right false is h p w word =
+      let same : stampOf d f m ≡ doneOf d f m =
+      sym (record-kept (recordStamp f) (omega arith) (omega arith))
+      ∙ under-way-no (sizeOf d) m₁ (nextLiveOf d f) f is ∙ record-kept (recordDone f) (omega arith) (omega arith) in
+      idle-words d (committeds d (backupBefore d f)) (b₁ .release) (b₁ .price) m₁ (λ c. refl)
+      (closed .committed same) h p w word
+
+  -- so both halves are, once restored
+  pub restored-right : (h p : ℕ) → isLive d h ≡ true → HomeOf d h p → p < d .pages
+      → Right (sizeOf d) (b₁ .price) m₂ h p
+  restored-right h p live home page = go forward refl m₂-restored
+    where
+      word : (w : ℕ) → w < 32 → HomeWord d h p w
+      word w within = record { live = live; home = home; page = page; word = within }
+
+      go : (way : Bool) → forward ≡ way → RestoredBelow d way (d .pages) m₁ m₂ → Right (sizeOf d) (b₁ .price) m₂ h p
+      go true is below =
+          record {
+            tentatives = λ w within. below .kept h p w page within ∙ source-right true is h p w (word w within);
+            committeds = λ w within.
+                below .copied h p w page page within live home ∙ source-right true is h p w (word w within);
+          }
+      go false is below =
+          record {
+            tentatives = λ w within.
+                below .copied h p w page page within live home ∙ source-right false is h p w (word w within);
+            committeds = λ w within. below .kept h p w page within ∙ source-right false is h p w (word w within);
+          }
+
+  -- ---- the homes
+
+  -- the home that a page keeps is live, and is one of its homes
+  pub kept-home : (p : ℕ) → p < d .pages → (isLive d (keptHome d f p) ≡ true) × HomeOf d (keptHome d f p) p
+  kept-home p page =
+      elim (ℕ-discrete (primaryOf d p) f) [
+        | yes lost ↦
+            rw (kept-secondary d f p lost)
+            (not-lost (rack .secondary-live p page) (λ e. rack .homes-differ p page (lost ∙ sym e)), inl refl)
+        | no other ↦ rw (kept-primary d f p other) (not-lost (rack .primary-live p page) other, inr refl)
+      ]
+    where
+      not-lost : {h : ℕ} → (isLive d h ≡ true) ⊎ (h ≡ f) → h ≢ f → isLive d h ≡ true
+      not-lost (inl live) other = live
+      not-lost (inr same) other = absurd (other same)
+
+  pub new-home : (p : ℕ) → isLive d (newHome d f p) ≡ true
+  unfolding newHome
+  new-home p = next-is-live d (rack .two) (rack .core .shape .below) (keptHome d f p)
+
+  pub new-is-other : (p : ℕ) → newHome d f p ≢ keptHome d f p
+  unfolding newHome
+  new-is-other p = next-is-other d (rack .two) (rack .core .shape .below) (keptHome d f p)
+
+  pub kept-right : (p : ℕ) → p < d .pages → Right (sizeOf d) (b₁ .price) m₂ (keptHome d f p) p
+  kept-right p page = restored-right (keptHome d f p) p (kept-home p page .0) (kept-home p page .1) page
+
+  abbrev m₃ : List ℕ
+  m₃ = copyToNewHomes d f m₂
+
+  pub m₃-rehomed : RehomedBelow d f (b₁ .price) (d .pages) m₂ m₃
+  m₃-rehomed =
+      rehomed d f (b₁ .price) m₂ (shape-kept (closed .shape) m₂ (m₂-restored .same-length))
+      (λ p page lost. kept-home p page .0) (λ p page lost. kept-right p page) (λ p page lost. new-home p)
+
+  -- every word below the pages is as it was when the releases were closed
+  pub low-kept : (h o : ℕ) → o < 676 → load (sizeOf d) m₃ h o ≡ load (sizeOf d) m₁ h o
+  low-kept h o small = m₃-rehomed .low h o small ∙ m₂-restored .low h o small
+
+  pub m₃-length : length m₃ ≡ length m₁
+  m₃-length = m₃-rehomed .same-length ∙ m₂-restored .same-length

@@ -1,0 +1,165 @@
+-- The rack after a recovery: it runs, beside the book that counted and struck out.
+use Rattle.laws.proofs.Prelude.{ℕ, _<_, _≡_, refl, sym, _∙_, _≢_, _⊎_, inl, inr, List, Bool, true, false, arith}
+use Rattle.memory.specs.Layout.{releaseOpen}
+use Rattle.memory.specs.Area.{load}
+use Rattle.directory.specs.declared.Directory.{Directory}
+use Rattle.directory.specs.declared.Status.the-variants.{Running}
+use Rattle.directory.specs.Directory.{directoryOf, isLive, primaryOf, secondaryOf, backupOf}
+use Rattle.diff.proofs.Prices.{names-none}
+use Rattle.protocol.specs.Release.{sizeOf}
+use Rattle.protocol.specs.Recovery.{closeReleases, restoredMemory, lostHome, keptHome, newHome, copyToNewHomes}
+use Rattle.protocol.specs.Recovery.{failedRelease, writeRecords, recoveredDirectory, recoveredMemory}
+use Rattle.protocol.specs.Book.{Book, countOpen, strikeOpen}
+use Rattle.protocol.proofs.release.Shape.{own-words-kept}
+use Rattle.protocol.proofs.release.WordAfter.{HomeOf}
+use Rattle.protocol.proofs.claims.Claim.{claim-idle}
+use Rattle.protocol.proofs.claims.Halves.{tentatives, committeds}
+use Rattle.protocol.proofs.invariant.Core.{Core}
+use Rattle.protocol.proofs.recovery.Copying.{Right, right-same}
+use Rattle.protocol.proofs.recovery.Homes.{MovedBelow, movedHomes, moved, recovered-parts, whole-primary}
+use Rattle.protocol.proofs.recovery.Homes.{whole-secondary, kept-primary}
+use Rattle.protocol.proofs.invariant.Rack.{RunningRack, AwaitingRack}
+use Rattle.protocol.proofs.recovery.Pages as recovering
+use Rattle.protocol.proofs.recovery.Records.{RecordsWritten, records-written}
+
+module _ (d : Directory) (f : ℕ) (m : List ℕ) (b : Book) (rack : AwaitingRack d f m b) where
+  abbrev b₁ : Book
+  b₁ = strikeOpen (countOpen b)
+
+  abbrev m₁ : List ℕ
+  m₁ = closeReleases d f m
+
+  abbrev m₃ : List ℕ
+  m₃ = copyToNewHomes d f (restoredMemory d f m)
+
+  abbrev m₅ : List ℕ
+  m₅ = writeRecords d f (failedRelease d f m) m₃
+
+  written : RecordsWritten d b₁ m₁ m₃ m₅
+  written = records-written d f m b rack
+
+  page-right : (h p : ℕ) → p < d .pages → Right (sizeOf d) (b₁ .price) m₃ h p → Right (sizeOf d) (b₁ .price) m₅ h p
+  page-right h p page right = right-same (λ o within. written .page-word h p o page within) right
+
+  -- ---- the directory with its homes moved
+
+  abbrev homes : Directory
+  homes = movedHomes d f (rack .core .shape .few-pages) (rack .arrays .primaries) (rack .arrays .secondaries)
+
+  abbrev d′ : Directory
+  d′ = directoryOf (d .cards) (d .pages) (d .live) (homes .primary) (homes .secondary) Running
+
+  moves : MovedBelow d f (d .pages) homes
+  moves = moved d f (rack .core .shape .few-pages) (rack .arrays .primaries) (rack .arrays .secondaries)
+
+  first : (p : ℕ) → p < d .pages → primaryOf d′ p ≡ keptHome d f p
+  first p page = moves .first p page
+
+  -- a page's second home is a new one, or the one it had
+  abbrev SecondHome : ℕ → Type 0
+  SecondHome p =
+      ((lostHome d f p ≡ true) × (secondaryOf d′ p ≡ newHome d f p))
+      ⊎ ((lostHome d f p ≡ false) × (secondaryOf d′ p ≡ secondaryOf d p))
+
+  second : (p : ℕ) → p < d .pages → SecondHome p
+  second p page = go (lostHome d f p) refl
+    where
+      go : (lost : Bool) → lostHome d f p ≡ lost → SecondHome p
+      go true lost = inl (lost, moves .second p page ∙ rw lost)
+      go false whole = inr (whole, moves .second p page ∙ rw whole)
+
+  -- the second home of a page that lost none is live
+  whole-live : (p : ℕ) → p < d .pages → lostHome d f p ≡ false → isLive d (secondaryOf d p) ≡ true
+  whole-live p page whole = go (rack .secondary-live p page)
+    where
+      go : (isLive d (secondaryOf d p) ≡ true) ⊎ (secondaryOf d p ≡ f) → isLive d (secondaryOf d p) ≡ true
+      go (inl live) = live
+      go (inr lost) = absurd (whole-secondary d f p whole lost)
+
+  right-home : (h p : ℕ) → HomeOf d′ h p → p < d .pages → Right (sizeOf d) (b₁ .price) m₅ h p
+  right-home h p (inr home) page =
+      rw (home, first p page)
+      (page-right (keptHome d f p) p page
+      (recovering.m₃-rehomed d f m b rack .stays (keptHome d f p) p page (recovering.kept-right d f m b rack p page)))
+  right-home h p (inl home) page = go (second p page)
+    where
+      go : SecondHome p → Right (sizeOf d) (b₁ .price) m₅ h p
+      go (inl new) =
+          rw (home, new .1)
+          (page-right (newHome d f p) p page (recovering.m₃-rehomed d f m b rack .new p page page (new .0)))
+      go (inr old) =
+          rw (home, old .1)
+          (page-right (secondaryOf d p) p page
+          (recovering.m₃-rehomed d f m b rack .stays (secondaryOf d p) p page
+          (recovering.restored-right d f m b rack (secondaryOf d p) p (whole-live p page (old .0)) (inl refl) page)))
+
+  -- ---- the rack that runs
+
+  core₅ : Core d′ (backupOf d) (load (sizeOf d) m₅) (Unit {0}) (Unit {0}) m₅ b₁
+  core₅ =
+      let closed = recovering.closed d f m b rack in
+      record {
+        shape = record {
+          few-cards = closed .shape .few-cards;
+          few-pages = closed .shape .few-pages;
+          whole = written .same-length ∙ closed .shape .whole;
+          below = closed .shape .below;
+        };
+        standing = λ c live. written .own-word c releaseOpen (omega arith) ∙ closed .standing c live;
+        gone = λ c dead. refl;
+        under = λ c. tt;
+        eights = λ c. tt;
+        last-eight = closed .last-eight;
+        apart = λ c x label other named. names-none label;
+        numbers = λ c. tt;
+        owns = λ c live.
+            own-words-kept (sizeOf d) m₁ m₅ c (written .same-length) (λ o less. written .own-word c o (omega arith))
+            ∙ closed .owns c live;
+        tentative = λ _. claim-idle d′ (tentatives d′ (backupOf d)) (b₁ .release) (b₁ .price) m₅ (λ c. refl)
+            (λ h p w word. right-home h p (word .home) (word .page) .tentatives w (word .word));
+        committed = λ _. claim-idle d′ (committeds d′ (backupOf d)) (b₁ .release) (b₁ .price) m₅ (λ c. refl)
+            (λ h p w word. right-home h p (word .home) (word .page) .committeds w (word .word));
+        held = λ c live up. written .live-held c live;
+        dead = λ g h o gone less live above below. refl;
+      }
+
+  runs : RunningRack d′ m₅ b₁
+  runs =
+      record {
+        running = refl;
+        arrays = record {
+          least = rack .arrays .least;
+          some = rack .arrays .some;
+          marks = rack .arrays .marks;
+          primaries = moves .primaries ∙ rack .arrays .primaries;
+          secondaries = moves .secondaries ∙ rack .arrays .secondaries;
+        };
+        core = core₅;
+        records = written .dead-held;
+        two = record {
+          one = rack .two .one;
+          two = rack .two .two;
+          differ = rack .two .differ;
+          first = rack .two .first;
+          second = rack .two .second;
+        };
+        primary-live = λ p page. rw (first p page) (recovering.kept-home d f m b rack p page .0);
+        secondary-live = λ p page. second-live p page (second p page);
+        homes-differ = λ p page. differ p page (second p page);
+      }
+    where
+      second-live : (p : ℕ) → p < d .pages → SecondHome p → isLive d (secondaryOf d′ p) ≡ true
+      second-live p page (inl new) = rw (new .1) (recovering.new-home d f m b rack p)
+      second-live p page (inr old) = rw (old .1) (whole-live p page (old .0))
+
+      differ : (p : ℕ) → p < d .pages → SecondHome p → primaryOf d′ p ≢ secondaryOf d′ p
+      differ p page (inl new) same = recovering.new-is-other d f m b rack p (sym (new .1) ∙ sym same ∙ first p page)
+      differ p page (inr old) same =
+          rack .homes-differ p page
+          (sym (kept-primary d f p (whole-primary d f p (old .0))) ∙ sym (first p page) ∙ same ∙ old .1)
+
+  pub recovers : RunningRack (recoveredDirectory d f) (recoveredMemory d f m) b₁
+  unfolding recoveredMemory
+  recovers =
+      rw (recovered-parts d f (rack .core .shape .few-pages) (rack .arrays .primaries) (rack .arrays .secondaries))
+      runs
