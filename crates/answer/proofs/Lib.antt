@@ -1,2 +1,2 @@
 -- Laws on answers that the calls cite.
-pub mod Told
+pub mod RoundTrip

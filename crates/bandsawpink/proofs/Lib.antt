@@ -1,4 +1,4 @@
 -- What the proofs of the exported functions cite.
 pub mod Examples
 pub mod Stored
-pub mod Told
+pub mod Exported

@@ -9,17 +9,17 @@ use Rattle.bandsawpink.specs.declared.answers.RackStepsAnswer.{RackSteps
 use Rattle.bandsawpink.specs.declared.answers.RackFetchAllAnswer.{RackFetchAllAnswer}
 use Rattle.bandsawpink.specs.Words.{wordsOf}
 
-abbrev pub answered : Outcome → RackAnswer
-answered o = record { number = o .number; value = o .value }
+abbrev pub exportedAnswer : Outcome → RackAnswer
+exportedAnswer o = record { number = o .number; value = o .value }
 
-abbrev pub answeredDesk : Outcome → List ℕ → RackDeskAnswer
-answeredDesk o desk = record { number = o .number; value = o .value; desk = desk }
+abbrev pub exportedDeskAnswer : Outcome → List ℕ → RackDeskAnswer
+exportedDeskAnswer o desk = record { number = o .number; value = o .value; desk = desk }
 
-abbrev pub answeredSteps : Outcome → ℕ → RackStepsAnswer
-answeredSteps o made = record { number = o .number; made = made; value = o .value }
+abbrev pub exportedStepsAnswer : Outcome → ℕ → RackStepsAnswer
+exportedStepsAnswer o made = record { number = o .number; made = made; value = o .value }
 
-abbrev pub answeredPages : Outcome → List Bool → RackFetchAllAnswer
-answeredPages o shown = record { number = o .number; value = o .value; shown = shown }
+abbrev pub exportedPagesAnswer : Outcome → List Bool → RackFetchAllAnswer
+exportedPagesAnswer o shown = record { number = o .number; value = o .value; shown = shown }
 
 -- a refusal keeps the words, whatever they are
 abbrev pub directoryAfter : List ℕ → Result → List ℕ

@@ -7,7 +7,7 @@ use Rattle.directory.specs.declared.Directory.{Directory}
 use Rattle.directory.specs.declared.Status.the-variants.{Awaiting}
 use Rattle.directory.specs.Directory.{formattedDirectory, markedDead, withStatus, tableFrom}
 use Rattle.bandsawpink.specs.Words.{directoryIn, wordsOf}
-use Rattle.bandsawpink.specs.Answers.{answered, directoryAfter}
+use Rattle.bandsawpink.specs.Answers.{exportedAnswer, directoryAfter}
 
 -- three cards and four pages: newly formatted, and after the failure of card 1
 abbrev pub formatted : Directory
@@ -40,7 +40,7 @@ examples =
     (3 ∷ 4 ∷ 1 ∷ 1 ∷ 0 ∷ 1 ∷ replicate 5 0 ++ homes)
     -- an answer is the number and the place, or 0 and the value
     ∷ computed
-    (answered (refusedAt 5 9) .number ∷ answered (refusedAt 5 9) .value
-    ∷ answered (given 7) .number ∷ answered (given 7) .value ∷ [])
+    (exportedAnswer (refusedAt 5 9) .number ∷ exportedAnswer (refusedAt 5 9) .value
+    ∷ exportedAnswer (given 7) .number ∷ exportedAnswer (given 7) .value ∷ [])
     (5 ∷ 9 ∷ 0 ∷ 7 ∷ [])
     ∷ []

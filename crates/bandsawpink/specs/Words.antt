@@ -7,13 +7,13 @@ use Rattle.directory.specs.declared.Status.the-variants.{Running, Awaiting}
 use Rattle.directory.specs.Directory.{directoryOf, table, isLive}
 
 -- the awaited card of a rack that awaits none
-abbrev pub running : ℕ
-running = 4294967295
+abbrev pub runningWord : ℕ
+runningWord = 4294967295
 
 -- ---- the directory that words say
 
 abbrev pub statusIn : ℕ → Status
-statusIn awaited = cond (eqb awaited running) Running (Awaiting awaited)
+statusIn awaited = cond (eqb awaited runningWord) Running (Awaiting awaited)
 
 -- a mark is any word but 0
 abbrev pub marksIn : List ℕ → List Bool
@@ -27,7 +27,7 @@ directoryIn words =
 -- ---- the words that say a directory
 
 abbrev pub awaitedWord : Status → ℕ
-awaitedWord Running = running
+awaitedWord Running = runningWord
 awaitedWord (Awaiting card) = card
 
 -- the words before the homes

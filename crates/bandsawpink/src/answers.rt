@@ -1,8 +1,9 @@
 // What the exported functions answer, in numbers.
 ghost use Rattle.laws.specs.Prelude.{_≡_};
 ghost use Rattle.answer.specs.Outcome.{outcome};
-ghost use Rattle.bandsawpink.specs.Answers.{answered, answeredDesk, answeredSteps};
-ghost use Rattle.bandsawpink.specs.Answers.{answeredPages};
+ghost use Rattle.bandsawpink.specs.Answers.{exportedAnswer, exportedDeskAnswer};
+ghost use Rattle.bandsawpink.specs.Answers.{exportedStepsAnswer};
+ghost use Rattle.bandsawpink.specs.Answers.{exportedPagesAnswer};
 use answer::Answer;
 
 // 0 and what the call gives, or the refusal and its place.
@@ -37,7 +38,7 @@ pub struct RackFetchAllAnswer {
 }
 
 pub fn in_numbers(answer: Answer) -> RackAnswer
-    ensures { λ r. ⌜ r ≡ answered (outcome answer) ⌝ }
+    ensures { λ r. ⌜ r ≡ exportedAnswer (outcome answer) ⌝ }
 {
     let o = answer::outcome_of(answer);
     RackAnswer {
@@ -47,34 +48,34 @@ pub fn in_numbers(answer: Answer) -> RackAnswer
 }
 
 pub fn with_desk(answer: Answer, desk: [u32; 8]) -> RackDeskAnswer
-    ensures { λ r. ⌜ r ≡ answeredDesk (outcome answer) desk ⌝ }
+    ensures { λ r. ⌜ r ≡ exportedDeskAnswer (outcome answer) desk ⌝ }
 {
-    let told = in_numbers(answer);
+    let numbers = in_numbers(answer);
     RackDeskAnswer {
-        number: told.number,
-        value: told.value,
+        number: numbers.number,
+        value: numbers.value,
         desk,
     }
 }
 
 pub fn with_made(answer: Answer, made: u32) -> RackStepsAnswer
-    ensures { λ r. ⌜ r ≡ answeredSteps (outcome answer) made ⌝ }
+    ensures { λ r. ⌜ r ≡ exportedStepsAnswer (outcome answer) made ⌝ }
 {
-    let told = in_numbers(answer);
+    let numbers = in_numbers(answer);
     RackStepsAnswer {
-        number: told.number,
+        number: numbers.number,
         made,
-        value: told.value,
+        value: numbers.value,
     }
 }
 
 pub fn with_shown(answer: Answer, shown: [bool; 64]) -> RackFetchAllAnswer
-    ensures { λ r. ⌜ r ≡ answeredPages (outcome answer) shown ⌝ }
+    ensures { λ r. ⌜ r ≡ exportedPagesAnswer (outcome answer) shown ⌝ }
 {
-    let told = in_numbers(answer);
+    let numbers = in_numbers(answer);
     RackFetchAllAnswer {
-        number: told.number,
-        value: told.value,
+        number: numbers.number,
+        value: numbers.value,
         shown,
     }
 }

@@ -15,8 +15,9 @@ ghost use Rattle.protocol.specs.DeskQuestion.{deskQuestion};
 ghost use Rattle.batch.specs.Steps.{steps};
 ghost use Rattle.batch.specs.FetchAll.{fetchAll};
 ghost use Rattle.bandsawpink.specs.Words.{directoryIn, wordsOf};
-ghost use Rattle.bandsawpink.specs.Answers.{answered, answeredDesk, directoryAfter};
-ghost use Rattle.bandsawpink.specs.Answers.{answeredSteps, answeredPages};
+ghost use Rattle.bandsawpink.specs.Answers.{exportedAnswer, exportedDeskAnswer};
+ghost use Rattle.bandsawpink.specs.Answers.{directoryAfter};
+ghost use Rattle.bandsawpink.specs.Answers.{exportedStepsAnswer, exportedPagesAnswer};
 ghost use Rattle.bandsawpink.specs.Examples.{examples};
 
 mod answers;
@@ -48,7 +49,7 @@ pub extern "C" fn rack_format(
     directory: &mut [u32; 139],
 ) -> RackAnswer
     ensures answer { λ r. ⌜ r
-        ≡ answered (formatting (now (memory .entry)) cards pages .outcome) ⌝ }
+        ≡ exportedAnswer (formatting (now (memory .entry)) cards pages .outcome) ⌝ }
     ensures directory { λ _. ⌜ now (directory .exit)
         ≡ wordsOf (formatting (now (memory .entry)) cards pages .directory) ⌝ }
     ensures memory { λ _. ⌜ now (memory .exit)
@@ -72,7 +73,7 @@ pub extern "C" fn rack_open(
     list: &[u32],
 ) -> RackAnswer
     ensures answer { λ r. ⌜ r
-        ≡ answered
+        ≡ exportedAnswer
         (opening (directoryIn (now (directory .entry))) (now (memory .entry)) card
         (releaseOf number (now (desk .entry))) (now (list .entry)) .outcome) ⌝ }
     ensures memory { λ _. ⌜ now (memory .exit)
@@ -89,7 +90,7 @@ pub extern "C" fn rack_open(
 #[no_mangle]
 pub extern "C" fn rack_step(memory: &mut [u32], directory: &[u32; 139], card: u32) -> RackAnswer
     ensures answer { λ r. ⌜ r
-        ≡ answered
+        ≡ exportedAnswer
         (step (directoryIn (now (directory .entry))) (now (memory .entry)) card .outcome) ⌝ }
     ensures memory { λ _. ⌜ now (memory .exit)
         ≡ step (directoryIn (now (directory .entry))) (now (memory .entry)) card .memory ⌝ }
@@ -109,7 +110,7 @@ pub extern "C" fn rack_steps(
     count: u32,
 ) -> RackStepsAnswer
     ensures answer { λ r. ⌜ r
-        ≡ answeredSteps
+        ≡ exportedStepsAnswer
         (steps (directoryIn (now (directory .entry))) (now (memory .entry)) card count .outcome)
         (steps (directoryIn (now (directory .entry))) (now (memory .entry)) card count .made) ⌝ }
     ensures memory { λ _. ⌜ now (memory .exit)
@@ -130,7 +131,7 @@ pub extern "C" fn rack_fetch(
     buffer: &mut [u32],
 ) -> RackAnswer
     ensures answer { λ r. ⌜ r
-        ≡ answered
+        ≡ exportedAnswer
         (fetch (directoryIn (now (directory .entry))) (now (memory .entry)) page
         (now (buffer .entry)) .outcome) ⌝ }
     ensures buffer { λ _. ⌜ now (buffer .exit)
@@ -151,7 +152,7 @@ pub extern "C" fn rack_fetch_all(
     buffer: &mut [u32],
 ) -> RackFetchAllAnswer
     ensures answer { λ r. ⌜ r
-        ≡ answeredPages
+        ≡ exportedPagesAnswer
         (fetchAll (directoryIn (now (directory .entry))) (now (memory .entry))
         (now (buffer .entry)) .outcome)
         (fetchAll (directoryIn (now (directory .entry))) (now (memory .entry))
@@ -171,7 +172,7 @@ pub extern "C" fn rack_fetch_all(
 #[no_mangle]
 pub extern "C" fn rack_fail(memory: &[u32], directory: &mut [u32; 139], card: u32) -> RackAnswer
     ensures answer { λ r. ⌜ r
-        ≡ answered
+        ≡ exportedAnswer
         (failure (directoryIn (now (directory .entry))) (now (memory .entry)) card .outcome) ⌝ }
     ensures directory { λ _. ⌜ now (directory .exit)
         ≡ directoryAfter (now (directory .entry))
@@ -179,8 +180,8 @@ pub extern "C" fn rack_fail(memory: &[u32], directory: &mut [u32; 139], card: u3
 {
     let taken = words::directory_in(directory);
     let reply = rack::fail_card(memory, taken, card);
-    let told = reply.answer;
-    let answer = answers::in_numbers(told);
+    let replied = reply.answer;
+    let answer = answers::in_numbers(replied);
     let failed = reply.directory;
     hand_back(directory, answer.number, failed);
     answer
@@ -190,7 +191,7 @@ pub extern "C" fn rack_fail(memory: &[u32], directory: &mut [u32; 139], card: u3
 #[no_mangle]
 pub extern "C" fn rack_recover(memory: &mut [u32], directory: &mut [u32; 139]) -> RackDeskAnswer
     ensures answer { λ r. ⌜ r
-        ≡ answeredDesk
+        ≡ exportedDeskAnswer
         (recovery (directoryIn (now (directory .entry))) (now (memory .entry)) .outcome)
         (recovery (directoryIn (now (directory .entry))) (now (memory .entry)) .words) ⌝ }
     ensures directory { λ _. ⌜ now (directory .exit)
@@ -201,9 +202,9 @@ pub extern "C" fn rack_recover(memory: &mut [u32], directory: &mut [u32; 139]) -
 {
     let taken = words::directory_in(directory);
     let reply = rack::recover_card(memory, taken);
-    let told = reply.answer;
+    let replied = reply.answer;
     let desk = reply.desk;
-    let answer = answers::with_desk(told, desk);
+    let answer = answers::with_desk(replied, desk);
     let recovered = reply.directory;
     hand_back(directory, answer.number, recovered);
     answer
@@ -213,7 +214,7 @@ pub extern "C" fn rack_recover(memory: &mut [u32], directory: &mut [u32; 139]) -
 #[no_mangle]
 pub extern "C" fn rack_join(memory: &mut [u32], directory: &mut [u32; 139], card: u32) -> RackAnswer
     ensures answer { λ r. ⌜ r
-        ≡ answered
+        ≡ exportedAnswer
         (join (directoryIn (now (directory .entry))) (now (memory .entry)) card .outcome) ⌝ }
     ensures directory { λ _. ⌜ now (directory .exit)
         ≡ directoryAfter (now (directory .entry))
@@ -223,8 +224,8 @@ pub extern "C" fn rack_join(memory: &mut [u32], directory: &mut [u32; 139], card
 {
     let taken = words::directory_in(directory);
     let reply = rack::join_card(memory, taken, card);
-    let told = reply.answer;
-    let answer = answers::in_numbers(told);
+    let replied = reply.answer;
+    let answer = answers::in_numbers(replied);
     let joined = reply.directory;
     hand_back(directory, answer.number, joined);
     answer
@@ -234,22 +235,22 @@ pub extern "C" fn rack_join(memory: &mut [u32], directory: &mut [u32; 139], card
 #[no_mangle]
 pub extern "C" fn rack_desk(memory: &[u32], directory: &[u32; 139], card: u32) -> RackDeskAnswer
     ensures { λ r. ⌜ r
-        ≡ answeredDesk
+        ≡ exportedDeskAnswer
         (deskQuestion (directoryIn (now (directory .entry))) (now (memory .entry)) card .outcome)
         (deskQuestion (directoryIn (now (directory .entry))) (now (memory .entry)) card .words) ⌝ }
 {
     let taken = words::directory_in(directory);
     let reply = rack::ask_desk(memory, taken, card);
-    let told = reply.answer;
+    let replied = reply.answer;
     let desk = reply.desk;
-    answers::with_desk(told, desk)
+    answers::with_desk(replied, desk)
 }
 
 // `maker::make`.
 #[no_mangle]
 pub extern "C" fn rack_make_list(working: &[u32], twins: &[u32], buffer: &mut [u32]) -> RackAnswer
     ensures answer { λ r. ⌜ r
-        ≡ answered
+        ≡ exportedAnswer
         (makeDiff (now (working .entry)) (now (twins .entry)) (length (now (buffer .entry)))) ⌝ }
     ensures written { λ _. ⌜ now (buffer .exit)
         ≡ bufferAfter (now (working .entry)) (now (twins .entry)) (now (buffer .entry)) ⌝ }

@@ -4,7 +4,7 @@ use Rattle.laws.proofs.Prelude.{ℕ, suc, _+_, _-_, _*_, _<_, _≡_, refl, sym,
 use Rattle.laws.proofs.Prelude.{ℕ-discrete, eqb-true, le-ltb, length, eqb}
 use Rattle.laws.proofs.Bools.{and-first, and-second}
 use Rattle.laws.proofs.Search.{lowest-same}
-use Rattle.memory.specs.Layout.{areaSize, releaseOpen}
+use Rattle.memory.specs.Layout.{areaSize, openFlag}
 use Rattle.memory.specs.Area.{AreaIn, load}
 use Rattle.memory.proofs.Index.{area-in}
 use Rattle.directory.specs.declared.Directory.{Directory}
@@ -18,7 +18,7 @@ use Rattle.release.specs.Stepping.{GoodRelease, leftOf}
 use Rattle.release.proofs.Stores.{length-desk, step-closed}
 use Rattle.release.proofs.Kept.{steps-more, step-keeps-own, step-keeps-others}
 use Rattle.release.proofs.Left.{counted}
-use Rattle.rack.proofs.Fitting.{fitting}
+use Rattle.rack.proofs.ValidRack.{valid-rack}
 
 -- a rack on which the card's release was closed
 pub record Shut (d : Directory) (m : List ℕ) (c : ℕ) : Type 0 where
@@ -31,7 +31,7 @@ good-card : (marks : List Bool) (pages : ℕ) (m : List ℕ) (c : ℕ) → isOpe
     → GoodRelease pages m c → badCard marks pages m c ≡ false
 unfolding badCard badRelease isOpen
 good-card marks pages m c opened good =
-    let word = load (areaSize pages) m c releaseOpen in
+    let word = load (areaSize pages) m c openFlag in
     let one = eqb-true word 1 (and-second (liveAt marks c) (eqb word 1) opened) in
     rw (and-first (liveAt marks c) (eqb word 1) opened, one, good .reads)
     (le-ltb (4 * good .k + 10) (stepsOf (areaSize pages) m c) (good .under))
@@ -42,7 +42,7 @@ module _ (d : Directory) (m m′ : List ℕ) where
   unfolding badCard
   same-card x same =
       rw (
-        same .low releaseOpen (omega arith),
+        same .low openFlag (omega arith),
         list-kept (sizeOf d) m m′ x (same-own-release (sizeOf d) m m′ x same),
         steps-kept (sizeOf d) m m′ x same,
       )
@@ -67,13 +67,13 @@ module _ (d : Directory) (m : List ℕ) (c : ℕ) (passed : StepPassed d m c) wh
   next = stepMemory d (backupOf d c) m c
 
   few : c < 8
-  few = let most = fitting (passed .runs .fits) .within .cards-most in omega (arith, passed .below)
+  few = let most = valid-rack (passed .runs .fits) .within .cards-most in omega (arith, passed .below)
 
   area : AreaIn (length m) (sizeOf d) c
-  area = area-in (sizeOf d) (passed .below) (fitting (passed .runs .fits) .within .whole)
+  area = area-in (sizeOf d) (passed .below) (valid-rack (passed .runs .fits) .within .whole)
 
   good : GoodRelease (d .pages) m c
-  good = fitting (passed .runs .fits) .good c (passed .below) (passed .is-open)
+  good = valid-rack (passed .runs .fits) .good c (passed .below) (passed .is-open)
 
   all-prices : good .k ≡ length (openPrices (d .pages) m c)
   all-prices = counted (d .pages) m c good .prices

@@ -1,10 +1,11 @@
 -- On a rack that passed checks 1, 2 and 11, a fetch of one of its pages into 32 words is refused if the page is in
 -- motion, and only then.
-use Rattle.laws.proofs.Prelude.{ℕ, zero, suc, _+_, _*_, _≤_, _<_, _≡_, refl, sym, _∙_, _≢_, List, Bool, true, false}
-use Rattle.laws.proofs.Prelude.{cond, arith, eq-eqb, ne-eqb, eqb-true, not-false, lt-leb, length, getD, take, drop, eqb}
-use lib.ListN.{length-take, length-drop, take-append-drop}
-use lib.Seq.{sets, length-sets, sets-eq, take-add}
-use Rattle.laws.specs.Search.{lowest, inTurn}
+use Rattle.laws.proofs.Prelude.{ℕ, zero, suc, _*_, _≤_, _<_, _≡_, refl, sym, _∙_, _≢_, List, Bool, true, false, cond}
+use Rattle.laws.proofs.Prelude.{arith, eq-eqb, ne-eqb, eqb-true, not-false, lt-leb, length, getD, take, drop, eqb}
+use Rattle.laws.proofs.Prelude.{replicate}
+use lib.ListN.{length-take, length-drop}
+use lib.Seq.{length-sets}
+use Rattle.laws.specs.Search.{lowest, inTurn, someBelow}
 use Rattle.laws.proofs.Bools.{by-cond}
 use Rattle.answer.specs.Outcome.{given, refused, refusedAt, pageInMotion}
 use Rattle.memory.specs.Layout.{pageSize}
@@ -17,26 +18,31 @@ use Rattle.protocol.proofs.checks.Limits.{within-limits}
 use Rattle.checks.proofs.Order.{by-number}
 use Rattle.conflict.proofs.InMotion.{motion-marked}
 use Rattle.rack.proofs.Results.{fetch-refused, fetch-accepted}
-use Rattle.batch.specs.FetchAll.{Pages, pagesOf, fetchNext, noneShown, fetchAllChecks, fetchedTo, fetchAll}
-use Rattle.batch.specs.Showing.{isMoving, movingOf, showNext}
+use Rattle.batch.specs.FetchAll.{FetchedPages, fetchedPages, fetchNext, noneShown, fetchAllChecks, fetchedTo}
+use Rattle.batch.specs.FetchAll.{fetchAll}
+use Rattle.batch.specs.Showing.{showNext}
+use Rattle.conflict.specs.Motion.{markMotion}
+use Rattle.laws.proofs.Lists.{sets-self}
 
--- a part stored where it was read
-sets-self : (l : List ℕ) (i n : ℕ) → i + n ≤ length l → sets l i (take n (drop i l)) ≡ l
-sets-self l i n fits =
-    let long : length (take n (drop i l)) ≡ n = simp (length-take, length-drop) (omega arith) in
-    sets-eq (take n (drop i l)) l i (omega arith) ∙ rw (long, ← take-add i n l) (take-append-drop (i + n) l)
+-- whether a page is in motion
+abbrev isMoving : Directory → List ℕ → ℕ → Bool
+isMoving d m page = someBelow (inMotion (d .live) (d .pages) m page) (d .cards)
+
+-- the pages in motion, as marks
+abbrev movingOf : Directory → List ℕ → List Bool
+movingOf d m = inTurn (markMotion (d .live) (d .pages) m) (d .cards) (replicate 64 false)
 
 module _ (d : Directory) (m : List ℕ) where
   abbrev moving : List Bool
   moving = movingOf d m
 
   -- the words of a page that is kept or shown
-  length-shown : (page : ℕ) (s : Pages) → length (showNext moving d m page s .words) ≡ length (s .words)
+  length-shown : (page : ℕ) (s : FetchedPages) → length (showNext moving d m page s .words) ≡ length (s .words)
   length-shown page s =
       by-cond (λ (words : List ℕ). length words ≡ length (s .words)) (getD moving page false) _ _ (λ _. refl)
       (λ _. length-sets (s .words) (pageSize * page) (committedPage d m page))
 
-  pages-length : (n : ℕ) (s : Pages) → length (inTurn (showNext moving d m) n s .words) ≡ length (s .words)
+  pages-length : (n : ℕ) (s : FetchedPages) → length (inTurn (showNext moving d m) n s .words) ≡ length (s .words)
   unfolding inTurn
   pages-length zero s = refl
   pages-length (suc n) s = length-shown n (inTurn (showNext moving d m) n s) ∙ pages-length n s
@@ -49,7 +55,7 @@ module _ (d : Directory) (m : List ℕ) where
     comes-to page below is =
         rw (runs .fits .limits, runs .fits .fit, runs .running, lt-leb (d .pages) page below, is)
 
-    next-shown : (page : ℕ) (s : Pages) → page < d .pages → length (s .words) ≡ pageSize * d .pages
+    next-shown : (page : ℕ) (s : FetchedPages) → page < d .pages → length (s .words) ≡ pageSize * d .pages
         → fetchNext d m page s ≡ showNext moving d m page s
     unfolding fetchNext
     next-shown page s below long = go (isMoving d m page) refl
@@ -60,8 +66,8 @@ module _ (d : Directory) (m : List ℕ) where
         room : length part ≡ pageSize
         room = simp (length-take, length-drop) (omega arith)
 
-        told : getD moving page false ≡ isMoving d m page
-        told =
+        answer-outcome : getD moving page false ≡ isMoving d m page
+        answer-outcome =
             let few = within-limits _ _ _ (runs .fits .limits) .pages-most in
             motion-marked (d .live) (d .pages) m few page (d .cards)
 
@@ -73,16 +79,16 @@ module _ (d : Directory) (m : List ℕ) where
             in
             rw (
               fetch-refused d m page part comes (λ e. omega arith),
-              told ∙ is,
+              answer-outcome ∙ is,
               sets-self (s .words) (pageSize * page) pageSize (omega arith),
             )
         go false is =
             let comes : given 0 ≡ firstRefusal (fetchChecks d m page (length part)) 0
             = rw room (comes-to page below is)
             in
-            rw (fetch-accepted d m page part comes refl, told ∙ is)
+            rw (fetch-accepted d m page part comes refl, answer-outcome ∙ is)
 
-    pub pages-shown : (n : ℕ) (s : Pages) → n ≤ d .pages → length (s .words) ≡ pageSize * d .pages
+    pub pages-shown : (n : ℕ) (s : FetchedPages) → n ≤ d .pages → length (s .words) ≡ pageSize * d .pages
         → inTurn (fetchNext d m) n s ≡ inTurn (showNext moving d m) n s
     unfolding inTurn
     pages-shown zero s few long = refl
@@ -98,7 +104,7 @@ pub record AllPassed (d : Directory) (m : List ℕ) (room : ℕ) : Type 0 where
 
 module _ (d : Directory) (m buffer : List ℕ) {number : ℕ}
     (reached : number ≡ firstRefusal (fetchAllChecks d m (length buffer)) 0 .number) where
-  pub all-refused : number ≢ 0 → fetchAll d m buffer ≡ fetchedTo (refused number) d (pagesOf buffer noneShown)
+  pub all-refused : number ≢ 0 → fetchAll d m buffer ≡ fetchedTo (refused number) d (fetchedPages buffer noneShown)
   unfolding fetchAll
   all-refused some =
       rw (by-number (fetchAllChecks d m (length buffer)) refl reached) (rw (ne-eqb number 0 some))
@@ -116,9 +122,13 @@ module _ (d : Directory) (m buffer : List ℕ) {number : ℕ}
 
   pub all-accepted : number ≡ 0
       → fetchAll d m buffer
-      ≡ fetchedTo (given 0) d (inTurn (showNext (movingOf d m) d m) (d .pages) (pagesOf buffer noneShown))
+      ≡ fetchedTo (given 0) d (inTurn (showNext (movingOf d m) d m) (d .pages) (fetchedPages buffer noneShown))
   unfolding fetchAll
   all-accepted none =
       let passed = all-facts none in
       let first = rw none at (by-number (fetchAllChecks d m (length buffer)) refl reached) in
-      rw (first, pages-shown d m (passed .runs) (d .pages) (pagesOf buffer noneShown) (omega arith) (passed .room-is))
+      rw (
+        first,
+        pages-shown d m (passed .runs) (d .pages) (fetchedPages buffer noneShown) (omega arith)
+            (passed .room-is),
+      )

@@ -13,19 +13,19 @@ use Rattle.protocol.specs.Result.{Result, accepted}
 use Rattle.protocol.specs.Fetch.{fetch}
 
 -- the buffer, 32 words for each page, and which pages were shown
-pub record Pages : Type 0 where
+pub record FetchedPages : Type 0 where
   pub words : List ℕ
   pub shown : List Bool
 
-abbrev pub pagesOf : List ℕ → List Bool → Pages
-pagesOf words shown = record { words = words; shown = shown }
+abbrev pub fetchedPages : List ℕ → List Bool → FetchedPages
+fetchedPages words shown = record { words = words; shown = shown }
 
 -- a page fetched into its part of the buffer: a refused fetch keeps the words, and the page is not shown
-unfoldable pub fetchNext : Directory → List ℕ → ℕ → Pages → Pages
+unfoldable pub fetchNext : Directory → List ℕ → ℕ → FetchedPages → FetchedPages
 fetchNext d m page s =
     let at : ℕ = pageSize * page in
     let r : Result = fetch d m page (take pageSize (drop at (s .words))) in
-    pagesOf (sets (s .words) at (r .words)) (set (s .shown) page (accepted (r .outcome)))
+    fetchedPages (sets (s .words) at (r .words)) (set (s .shown) page (accepted (r .outcome)))
 
 abbrev pub noneShown : List Bool
 noneShown = replicate 64 false
@@ -38,13 +38,13 @@ fetchAllChecks d m room = runningChecks d m ++ check (not (eqb room (pageSize * 
 pub record AllFetched : Type 0 where
   pub outcome : Outcome
   pub directory : Directory
-  pub pages : Pages
+  pub pages : FetchedPages
 
-abbrev pub fetchedTo : Outcome → Directory → Pages → AllFetched
+abbrev pub fetchedTo : Outcome → Directory → FetchedPages → AllFetched
 fetchedTo o d pages = record { outcome = o; directory = d; pages = pages }
 
 unfoldable pub fetchAll : Directory → List ℕ → List ℕ → AllFetched
 fetchAll d m buffer =
     let o : Outcome = firstRefusal (fetchAllChecks d m (length buffer)) 0 in
-    let kept : Pages = pagesOf buffer noneShown in
+    let kept : FetchedPages = fetchedPages buffer noneShown in
     fetchedTo o d (cond (accepted o) (inTurn (fetchNext d m) (d .pages) kept) kept)

@@ -1,33 +1,24 @@
--- The pages of a rack that passed its checks, fetched in one call: which are in motion is known before the first is
--- copied, and each other page's words are its committed ones. `FetchAll` says what the call is to come to.
+-- Inner contracts only. The pages of a rack that passed its checks, fetched in one call: which are in motion is known
+-- before the first is copied, and each other page's words are its committed ones. `FetchAll` says what the call is to
+-- come to.
 -- Assumes nothing: these are definitions.
-use Rattle.laws.specs.Prelude.{ℕ, _*_, _<_, _≤_, List, [], Bool, false, cond, not, length, getD, set, replicate}
+use Rattle.laws.specs.Prelude.{ℕ, _*_, _<_, _≤_, List, [], Bool, false, cond, not, length, getD, set}
 use lib.Seq.{sets}
-use Rattle.laws.specs.Search.{someBelow, inTurn}
 use Rattle.memory.specs.Layout.{pageSize}
 use Rattle.directory.specs.declared.Directory.{Directory}
 use Rattle.directory.specs.declared.Status.the-variants.{Running}
 use Rattle.directory.specs.Directory.{directoryOf}
-use Rattle.protocol.specs.Fetch.{inMotion, committedPage}
-use Rattle.conflict.specs.Motion.{markMotion}
-use Rattle.batch.specs.FetchAll.{Pages, pagesOf}
-
--- whether a page is in motion
-abbrev pub isMoving : Directory → List ℕ → ℕ → Bool
-isMoving d m page = someBelow (inMotion (d .live) (d .pages) m page) (d .cards)
-
--- the pages in motion, as marks
-abbrev pub movingOf : Directory → List ℕ → List Bool
-movingOf d m = inTurn (markMotion (d .live) (d .pages) m) (d .cards) (replicate 64 false)
+use Rattle.protocol.specs.Fetch.{committedPage}
+use Rattle.batch.specs.FetchAll.{FetchedPages, fetchedPages}
 
 -- the buffer after a page: its words are kept if it is marked
 abbrev pub wordsAfter : List Bool → Directory → List ℕ → ℕ → List ℕ → List ℕ
 wordsAfter moving d m page words =
     cond (getD moving page false) words (sets words (pageSize * page) (committedPage d m page))
 
-abbrev pub showNext : List Bool → Directory → List ℕ → ℕ → Pages → Pages
+abbrev pub showNext : List Bool → Directory → List ℕ → ℕ → FetchedPages → FetchedPages
 showNext moving d m page s =
-    pagesOf (wordsAfter moving d m page (s .words)) (set (s .shown) page (not (getD moving page false)))
+    fetchedPages (wordsAfter moving d m page (s .words)) (set (s .shown) page (not (getD moving page false)))
 
 -- a directory as far as that looks at it: pages and primary homes
 abbrev pub primariesOf : ℕ → List ℕ → Directory

@@ -12,7 +12,7 @@ ghost use Rattle.protocol.specs.Step.{stepChecks};
 ghost use Rattle.protocol.specs.Recovery.{stepTimes};
 ghost use Rattle.release.specs.Stepping.{CardIn, HomesIn, GoodRelease, leftOf};
 ghost use Rattle.batch.specs.Steps.{steps, stoppedAt};
-ghost use Rattle.batch.specs.FetchAll.{fetchAllChecks, fetchAll, pagesOf};
+ghost use Rattle.batch.specs.FetchAll.{fetchAllChecks, fetchAll, fetchedPages};
 ghost use Rattle.batch.specs.Showing.{wordsAfter, showNext, primariesOf, PrimariesIn};
 ghost use Rattle.batch.specs.Demand1.{BatchedDemand1};
 use answer::Answer;
@@ -146,7 +146,7 @@ fn fetch_refusal(memory: &[u32], directory: Directory, room: usize) -> u32
     let primary = directory.primary;
     let secondary = directory.secondary;
     let status = directory.status;
-    let first = checks::running(memory, cards, pages, &live, &primary, &secondary, status);
+    let first = checks::running_refusal(memory, cards, pages, &live, &primary, &secondary, status);
     if first != 0 {
         return first;
     }
@@ -200,11 +200,11 @@ fn fetch_pages(
     requires { ⌜ (pages ≤ 64) × (length (now memory) ≡ cards * areaSize pages) ⌝ }
     requires { ⌜ (length (now moving) ≡ 64) × PrimariesIn cards pages (now primary) ⌝ }
     requires { ⌜ (length (now buffer) ≡ 32 * pages) × (length (now shown) ≡ 64) ⌝ }
-    ensures { λ _. ⌜ pagesOf (now (buffer .exit)) (now (shown .exit))
+    ensures { λ _. ⌜ fetchedPages (now (buffer .exit)) (now (shown .exit))
         ≡ inTurn
         (showNext (now (moving .entry)) (primariesOf pages (now (primary .entry)))
         (now (memory .entry)))
-        pages (pagesOf (now (buffer .entry)) (now (shown .entry))) ⌝ }
+        pages (fetchedPages (now (buffer .entry)) (now (shown .entry))) ⌝ }
 {
     for page in 0..pages {
         let seen = fetch_next(memory, cards, pages, primary, moving, page, buffer);
@@ -220,7 +220,7 @@ pub fn fetch_all(memory: &[u32], directory: Directory, buffer: &mut [u32]) -> Fe
         ≡ answerOf (fetchAll directory (now (memory .entry)) (now (buffer .entry)) .outcome) ⌝ }
     ensures directory { λ r. ⌜ r .directory
         ≡ fetchAll directory (now (memory .entry)) (now (buffer .entry)) .directory ⌝ }
-    ensures pages { λ r. ⌜ pagesOf (now (buffer .exit)) (r .shown)
+    ensures pages { λ r. ⌜ fetchedPages (now (buffer .exit)) (r .shown)
         ≡ fetchAll directory (now (memory .entry)) (now (buffer .entry)) .pages ⌝ }
 {
     let mut shown = [false; 64];

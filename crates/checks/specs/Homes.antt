@@ -1,4 +1,4 @@
--- The homes of a page as far as their numbers tell whether they are bad.
+-- Inner contracts only. The homes of a page as far as their numbers tell whether they are bad.
 use Rattle.laws.specs.Prelude.{ℕ, List, Bool, _||_, getD, leb, eqb}
 
 -- they are the same, or one of them is not below the number of cards

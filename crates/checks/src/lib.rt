@@ -226,7 +226,7 @@ fn bad_card(memory: &[u32], pages: u32, live: &[bool], card: usize) -> bool
 {
     if live[card] {
         let size = memory::area_size(pages);
-        let open = memory::load_word(memory, size, card, memory::RELEASE_OPEN);
+        let open = memory::load_word(memory, size, card, memory::OPEN_FLAG);
         if 1 < open {
             return true;
         }
@@ -289,7 +289,7 @@ fn unfit_rack(
 // ---- the checks in order
 
 // Refusal 1 or 2, or 0 where the two fit.
-pub fn fitting(
+pub fn fit_refusal(
     memory: &[u32],
     cards: u32,
     pages: u32,
@@ -317,7 +317,7 @@ pub fn fitting(
 }
 
 // Refusal 1, 2 or 11, or 0.
-pub fn running(
+pub fn running_refusal(
     memory: &[u32],
     cards: u32,
     pages: u32,
@@ -335,7 +335,7 @@ pub fn running(
         (now (memory .entry)))
         0 .number ⌝ }
 {
-    let unfit = fitting(memory, cards, pages, live, primary, secondary, status);
+    let unfit = fit_refusal(memory, cards, pages, live, primary, secondary, status);
     if unfit != 0 {
         return unfit;
     }
@@ -346,7 +346,7 @@ pub fn running(
 }
 
 // Refusal 1, 2, 11 or 3, or 0: there is such a card, live or dead.
-pub fn card(
+pub fn card_refusal(
     memory: &[u32],
     cards: u32,
     pages: u32,
@@ -365,7 +365,7 @@ pub fn card(
         (now (memory .entry)) card)
         0 .number ⌝ }
 {
-    let refused = running(memory, cards, pages, live, primary, secondary, status);
+    let refused = running_refusal(memory, cards, pages, live, primary, secondary, status);
     if refused != 0 {
         return refused;
     }
@@ -376,7 +376,7 @@ pub fn card(
 }
 
 // Refusal 1, 2, 11 or 3, or 0: there is such a card, and it is live.
-pub fn live_card(
+pub fn live_card_refusal(
     memory: &[u32],
     cards: u32,
     pages: u32,
@@ -395,7 +395,7 @@ pub fn live_card(
         (now (memory .entry)) card)
         0 .number ⌝ }
 {
-    let refused = running(memory, cards, pages, live, primary, secondary, status);
+    let refused = running_refusal(memory, cards, pages, live, primary, secondary, status);
     if refused != 0 {
         return refused;
     }

@@ -1,4 +1,4 @@
--- Marks of prices, each at its place.
+-- Inner contracts only. Marks of prices, each at its place.
 -- Assumes nothing: these are definitions.
 use Rattle.laws.specs.Prelude.{ℕ, List, [], _∷_, Bool, true, cond, set, ltb}
 use Rattle.diff.specs.declared.Cursor.{Cursor}

@@ -1,4 +1,4 @@
--- Refusal 10: the prices of a list, counted, and the pages that they name.
+-- Inner contracts only. Refusal 10: the prices of a list, counted, and the pages that they name.
 -- Assumes nothing: these are definitions.
 use Rattle.laws.specs.Prelude.{ℕ, _-_, List, Bool, false, cond, _&&_, _||_, length, getD, set, ltb, leb, eqb}
 use Rattle.memory.specs.Layout.{areaSize}

@@ -1,4 +1,4 @@
--- The other cards of a rack that have a release open.
+-- Inner contracts only. The other cards of a rack that have a release open.
 -- Assumes nothing: this is a definition.
 use Rattle.laws.specs.Prelude.{ℕ, List, Bool, not, _&&_, eqb}
 use Rattle.protocol.specs.Release.{isOpen}

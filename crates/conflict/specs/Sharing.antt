@@ -1,4 +1,5 @@
--- Refusal 8 by marks: the labels that a list names are marked, and another card's open release prices a marked one.
+-- Inner contracts only. Refusal 8 by marks: the labels that a list names are marked, and another card's open release
+-- prices a marked one.
 -- Assumes nothing: these are definitions.
 use Rattle.laws.specs.Prelude.{ℕ, _+_, _-_, _*_, List, [], _∷_, Bool, false, cond, _&&_, _||_, getD, ltb}
 use Rattle.memory.specs.Layout.{areaSize}

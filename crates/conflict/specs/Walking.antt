@@ -1,4 +1,5 @@
--- A walk over the words of a list: the state of the reading, and the index of the word that comes next.
+-- Inner contracts only. A walk over the words of a list: the state of the reading, and the index of the word that comes
+-- next.
 -- Assumes nothing: these are definitions.
 use Rattle.laws.specs.Prelude.{ℕ, _+_, List, length, getD}
 use Rattle.diff.specs.declared.Step.{Step}

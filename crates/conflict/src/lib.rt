@@ -23,7 +23,7 @@ pub fn is_open(memory: &[u32], size: usize, live: &[bool], card: usize) -> bool
     ensures { λ r. ⌜ r ≡ isOpen (now (live .entry)) size (now (memory .entry)) card ⌝ }
 {
     if live[card] {
-        return memory::load_word(memory, size, card, memory::RELEASE_OPEN) == 1;
+        return memory::load_word(memory, size, card, memory::OPEN_FLAG) == 1;
     }
     false
 }

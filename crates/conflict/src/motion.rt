@@ -6,7 +6,7 @@ ghost use Rattle.memory.specs.Area.{AreaIn};
 ghost use Rattle.diff.specs.Prices.{pricesOf};
 ghost use Rattle.protocol.specs.Release.{stepsOf, countsAt};
 ghost use Rattle.protocol.specs.Fetch.{inMotion};
-ghost use Rattle.reader.specs.Steady.{Steady};
+ghost use Rattle.reader.specs.WellFormed.{WellFormed};
 ghost use Rattle.conflict.specs.Marks.{marked, markedDue};
 ghost use Rattle.conflict.specs.Motion.{pageOf, pageDue, onPage, tallyOf, joinMark};
 ghost use Rattle.conflict.specs.Motion.{markMotion};
@@ -21,7 +21,7 @@ struct Tally {
 
 // Whether the page was named already, or the price that is due names it.
 fn on_page(s: Cursor, page: u32, named: bool) -> bool
-    requires { ⌜ Steady s ⌝ }
+    requires { ⌜ WellFormed s ⌝ }
     ensures { λ r. ⌜ r ≡ (named || onPage s page) ⌝ }
 {
     if named {
@@ -91,7 +91,7 @@ pub fn lowest_in_motion(memory: &[u32], cards: u32, pages: u32, live: &[bool], p
 
 // Marks the page of the price that is due, if one is.
 fn mark_page(s: Cursor, marks: &mut [bool])
-    requires { ⌜ Steady s ⌝ }
+    requires { ⌜ WellFormed s ⌝ }
     requires { ⌜ (s .next ≤ 64) × (length (now marks) ≡ 64) ⌝ }
     ensures { λ _. ⌜ now (marks .exit) ≡ markedDue s (pageDue s) (now (marks .entry)) ⌝ }
 {

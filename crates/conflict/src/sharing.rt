@@ -4,7 +4,7 @@ ghost use Rattle.laws.specs.Search.{lowest};
 ghost use Rattle.memory.specs.Layout.{areaSize};
 ghost use Rattle.diff.specs.Prices.{labelOf, pricesOf};
 ghost use Rattle.protocol.specs.Opening.{sharesWith};
-ghost use Rattle.reader.specs.Steady.{Steady};
+ghost use Rattle.reader.specs.WellFormed.{WellFormed};
 ghost use Rattle.conflict.specs.Marks.{marked, markedDue};
 ghost use Rattle.conflict.specs.Sharing.{labelDue, hitsDue, marksWith};
 use crate::walk;
@@ -12,7 +12,7 @@ use diff::Cursor;
 
 // The label of the price that is due.
 fn label_due(s: Cursor) -> usize
-    requires { ⌜ Steady s ⌝ }
+    requires { ⌜ WellFormed s ⌝ }
     requires { ⌜ (0 < s .due) × (s .next ≤ 64) ⌝ }
     ensures { λ r. ⌜ r ≡ labelDue s ⌝ }
 {
@@ -21,7 +21,7 @@ fn label_due(s: Cursor) -> usize
 
 // Marks the label of the price that is due, if one is.
 fn mark_label(s: Cursor, marks: &mut [bool])
-    requires { ⌜ Steady s ⌝ }
+    requires { ⌜ WellFormed s ⌝ }
     requires { ⌜ (s .next ≤ 64) × (length (now marks) ≡ 2048) ⌝ }
     ensures { λ _. ⌜ now (marks .exit) ≡ markedDue s (labelDue s) (now (marks .entry)) ⌝ }
 {
@@ -46,7 +46,7 @@ fn mark_labels(list: &[u32], pages: u32, marks: &mut [bool])
 
 // Whether a price is due whose label is marked.
 fn hits(s: Cursor, named: &[bool]) -> bool
-    requires { ⌜ Steady s ⌝ }
+    requires { ⌜ WellFormed s ⌝ }
     requires { ⌜ (s .next ≤ 64) × (length (now named) ≡ 2048) ⌝ }
     ensures { λ r. ⌜ r ≡ hitsDue s (now (named .entry)) ⌝ }
 {

@@ -1,6 +1,6 @@
 // A walk over the words of a list.
 ghost use Rattle.laws.specs.Prelude.{_≡_, _<_, length};
-ghost use Rattle.reader.specs.Steady.{Steady};
+ghost use Rattle.reader.specs.WellFormed.{WellFormed};
 ghost use Rattle.conflict.specs.Walking.{atFirst, pastWord};
 use diff::Cursor;
 use diff::Step;
@@ -21,7 +21,7 @@ pub(crate) fn first_word() -> Walk
 
 // Past the next word of the list: at its end if the word ends the list or breaks a rule.
 pub(crate) fn next_word(list: &[u32], at: Walk, pages: u32) -> Walk
-    requires { ⌜ Steady (at .cursor) ⌝ }
+    requires { ⌜ WellFormed (at .cursor) ⌝ }
     requires { ⌜ at .index < length (now list) ⌝ }
     ensures { λ r. ⌜ r ≡ pastWord pages (now (list .entry)) at ⌝ }
 {

@@ -7,7 +7,8 @@ use Rattle.diff.specs.Prices.{Price, labelOf, pricedWord}
 use Rattle.diff.specs.Making.{runLength, encodeFrom}
 use Rattle.diff.proofs.Derivation.{Reads, reads-end, reads-page, reads-run, reads-price}
 use Rattle.diff.proofs.Encoding.{Ascending, none, more, follows-yes, follows-no-page, follows-no-word}
-use Rattle.diff.proofs.Encoding.{run-goes-on, run-stops, run-last, header-page, header-run, header-none}
+use Rattle.diff.proofs.Encoding.{run-goes-on, run-stops, run-last, run-header-page, run-header-run}
+use Rattle.diff.proofs.Encoding.{run-header-none}
 use Rattle.diff.proofs.Encoding.{encode-none, encode-price}
 
 -- the words of prices after the label `next`, and the end word that names the index `last`
@@ -45,7 +46,7 @@ module _ (pages last : ℕ) where
         → (0 < s .next → (next + 32 ≡ 32 * s .next + s .word) × (0 < s .word)) → BetweenRuns next s ws ps
     pub opened : s .due ≡ 0 → s .gap ≡ 0 → s .word ≡ 0 → (p : ℕ) → s .next ≡ p + 1 → p < pages
         → (next : ℕ) → next ≤ 32 * p → AfterPage next p ws ps
-    pub running : 0 < s .due → 0 < s .next → s .next ≤ pages → s .word + s .due ≤ 32 → InRun s ws ps
+    pub in-run : 0 < s .due → 0 < s .next → s .next ≤ pages → s .word + s .due ≤ 32 → InRun s ws ps
 
   module _ (s : Cursor) (index : ℕ) where
     end-coded : s .due ≡ 0 → 0 < s .gap → last ≡ index → Coded s (endWord index ∷ []) []
@@ -54,7 +55,7 @@ module _ (pages last : ℕ) where
           between = λ _ _ _ next _ _. record
               { code = rw (encode-none next, own); up = none; apart = λ p _ _. run-last p };
           opened = λ _ closed _ p _ _ next _. absurd (omega arith);
-          running = λ due _ _ _. absurd (omega arith);
+          in-run = λ due _ _ _. absurd (omega arith);
         }
 
     page-coded : (p : ℕ) (ws : List ℕ) (ps : List Price) → s .due ≡ 0 → 0 < s .gap → s .next ≤ p → p < pages
@@ -65,7 +66,7 @@ module _ (pages last : ℕ) where
               let a = later .opened refl refl refl p refl fits next (omega arith) in
               record { code = a .code; up = a .up; apart = λ q _ own. a .apart q (omega arith) };
           opened = λ _ closed _ q _ _ next _. absurd (omega arith);
-          running = λ due _ _ _. absurd (omega arith);
+          in-run = λ due _ _ _. absurd (omega arith);
         }
 
     -- a run word, between runs and after a page word
@@ -73,7 +74,7 @@ module _ (pages last : ℕ) where
         → s .word + s .gap ≤ o → 0 < s .gap → InRun (pastRun s o n) ws ps → (next : ℕ)
         → next + 32 ≡ 32 * s .next + s .word → 0 < s .word → BetweenRuns next s (runWord o n ∷ ws) ps
     run-between o n ws ps fits some short past gap r next at far =
-        let head = header-run next (r .first) (runLength (r .first) (r .rest)) (omega arith) (omega arith) in
+        let head = run-header-run next (r .first) (runLength (r .first) (r .rest)) (omega arith) (omega arith) in
         record {
           code = rw (r .is, encode-price next (r .first) (r .rest) _ head, r .code, r .long, r .word);
           up = rw (r .is) (more {next = next} {p = r .first} (omega arith) (omega arith) (omega arith) (r .up));
@@ -85,7 +86,7 @@ module _ (pages last : ℕ) where
         → (p : ℕ) → s .next ≡ p + 1 → p < pages → (next : ℕ) → next ≤ 32 * p → AfterPage next p (runWord o n ∷ ws) ps
     run-opened o n ws ps some short r p named fits next low =
         let own : r .first .page ≡ p = omega arith in
-        let head = header-page next (r .first) (runLength (r .first) (r .rest)) (omega arith) in
+        let head = run-header-page next (r .first) (runLength (r .first) (r .rest)) (omega arith) in
         record {
           code = rw (r .is, encode-price next (r .first) (r .rest) _ head, r .code, r .long, r .word, own);
           up = rw (r .is) (more {next = next} {p = r .first} (omega arith) (omega arith) (omega arith) (r .up));
@@ -98,11 +99,11 @@ module _ (pages last : ℕ) where
     run-coded o n ws ps idle named some short past later =
         record {
           between = λ _ gap fits next _ at.
-              run-between o n ws ps fits some short past gap (later .running some named fits short) next
+              run-between o n ws ps fits some short past gap (later .in-run some named fits short) next
               (at named .0) (at named .1);
           opened = λ _ _ _ p own fits next low.
-              run-opened o n ws ps some short (later .running some named (omega arith) short) p own fits next low;
-          running = λ due _ _ _. absurd (omega arith);
+              run-opened o n ws ps some short (later .in-run some named (omega arith) short) p own fits next low;
+          in-run = λ due _ _ _. absurd (omega arith);
         }
 
     -- a price: the last of its run, or one that the next price follows
@@ -127,9 +128,10 @@ module _ (pages last : ℕ) where
         → s .word + s .due ≤ 32
         → Coded (pastPrice s) ws ps → InRun s (w ∷ ws) (pricedWord s w ∷ ps)
     price-more w ws ps many named fits short later =
-        let r = later .running (omega arith) named fits (omega arith) in
+        let r = later .in-run (omega arith) named fits (omega arith) in
         let p : Price = pricedWord s w in
-        let head = header-none (labelOf p + 1) (r .first) (runLength (r .first) (r .rest)) (omega arith) (omega arith)
+        let head = run-header-none (labelOf p + 1) (r .first) (runLength (r .first) (r .rest)) (omega arith)
+        (omega arith)
         in
         record {
           first = p;
@@ -150,7 +152,7 @@ module _ (pages last : ℕ) where
         record {
           between = λ idle _ _ next _ _. absurd (omega arith);
           opened = λ idle _ _ p _ _ next _. absurd (omega arith);
-          running = λ _ named fits short. go (ℕ-discrete (s .due) 1) named fits short;
+          in-run = λ _ named fits short. go (ℕ-discrete (s .due) 1) named fits short;
         }
       where
         go : Dec (s .due ≡ 1) → 0 < s .next → s .next ≤ pages → s .word + s .due ≤ 32

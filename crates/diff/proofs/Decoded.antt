@@ -7,7 +7,8 @@ use Rattle.diff.specs.Prices.{Price, labelOf, pricedWord}
 use Rattle.diff.specs.Making.{follows, runLength, encodeFrom}
 use Rattle.diff.proofs.Derivation.{Reads, reads-end, reads-page, reads-run, reads-price}
 use Rattle.diff.proofs.Encoding.{Ascending, none, more, follows-yes, follows-page, follows-word, run-goes-on}
-use Rattle.diff.proofs.Encoding.{run-stops, run-last, header-page, header-run, header-none, encode-none}
+use Rattle.diff.proofs.Encoding.{run-stops, run-last, run-header-page, run-header-run, run-header-none}
+use Rattle.diff.proofs.Encoding.{encode-none}
 use Rattle.diff.proofs.Encoding.{encode-price}
 use Rattle.diff.proofs.Coded.{coded}
 
@@ -44,7 +45,7 @@ module _ (pages last : ℕ) (few : pages ≤ 0x10000000) where
     -- the first price of a page
     page-reads : next ≤ 32 * p .page → Reads pages s index (coded next last (p ∷ ps)) (p ∷ ps)
     page-reads fresh =
-        let code = encode-price next p ps _ (header-page next p (runLength p ps) fresh) in
+        let code = encode-price next p ps _ (run-header-page next p (runLength p ps) fresh) in
         let within = run-within p word up in
         rw code
         (reads-page {s = s} (b .idle) (omega arith) higher fits (omega arith)
@@ -61,7 +62,7 @@ module _ (pages last : ℕ) (few : pages ≤ 0x10000000) where
     -- the first price of a run on a page that is named already
     run-reads : 32 * p .page < next → (next ≡ labelOf p → ⊥) → Reads pages s index (coded next last (p ∷ ps)) (p ∷ ps)
     run-reads old apart =
-        let code = encode-price next p ps _ (header-run next p (runLength p ps) old apart) in
+        let code = encode-price next p ps _ (run-header-run next p (runLength p ps) old apart) in
         let within = run-within p word up in
         let named : 0 < s .next = omega (arith, b .low) in
         rw code
@@ -106,7 +107,7 @@ module _ (pages last : ℕ) (few : pages ≤ 0x10000000) where
           let beside = follows-word p q on in
           let long = run-goes-on p q qs on in
           let code = encode-price (labelOf p + 1) q qs _
-          (header-none (labelOf p + 1) q (runLength q qs) (omega arith) (omega arith)) in
+          (run-header-none (labelOf p + 1) q (runLength q qs) (omega arith) (omega arith)) in
           rw code
           (reads-price {s = s} (omega arith)
           (later (pastPrice s) (index + 1) (omega arith) (omega arith) (omega arith) (omega (arith, ap length code))))

@@ -4,7 +4,8 @@ use Rattle.laws.proofs.Prelude.{false, cond, arith, lt-ltb, le-ltb, lt-leb, eq-
 use mathlib.Core.List.{append-nil}
 use native.Mathlib.Nat.{add-zero, lt-of-lt-of-le}
 use Rattle.diff.specs.Format.{kind, low, offset, count, pageWord, runWord, endWord, mostWords}
-use Rattle.diff.specs.Reading.{Cursor, Step, Verdict, pastPrice, pastPage, pastRun, wordStep, afterStep, readFrom}
+use Rattle.diff.specs.Reading.{Cursor, Step, Verdict, pastPrice, pastPage, pastRun, wordStep, verdictAfter}
+use Rattle.diff.specs.Reading.{readFrom}
 use Rattle.diff.specs.Prices.{Price, pricedWord, pricesAfter, pricesFrom}
 use Rattle.diff.specs.declared.Step.the-variants.{Next, End, Fault}
 use Rattle.diff.specs.declared.Verdict.the-variants.{Good, Faulty}
@@ -70,7 +71,7 @@ module _ (pages : ℕ) (s : Cursor) (index : ℕ) where
 module _ (pages : ℕ) (s : Cursor) (index w : ℕ) (ws : List ℕ) (step : Step) (does : wordStep pages s index w ≡ step)
   where
     pub read-word : index < mostWords
-        → readFrom pages (w ∷ ws) index s ≡ afterStep (readFrom pages ws (index + 1)) s index step
+        → readFrom pages (w ∷ ws) index s ≡ verdictAfter (readFrom pages ws (index + 1)) s index step
     unfolding readFrom
     read-word few = simp (ne-eqb index mostWords (omega arith), does)
 
@@ -162,7 +163,7 @@ no-words (w ∷ ws) e = absurd (omega arith)
 -- reading goes well only within 512 words
 module _ (pages k n w : ℕ) (ws : List ℕ) (s : Cursor) (index : ℕ) where
   pub after-word : readFrom pages (w ∷ ws) index s ≡ Good k n
-      → afterStep (readFrom pages ws (index + 1)) s index (wordStep pages s index w) ≡ Good k n
+      → verdictAfter (readFrom pages ws (index + 1)) s index (wordStep pages s index w) ≡ Good k n
   unfolding readFrom
   after-word read = go (eqb index mostWords) read
     where
@@ -183,7 +184,7 @@ good-within pages k n (w ∷ ws) s index read =
     go (wordStep pages s index w) (after-word pages k n w ws s index read)
     (λ t. good-within pages k n ws t (index + 1))
   where
-    go : (step : Step) → afterStep (readFrom pages ws (index + 1)) s index step ≡ Good k n
+    go : (step : Step) → verdictAfter (readFrom pages ws (index + 1)) s index step ≡ Good k n
         → ((t : Cursor) → readFrom pages ws (index + 1) t ≡ Good k n → n ≤ index + 1 + length ws)
         → n ≤ index + suc (length ws)
     go (Next t) e rest = omega (arith, rest t e)
@@ -200,7 +201,7 @@ module _ (pages : ℕ) where
     as-word {ps = ps} word = subst (λ (v : ℕ). Reads pages s index (v ∷ ws) ps) (sym word)
 
     by-word : (step : Step) → wordStep pages s index w ≡ step → WordCase pages s index w step
-        → afterStep (readFrom pages ws (index + 1)) s index step ≡ Good k (index + 1 + length ws)
+        → verdictAfter (readFrom pages ws (index + 1)) s index step ≡ Good k (index + 1 + length ws)
         → ((t : Cursor) → ReadsWhole k ws (index + 1) t
         → Reads pages t (index + 1) ws (pricesFrom pages ws (index + 1) t))
         → Reads pages s index (w ∷ ws) (pricesFrom pages (w ∷ ws) index s)

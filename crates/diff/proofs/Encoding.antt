@@ -4,7 +4,7 @@ use Rattle.laws.proofs.Prelude.{arith, le-leb, lt-leb, eq-eqb, ne-eqb, eqb-true
 use Rattle.laws.proofs.Bools.{and-first, and-second}
 use Rattle.diff.specs.Format.{pageWord, runWord}
 use Rattle.diff.specs.Prices.{Price, labelOf}
-use Rattle.diff.specs.Making.{follows, runLength, header, encodeFrom}
+use Rattle.diff.specs.Making.{follows, runLength, runHeader, encodeFrom}
 
 -- prices on words of a rack's pages, their labels ascending from `next` on
 pub data Ascending (pages : ℕ) : ℕ → List Price → Type 0 where
@@ -58,24 +58,24 @@ run-last p = refl
 -- ---- the words before a price
 
 module _ (next : ℕ) (p : Price) (run : ℕ) where
-  pub header-page : next ≤ 32 * p .page → header next p run ≡ pageWord (p .page) ∷ runWord (p .word) run ∷ []
-  unfolding header
-  header-page h = simp (le-leb next (32 * p .page) h)
+  pub run-header-page : next ≤ 32 * p .page → runHeader next p run ≡ pageWord (p .page) ∷ runWord (p .word) run ∷ []
+  unfolding runHeader
+  run-header-page h = simp (le-leb next (32 * p .page) h)
 
-  pub header-run : 32 * p .page < next → (next ≡ labelOf p → ⊥) → header next p run ≡ runWord (p .word) run ∷ []
-  unfolding header
-  header-run h n = simp (lt-leb next (32 * p .page) h, ne-eqb next (labelOf p) n)
+  pub run-header-run : 32 * p .page < next → (next ≡ labelOf p → ⊥) → runHeader next p run ≡ runWord (p .word) run ∷ []
+  unfolding runHeader
+  run-header-run h n = simp (lt-leb next (32 * p .page) h, ne-eqb next (labelOf p) n)
 
-  pub header-none : 32 * p .page < next → next ≡ labelOf p → header next p run ≡ []
-  unfolding header
-  header-none h e = simp (lt-leb next (32 * p .page) h, eq-eqb next (labelOf p) e)
+  pub run-header-none : 32 * p .page < next → next ≡ labelOf p → runHeader next p run ≡ []
+  unfolding runHeader
+  run-header-none h e = simp (lt-leb next (32 * p .page) h, eq-eqb next (labelOf p) e)
 
 pub encode-none : (next : ℕ) → encodeFrom next [] ≡ []
 unfolding encodeFrom
 encode-none next = refl
 
 -- a price with its header, by what the header is
-pub encode-price : (next : ℕ) (p : Price) (ps : List Price) (ws : List ℕ) → header next p (runLength p ps) ≡ ws
+pub encode-price : (next : ℕ) (p : Price) (ps : List Price) (ws : List ℕ) → runHeader next p (runLength p ps) ≡ ws
     → encodeFrom next (p ∷ ps) ≡ ws ++ p .price ∷ encodeFrom (labelOf p + 1) ps
 unfolding encodeFrom
 encode-price next p ps ws e = rw e

@@ -11,8 +11,8 @@ use Rattle.diff.specs.Format.{mostWords}
 use Rattle.diff.specs.Reading.{start, readDiff, wholeDiff, checkDiff}
 use Rattle.diff.specs.declared.Verdict.{Verdict}
 use Rattle.diff.specs.declared.Verdict.the-variants.{Good, Faulty}
-use Rattle.diff.specs.Prices.{Price, pricesOf, pricesFrom, lay}
-use Rattle.diff.specs.Making.{changes, encodeFrom, madeDiff, makeDiff, lentPages}
+use Rattle.diff.specs.Prices.{Price, pricesOf, pricesFrom, applyPrices}
+use Rattle.diff.specs.Making.{differences, encodeFrom, madeDiff, makeDiff, lentPages}
 use Rattle.diff.specs.OnlyDiff.{Allowed, Turns, Names, Differs, MadeIsOnly, MadeIsOnlyDiff}
 use Rattle.diff.proofs.Derivation.{Reads, reads-good, reads-prices, reads-derived, reads-some, ReadsWhole}
 use Rattle.diff.proofs.Derivation.{good-within}
@@ -20,8 +20,9 @@ use Rattle.diff.proofs.Stored.{good-few}
 use Rattle.diff.proofs.Encoding.{Ascending}
 use Rattle.diff.proofs.Coded.{coded, reads-coded}
 use Rattle.diff.proofs.Decoded.{decoded}
-use Rattle.diff.proofs.Prices.{length-lay, lay-at}
-use Rattle.diff.proofs.Making.{changes-ascend, changes-name, changes-named, changes-laid, Turning, only-changes}
+use Rattle.diff.proofs.Prices.{length-apply, apply-at}
+use Rattle.diff.proofs.Making.{differences-ascend, differences-name, differences-named, differences-applied}
+use Rattle.diff.proofs.Making.{Turning, only-differences}
 
 -- ---- what an accepted making says
 
@@ -106,31 +107,33 @@ module _ (pages : ℕ) (working twins : List ℕ) (fits : length working ≤ 32 
   made : List ℕ
   made = madeDiff working twins
 
-  changes-up : Ascending pages 0 (changes working twins)
-  changes-up = changes-ascend pages working twins 0 even (omega (arith, fits))
+  differences-up : Ascending pages 0 (differences working twins)
+  differences-up = differences-ascend pages working twins 0 even (omega (arith, fits))
 
-  made-reads : Reads pages start 0 made (changes working twins)
+  made-reads : Reads pages start 0 made (differences working twins)
   unfolding made madeDiff
-  made-reads = decoded pages (length (encodeFrom 0 (changes working twins))) (omega (arith, few)) changes-up refl
+  made-reads =
+      decoded pages (length (encodeFrom 0 (differences working twins))) (omega (arith, few)) differences-up refl
 
-  made-whole : ReadsWhole pages (0 + length (changes working twins)) made 0 start
+  made-whole : ReadsWhole pages (0 + length (differences working twins)) made 0 start
   unfolding made
   made-whole = reads-good pages made-reads (omega (arith, accepted .short))
 
-  made-prices : pricesOf pages made ≡ changes working twins
+  made-prices : pricesOf pages made ≡ differences working twins
   unfolding made pricesOf
   made-prices = reads-prices pages made-reads (omega (arith, accepted .short))
 
-  made-turns : lay (changes working twins) twins ≡ working
+  made-turns : applyPrices (differences working twins) twins ≡ working
   made-turns =
-      ext-getD 0 (lay (changes working twins) twins) working (length-lay (changes working twins) twins ∙ sym even)
-      (λ label within. laid label (rw (length-lay, ← even) at within))
+      ext-getD 0 (applyPrices (differences working twins) twins) working
+      (length-apply (differences working twins) twins ∙ sym even)
+      (λ label within. applied label (rw (length-apply, ← even) at within))
     where
-      laid : (label : ℕ) → label < length working
-          → getD (lay (changes working twins) twins) label 0 ≡ getD working label 0
-      laid label within =
-          lay-at (changes working twins) twins label (rw (← even) within)
-          ∙ (rw (zero-add label) at (changes-laid working twins pages 0 label even (omega (arith, fits)) within))
+      applied : (label : ℕ) → label < length working
+          → getD (applyPrices (differences working twins) twins) label 0 ≡ getD working label 0
+      applied label within =
+          apply-at (differences working twins) twins label (rw (← even) within)
+          ∙ (rw (zero-add label) at (differences-applied working twins pages 0 label even (omega (arith, fits)) within))
 
   differs-within : (label : ℕ) → Differs working twins label → label < length working
   differs-within label differ = go (decLt label (length working))
@@ -155,9 +158,9 @@ module _ (pages : ℕ) (working twins : List ℕ) (fits : length working ≤ 32 
       let between =
       reads-coded pages last reads (omega arith) .between refl (omega arith) (omega arith) 0 (omega arith)
       (λ named. absurd (omega arith)) in
-      let same = only-changes pages working twins 0 prices (between .up) turning in
-      let code : diff ≡ coded 0 last (changes working twins) = rw (← same) (between .code) in
-      let at : last ≡ length (encodeFrom 0 (changes working twins)) = omega
+      let same = only-differences pages working twins 0 prices (between .up) turning in
+      let code : diff ≡ coded 0 last (differences working twins) = rw (← same) (between .code) in
+      let at : last ≡ length (encodeFrom 0 (differences working twins)) = omega
       (arith, simp length-append at (ap length code)) in
       code ∙ rw at
     where
@@ -170,7 +173,7 @@ module _ (pages : ℕ) (working twins : List ℕ) (fits : length working ≤ 32 
             even = even;
             turn = λ label within.
                 rw (zero-add label)
-                (sym (lay-at prices twins label (rw (← even) within)) ∙ ap (λ (l : List ℕ). getD l label 0) turn);
+                (sym (apply-at prices twins label (rw (← even) within)) ∙ ap (λ (l : List ℕ). getD l label 0) turn);
             spare = λ label named. spare label (rw (zero-add label) at named);
           }
 
@@ -178,13 +181,13 @@ module _ (pages : ℕ) (working twins : List ℕ) (fits : length working ≤ 32 
   unfolding made
   made-is-only =
       record {
-        allowed = whole-allowed pages made (0 + length (changes working twins)) made-whole;
+        allowed = whole-allowed pages made (0 + length (differences working twins)) made-whole;
         turns = rw made-prices made-turns;
         names-what-differs = λ label differ.
             rw made-prices
-            (rw (zero-add label) at (changes-name working twins 0 label even (differs-within label differ) differ));
+            (rw (zero-add label) at (differences-name working twins 0 label even (differs-within label differ) differ));
         names-no-other = λ label named.
-            changes-named working twins pages 0 label even (omega (arith, fits))
+            differences-named working twins pages 0 label even (omega (arith, fits))
             (rw (zero-add label, ← made-prices) named);
         only = only-made;
       }

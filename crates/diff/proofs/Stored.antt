@@ -2,7 +2,7 @@
 use Rattle.laws.proofs.Prelude.{ℕ, zero, suc, _+_, _≤_, _<_, _≡_, refl, List, [], _∷_, arith, lt-ltb, le-ltb, length}
 use Rattle.laws.proofs.Prelude.{getD}
 use Rattle.diff.specs.Format.{mostWords}
-use Rattle.diff.specs.Reading.{Cursor, Step, start, wordStep, afterStep, readFrom}
+use Rattle.diff.specs.Reading.{Cursor, Step, start, wordStep, verdictAfter, readFrom}
 use Rattle.diff.specs.Prices.{Price, pricesFrom, pricesOf}
 use Rattle.diff.specs.declared.Verdict.the-variants.{Good}
 use Rattle.diff.proofs.Reading.{WordCase, a-price, a-page, a-run, an-end, a-fault, word-case}
@@ -23,7 +23,7 @@ module _ (pages k n : ℕ) where
           → k ≡ t .prices + length (pricesFrom pages ws (index + 1) t)
 
       go : (step : Step) → wordStep pages s index w ≡ step → WordCase pages s index w step
-          → afterStep (readFrom pages ws (index + 1)) s index step ≡ Good k n → Rest
+          → verdictAfter (readFrom pages ws (index + 1)) s index step ≡ Good k n → Rest
           → k ≡ s .prices + length (pricesFrom pages (w ∷ ws) index s)
       go _ does (a-price due) read rest =
           let r = rest _ read in
@@ -53,7 +53,7 @@ module _ (pages k n : ℕ) where
           → (k < n) × (n ≤ mostWords)
 
       go : (step : Step) → WordCase pages s index w step
-          → afterStep (readFrom pages ws (index + 1)) s index step ≡ Good k n
+          → verdictAfter (readFrom pages ws (index + 1)) s index step ≡ Good k n
           → Rest → (k < n) × (n ≤ mostWords)
       go _ (a-price due) read rest = rest _ read (omega arith) (omega (arith, within))
       go _ (a-page _ _ _ _ _) read rest = rest _ read (omega arith) (omega (arith, within))

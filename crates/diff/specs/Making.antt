@@ -1,6 +1,6 @@
 -- The diff that two states of the pages make (document 01, "The list of changes": "The list maker compares working
 -- pages with their twins .. and names exactly the words that differ"), and what making it answers.
--- Which words are named (`changes`) stands apart from how prices become words (`encode`).
+-- Which words are named (`differences`) stands apart from how prices become words (`encode`).
 -- Assumes nothing: these are definitions.
 use Rattle.laws.specs.Prelude.{ℕ, suc, _+_, _*_, _/_, _%_, List, [], _∷_, _++_, Bool, cond, _&&_, length, drop, ltb}
 use Rattle.laws.specs.Prelude.{leb, eqb}
@@ -16,14 +16,14 @@ abbrev pub priceAt : ℕ → ℕ → Price
 priceAt label price = record { page = label / 32; word = label % 32; price = price }
 
 -- the working prices that differ from their twins, from a label on
-unfoldable pub changesFrom : ℕ → List ℕ → List ℕ → List Price
-changesFrom label [] twins = []
-changesFrom label (w ∷ ws) [] = []
-changesFrom label (w ∷ ws) (t ∷ ts) =
-    cond (eqb w t) [] (priceAt label w ∷ []) ++ changesFrom (label + 1) ws ts
+unfoldable pub differencesFrom : ℕ → List ℕ → List ℕ → List Price
+differencesFrom label [] twins = []
+differencesFrom label (w ∷ ws) [] = []
+differencesFrom label (w ∷ ws) (t ∷ ts) =
+    cond (eqb w t) [] (priceAt label w ∷ []) ++ differencesFrom (label + 1) ws ts
 
-abbrev pub changes : List ℕ → List ℕ → List Price
-changes working twins = changesFrom 0 working twins
+abbrev pub differences : List ℕ → List ℕ → List Price
+differences working twins = differencesFrom 0 working twins
 
 -- ---- how prices, their labels ascending, become a diff
 
@@ -38,14 +38,14 @@ runLength p (q ∷ qs) = suc (cond (follows p q) (runLength q qs) 0)
 
 -- What stands before a price: a page word and a run word if nothing of its page is named yet, nothing if it goes on
 -- with the run before it, else a run word. `next` is one more than the label named last, 0 before the first.
-unfoldable pub header : ℕ → Price → ℕ → List ℕ
-header next p run =
+unfoldable pub runHeader : ℕ → Price → ℕ → List ℕ
+runHeader next p run =
     cond (leb next (32 * p .page)) (pageWord (p .page) ∷ runWord (p .word) run ∷ [])
     (cond (eqb next (labelOf p)) [] (runWord (p .word) run ∷ []))
 
 unfoldable pub encodeFrom : ℕ → List Price → List ℕ
 encodeFrom next [] = []
-encodeFrom next (p ∷ ps) = header next p (runLength p ps) ++ p .price ∷ encodeFrom (labelOf p + 1) ps
+encodeFrom next (p ∷ ps) = runHeader next p (runLength p ps) ++ p .price ∷ encodeFrom (labelOf p + 1) ps
 
 abbrev pub ended : List ℕ → List ℕ
 ended body = body ++ endWord (length body) ∷ []
@@ -56,7 +56,7 @@ encode ps = ended (encodeFrom 0 ps)
 -- ---- the list maker
 
 unfoldable pub madeDiff : List ℕ → List ℕ → List ℕ
-madeDiff working twins = encode (changes working twins)
+madeDiff working twins = encode (differences working twins)
 
 -- refusal 1 in list work: "lent pages of unequal length or not 32 words times 1 to 64"
 unfoldable pub lentPages : ℕ → ℕ → Bool

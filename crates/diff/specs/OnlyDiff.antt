@@ -2,7 +2,7 @@
 -- list that document 01 allows for those changes and that names no other word."
 use Rattle.laws.specs.Prelude.{ℕ, _*_, _≤_, _≡_, _≢_, List, true, length, getD}
 use Rattle.diff.specs.Reading.{checkDiff}
-use Rattle.diff.specs.Prices.{pricesOf, names, lay}
+use Rattle.diff.specs.Prices.{pricesOf, names, applyPrices}
 use Rattle.diff.specs.Making.{madeDiff, makeDiff}
 
 -- a list that document 01 allows on a rack of so many pages: handed in, it is not refused
@@ -11,7 +11,7 @@ Allowed pages diff = checkDiff pages diff .number ≡ 0
 
 -- the pages `twins`, with the diff's prices, are the pages `working`
 abbrev pub Turns : ℕ → List ℕ → List ℕ → List ℕ → Type 0
-Turns pages diff twins working = lay (pricesOf pages diff) twins ≡ working
+Turns pages diff twins working = applyPrices (pricesOf pages diff) twins ≡ working
 
 -- the diff names the label
 abbrev pub Names : ℕ → List ℕ → ℕ → Type 0

@@ -34,12 +34,12 @@ unfoldable pub names : List Price → ℕ → Bool
 names [] label = false
 names (p ∷ ps) label = cond (eqb (labelOf p) label) true (names ps label)
 
--- a label's price after prices are laid on it in order
-unfoldable pub laidAt : List Price → ℕ → ℕ → ℕ
-laidAt [] label price = price
-laidAt (p ∷ ps) label price = laidAt ps label (cond (eqb (labelOf p) label) (p .price) price)
+-- a label's price after prices are applied in order
+unfoldable pub appliedAt : List Price → ℕ → ℕ → ℕ
+appliedAt [] label price = price
+appliedAt (p ∷ ps) label price = appliedAt ps label (cond (eqb (labelOf p) label) (p .price) price)
 
--- pages, one after the other, with prices laid on them in order
-unfoldable pub lay : List Price → List ℕ → List ℕ
-lay [] pages = pages
-lay (p ∷ ps) pages = lay ps (set pages (labelOf p) (p .price))
+-- pages, one after the other, with prices applied to them in order
+unfoldable pub applyPrices : List Price → List ℕ → List ℕ
+applyPrices [] pages = pages
+applyPrices (p ∷ ps) pages = applyPrices ps (set pages (labelOf p) (p .price))

@@ -87,10 +87,10 @@ wordStep pages s index w =
     (cond (eqb (kind w) 15) (endStep s index w) Fault)))
 
 -- reading goes on after a word, or is over
-abbrev pub afterStep : (Cursor → Verdict) → Cursor → ℕ → Step → Verdict
-afterStep rest s index (Next t) = rest t
-afterStep rest s index End = Good (s .prices) (index + 1)
-afterStep rest s index Fault = Faulty index
+abbrev pub verdictAfter : (Cursor → Verdict) → Cursor → ℕ → Step → Verdict
+verdictAfter rest s index (Next t) = rest t
+verdictAfter rest s index End = Good (s .prices) (index + 1)
+verdictAfter rest s index Fault = Faulty index
 
 -- The words from an index on. A place is the first word that breaks a rule, the length if the list stops early,
 -- 512 if it is longer.
@@ -98,7 +98,7 @@ unfoldable pub readFrom : ℕ → List ℕ → ℕ → Cursor → Verdict
 readFrom pages [] index s = Faulty index
 readFrom pages (w ∷ ws) index s =
     cond (eqb index mostWords) (Faulty mostWords)
-    (afterStep (readFrom pages ws (index + 1)) s index (wordStep pages s index w))
+    (verdictAfter (readFrom pages ws (index + 1)) s index (wordStep pages s index w))
 
 -- a list read to its end word, as those in word 164 onward are
 abbrev pub readDiff : ℕ → List ℕ → Verdict

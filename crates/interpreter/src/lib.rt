@@ -89,7 +89,7 @@ pub struct Progress {
 }
 
 // Reads on up to a line feed and past it, and answers the line; or to the end of the input.
-fn feed(
+fn process_line(
     memory: &mut [u32],
     session: Session,
     input: &[u8],
@@ -153,7 +153,7 @@ pub fn respond(memory: &mut [u32], session: Session, input: &[u8], output: &mut 
         if output.len() - written < 80 {
             break;
         }
-        let done = feed(memory, session, input, read, output, written);
+        let done = process_line(memory, session, input, read, output, written);
         session = done.session;
         read = done.read;
         written = done.written;

@@ -4,8 +4,8 @@ use Rattle.laws.proofs.Prelude.{length, getD, set, take, drop}
 use mathlib.Core.List.{append-nil}
 use native.Mathlib.Nat.{add-zero, zero-add}
 use native.Mathlib.Numerals.{add-one}
-use lib.ListN.{length-set, drop-of-length-le}
-use lib.Seq.{sets, sets-eq, getD-set-same, getD-set-other, take-suc, length-take-le}
+use lib.ListN.{length-set, drop-of-length-le, length-take, length-drop, take-append-drop}
+use lib.Seq.{sets, sets-eq, getD-set-same, getD-set-other, take-suc, length-take-le, take-add}
 
 -- two runs of stores, one after the other
 pub sets-append : (us vs l : List ℕ) (i : ℕ) → sets l i (us ++ vs) ≡ sets (sets l i us) (i + length us) vs
@@ -55,3 +55,9 @@ take-set zero l i a = refl
 take-set (suc n) [] i a = refl
 take-set (suc n) (x ∷ xs) zero a = refl
 take-set (suc n) (x ∷ xs) (suc i) a = rw (take-set n xs i a)
+
+-- a part stored where it was read
+pub sets-self : (l : List ℕ) (i n : ℕ) → i + n ≤ length l → sets l i (take n (drop i l)) ≡ l
+sets-self l i n fits =
+    let long : length (take n (drop i l)) ≡ n = simp (length-take, length-drop) (omega arith) in
+    sets-eq (take n (drop i l)) l i (omega arith) ∙ rw (long, ← take-add i n l) (take-append-drop (i + n) l)

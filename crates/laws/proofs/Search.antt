@@ -24,7 +24,8 @@ module _ (test : ℕ → Bool) (i n : ℕ) where
 -- ---- tests that agree below a bound
 
 module _ (test test′ : ℕ → Bool) where
-  pub lowest-from-agree : (i n : ℕ) → ((j : ℕ) → j < i + n → test j ≡ test′ j) → lowestFrom test i n ≡ lowestFrom test′ i n
+  pub lowest-from-agree : (i n : ℕ) → ((j : ℕ) → j < i + n → test j ≡ test′ j)
+      → lowestFrom test i n ≡ lowestFrom test′ i n
   unfolding lowestFrom
   lowest-from-agree i zero agree = refl
   lowest-from-agree i (suc n) agree =

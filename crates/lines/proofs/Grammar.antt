@@ -8,7 +8,7 @@ use Rattle.lines.specs.Grammar.{breakAt, fieldsOf, allNumbers, valuesOf,
 use Rattle.lines.proofs.Forms.{form-front}
 use Rattle.lines.proofs.Unreadable.{dead}
 use Rattle.lines.proofs.Numbers.{by-fields, starts}
-use Rattle.lines.proofs.Held.{Held, resumed}
+use Rattle.lines.proofs.FieldsRead.{FieldsRead, resumed}
 use Rattle.lines.proofs.Resuming.{resume}
 
 module _ (b : ℕ) where
@@ -19,8 +19,8 @@ module _ (b : ℕ) where
   letter-ended =
       record { readable = true; fields = b ∷ 0 ∷ 0 ∷ 0 ∷ 0 ∷ 0 ∷ []; count = 1; bytes = 0; value = 0 }
 
-  held-letter : Held letter-ended (b ∷ [])
-  held-letter =
+  fields-read-letter : FieldsRead letter-ended (b ∷ [])
+  fields-read-letter =
       record {
         readable = refl;
         count = refl;
@@ -38,7 +38,7 @@ module _ (b : ℕ) where
   letter-space : (bs : List ℕ) → commandOf (lineRead (byteRead lettered 32) bs) ≡ commandIn ((b ∷ []) ∷ fieldsOf bs)
   unfolding byteRead endedField commandIn resumed allNumbers valuesOf
   letter-space bs =
-      resume bs letter-ended (b ∷ []) held-letter
+      resume bs letter-ended (b ∷ []) fields-read-letter
       ∙ by-fields (λ fs. resumed (b ∷ []) 0 0 fs ≡ commandIn ((b ∷ []) ∷ fs)) (λ f fs. rw (starts f)) bs
 
   -- a second byte in the letter's field

@@ -5,7 +5,7 @@ pub mod Digits
 pub mod Forms
 pub mod Unreadable
 pub mod Numbers
-pub mod Held
+pub mod FieldsRead
 pub mod Resuming
 pub mod Grammar
 pub mod Begun

@@ -13,10 +13,11 @@ use Rattle.lines.specs.Grammar.{breakAt, fieldsOf, isDigit, allDigits, n
 use Rattle.lines.proofs.Forms.{form-long}
 use Rattle.lines.proofs.Unreadable.{first, second, below-or-not, dead}
 use Rattle.lines.proofs.Numbers.{by-fields, goesOn, starts, no-digit, too-long, too-large, one-more, done}
-use Rattle.lines.proofs.Held.{Held, resumed, ended, ended-field, no-seventh, held-ended, at-end}
+use Rattle.lines.proofs.FieldsRead.{FieldsRead, resumed, ended, ended-field, no-seventh, fields-read-ended}
+use Rattle.lines.proofs.FieldsRead.{at-end}
 
 -- the parts of a line that is read on, by the next byte
-module _ (s : Line) (vs : List ℕ) (held : Held s vs) where
+module _ (s : Line) (vs : List ℕ) (fields-read : FieldsRead s vs) where
   abbrev Resumes : List ℕ → Type 0
   Resumes rest = commandOf (lineRead s rest) ≡ resumed vs (s .bytes) (s .value) (fieldsOf rest)
 
@@ -39,12 +40,12 @@ module _ (s : Line) (vs : List ℕ) (held : Held s vs) where
       → resumed vs (s .bytes) (s .value) ([] ∷ fs)
       ≡ cond (allNumbers fs) (formIn (vs ++ s .value ∷ valuesOf fs)) Unreadable
   unfolding resumed numberFrom
-  a-number some fs = rw (done (s .bytes) (s .value) some (held .few) (held .small))
+  a-number some fs = rw (done (s .bytes) (s .value) some (fields-read .few) (fields-read .small))
 
   resume-end : Resumes []
   unfolding lineRead fieldsOf allNumbers valuesOf
   resume-end =
-      below-or-not 0 (s .bytes) (λ some. at-end s vs held some ∙ sym (a-number some []))
+      below-or-not 0 (s .bytes) (λ some. at-end s vs fields-read some ∙ sym (a-number some []))
       (λ empty. empty-end (omega arith) ∙ sym (no-number (omega arith) []))
 
   -- what is read next decides, whatever line it leaves
@@ -54,13 +55,14 @@ module _ (s : Line) (vs : List ℕ) (held : Held s vs) where
 
   abbrev Later : List ℕ → Type 0
   Later bs =
-      (t : Line) (us : List ℕ) → Held t us → commandOf (lineRead t bs) ≡ resumed us (t .bytes) (t .value) (fieldsOf bs)
+      (t : Line) (us : List ℕ) → FieldsRead t us
+      → commandOf (lineRead t bs) ≡ resumed us (t .bytes) (t .value) (fieldsOf bs)
 
   -- ---- a space ends the field
 
   at-space : byteRead s 32 ≡ endedField s
   unfolding byteRead
-  at-space = first (s .readable) _ _ (held .readable)
+  at-space = first (s .readable) _ _ (fields-read .readable)
 
   next-field : 1 ≤ s .bytes → (f : List ℕ) (fs : List (List ℕ))
       → resumed (vs ++ s .value ∷ []) 0 0 (f ∷ fs) ≡ resumed vs (s .bytes) (s .value) ([] ∷ f ∷ fs)
@@ -71,7 +73,7 @@ module _ (s : Line) (vs : List ℕ) (held : Held s vs) where
       → resumed vs (s .bytes) (s .value) ([] ∷ fs) ≡ Unreadable
   seven-fields some full fs =
       let fields = vs ++ s .value ∷ valuesOf fs in
-      let long : 6 < length fields = simp length-append (omega (arith, held .count)) in
+      let long : 6 < length fields = simp length-append (omega (arith, fields-read .count)) in
       a-number some fs
       ∙ by-cond (λ (c : Command). c ≡ Unreadable) (allNumbers fs) (formIn fields) Unreadable
       (λ _. form-long fields (length fields) long) (λ _. refl)
@@ -83,13 +85,13 @@ module _ (s : Line) (vs : List ℕ) (held : Held s vs) where
       (λ some.
       below-or-not (s .count) 6
       (λ room.
-      goes-to 32 bs (at-space ∙ ended-field s vs held some room)
-      (later (ended s vs held some) (vs ++ s .value ∷ []) (held-ended s vs held some room)
+      goes-to 32 bs (at-space ∙ ended-field s vs fields-read some room)
+      (later (ended s vs fields-read some) (vs ++ s .value ∷ []) (fields-read-ended s vs fields-read some room)
       ∙ by-fields
       (λ fs. resumed (vs ++ s .value ∷ []) 0 0 fs ≡ resumed vs (s .bytes) (s .value) ([] ∷ fs))
       (next-field some) bs))
       (λ full.
-      goes-to 32 bs (at-space ∙ no-seventh s vs held some full)
+      goes-to 32 bs (at-space ∙ no-seventh s vs fields-read some full)
       (dead (unreadableLine s) refl bs ∙ sym (seven-fields some full (fieldsOf bs)))))
       (λ empty.
       goes-to 32 bs (at-space ∙ no-byte (omega arith))
@@ -101,9 +103,10 @@ module _ (s : Line) (vs : List ℕ) (held : Held s vs) where
     at-byte : byteRead s b ≡ digitRead s b
     unfolding byteRead
     at-byte =
-        first (s .readable) _ _ (held .readable)
+        first (s .readable) _ _ (fields-read .readable)
         ∙ second (eqb b 32) _ _ other
-        ∙ second (eqb (s .count) 0) _ _ (ne-eqb (s .count) 0 (λ e. omega (arith, held .count, held .begun)))
+        ∙ second (eqb (s .count) 0) _ _
+        (ne-eqb (s .count) 0 (λ e. omega (arith, fields-read .count, fields-read .begun)))
 
     -- a byte after which no field is a number
     refused : digitRead s b ≡ unreadableLine s → ((f : List ℕ) → goesOn (s .bytes) (s .value) (b ∷ f) ≡ false)
@@ -162,19 +165,19 @@ module _ (s : Line) (vs : List ℕ) (held : Held s vs) where
             (second (leb 10 (s .bytes)) _ _ (lt-leb 10 (s .bytes) short)
             ∙ second (ltb 4294967295 (numberWith s b)) _ _ (le-ltb 4294967295 (numberWith s b) fits))
             in
-            let held-next : Held next vs =
+            let fields-read-next : FieldsRead next vs =
             record {
-              readable = held .readable;
-              count = held .count;
-              front = held .front;
-              six = held .six;
-              begun = held .begun;
+              readable = fields-read .readable;
+              count = fields-read .count;
+              front = fields-read .front;
+              six = fields-read .six;
+              begun = fields-read .begun;
               few = omega arith;
               small = fits;
             }
             in
             goes-to b bs (at-byte ∙ goes)
-            (later next vs held-next
+            (later next vs fields-read-next
             ∙ rw other
             (by-fields
             (λ fs.
@@ -193,11 +196,11 @@ module _ (s : Line) (vs : List ℕ) (held : Held s vs) where
         (λ fits. one-digit from upto short fits later))
         (eleventh from upto)))
 
-pub resume : (rest : List ℕ) (s : Line) (vs : List ℕ) → Held s vs
+pub resume : (rest : List ℕ) (s : Line) (vs : List ℕ) → FieldsRead s vs
     → commandOf (lineRead s rest) ≡ resumed vs (s .bytes) (s .value) (fieldsOf rest)
-resume [] s vs held = resume-end s vs held
-resume (b ∷ bs) s vs held = go (eqb b 32) refl (resume bs)
+resume [] s vs fields-read = resume-end s vs fields-read
+resume (b ∷ bs) s vs fields-read = go (eqb b 32) refl (resume bs)
   where
-    go : (test : Bool) → eqb b 32 ≡ test → Later s vs held bs → Resumes s vs held (b ∷ bs)
-    go true space later = rw (eqb-true b 32 space) (resume-space s vs held bs later)
-    go false other later = resume-byte s vs held b bs other later
+    go : (test : Bool) → eqb b 32 ≡ test → Later s vs fields-read bs → Resumes s vs fields-read (b ∷ bs)
+    go true space later = rw (eqb-true b 32 space) (resume-space s vs fields-read bs later)
+    go false other later = resume-byte s vs fields-read b bs other later

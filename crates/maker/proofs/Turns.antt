@@ -1,4 +1,4 @@
--- One turn of a loop over the labels: what one label brings to the changes and to a run, and a run to the words of the
+-- One turn of a loop over the labels: what one label brings to the differences and to a run, and a run to the words of the
 -- diff.
 use Rattle.laws.proofs.Prelude.{ℕ, zero, suc, _+_, _-_, _*_, _/_, _%_, _≤_, _<_, _≡_, refl, ap, _∙_, _≢_, List, [], _∷_}
 use Rattle.laws.proofs.Prelude.{_++_, Bool, true, false, arith, ℕ-discrete, decLt, length, set, take, drop, getD}
@@ -10,55 +10,66 @@ use Rattle.laws.proofs.Lists.{sets-append, sets-front}
 use Rattle.diff.specs.Format.{pageWord, runWord, endWord}
 use Rattle.diff.specs.declared.Price.{Price}
 use Rattle.diff.specs.Prices.{labelOf}
-use Rattle.diff.specs.Making.{priceAt, follows, runLength, header, madeDiff}
+use Rattle.diff.specs.Making.{priceAt, follows, runLength, runHeader, madeDiff, encodeFrom}
 use Rattle.diff.specs.OnlyDiff.{Differs}
 use Rattle.diff.proofs.Encoding.{Ascending, none, more, follows-page, follows-word, run-goes-on, run-stops, run-last}
-use Rattle.diff.proofs.Encoding.{follows-yes, header-page, header-run, header-none, encode-none, encode-price}
-use Rattle.diff.proofs.Making.{changes-same, changes-differ, changes-none, changes-ascend, label-at}
-use Rattle.maker.specs.AtLabel.{Lent, NoChange, changesOn, workingPrice, runAt, headerAt, bodyOn}
+use Rattle.diff.proofs.Encoding.{follows-yes, run-header-page, run-header-run, run-header-none, encode-none}
+use Rattle.diff.proofs.Encoding.{encode-price}
+use Rattle.diff.proofs.Making.{differences-same, differences-differ, differences-none, differences-ascend, label-at}
+use Rattle.maker.specs.AtLabel.{Lent, NoDifference, differencesOn, workingPrice, runAt}
 
--- ---- the changes
+-- what stands before the label's price
+abbrev pub runHeaderAt : List ℕ → List ℕ → ℕ → ℕ → List ℕ
+runHeaderAt working twins next label = runHeader next (workingPrice working label) (runAt working twins label)
 
-changes-on-end : (working twins : List ℕ) (label : ℕ) → length working ≤ label → changesOn working twins label ≡ []
-changes-on-end working twins label end = rw (drop-of-length-le working end) (changes-none label (drop label twins))
+-- the words that the labels from `next` on bring, the end word not among them
+abbrev pub bodyOn : List ℕ → List ℕ → ℕ → List ℕ
+bodyOn working twins next = encodeFrom next (differencesOn working twins next)
+
+-- ---- the differences
+
+differences-on-end : (working twins : List ℕ) (label : ℕ) → length working ≤ label
+    → differencesOn working twins label ≡ []
+differences-on-end working twins label end =
+    rw (drop-of-length-le working end) (differences-none label (drop label twins))
 
 module _ {working twins : List ℕ} (lent : Lent working twins) (label : ℕ) (within : label < length working) where
   in-twins : label < length twins
   in-twins = omega arith
 
-  changes-on-same : getD working label 0 ≡ getD twins label 0
-      → changesOn working twins label ≡ changesOn working twins (label + 1)
-  changes-on-same same =
+  differences-on-same : getD working label 0 ≡ getD twins label 0
+      → differencesOn working twins label ≡ differencesOn working twins (label + 1)
+  differences-on-same same =
       rw (drop-cons working label 0 within, drop-cons twins label 0 in-twins, ← add-one label)
-      (changes-same label _ _ _ _ same)
+      (differences-same label _ _ _ _ same)
 
-  changes-on-differ : getD working label 0 ≢ getD twins label 0
-      → changesOn working twins label ≡ workingPrice working label ∷ changesOn working twins (label + 1)
-  changes-on-differ differ =
+  differences-on-differ : getD working label 0 ≢ getD twins label 0
+      → differencesOn working twins label ≡ workingPrice working label ∷ differencesOn working twins (label + 1)
+  differences-on-differ differ =
       rw (drop-cons working label 0 within, drop-cons twins label 0 in-twins, ← add-one label)
-      (changes-differ label _ _ _ _ differ)
+      (differences-differ label _ _ _ _ differ)
 
 module _ {working twins : List ℕ} (lent : Lent working twins) (label : ℕ) where
-  changes-on-ascend : label ≤ length working → Ascending (length working) label (changesOn working twins label)
-  changes-on-ascend within =
-      changes-ascend (length working) (drop label working) (drop label twins) label
+  differences-on-ascend : label ≤ length working → Ascending (length working) label (differencesOn working twins label)
+  differences-on-ascend within =
+      differences-ascend (length working) (drop label working) (drop label twins) label
       (simp length-drop (omega arith)) (simp length-drop (omega arith))
 
 -- ---- labels that do not differ
 
-pub no-change-yet : {working : List ℕ} (twins : List ℕ) (label : ℕ) → label ≤ length working
-    → NoChange working twins label label
-no-change-yet twins label within = record { after = omega arith; within = within; same = refl }
+pub no-difference-yet : {working : List ℕ} (twins : List ℕ) (label : ℕ) → label ≤ length working
+    → NoDifference working twins label label
+no-difference-yet twins label within = record { after = omega arith; within = within; same = refl }
 
-pub no-change-more : {working twins : List ℕ} {from mid to : ℕ} → NoChange working twins from mid
-    → NoChange working twins mid to → NoChange working twins from to
-no-change-more before rest =
+pub no-difference-more : {working twins : List ℕ} {from mid to : ℕ} → NoDifference working twins from mid
+    → NoDifference working twins mid to → NoDifference working twins from to
+no-difference-more before rest =
     record { after = omega arith; within = rest .within; same = before .same ∙ rest .same }
 
-pub no-change-one : {working twins : List ℕ} → Lent working twins → (label : ℕ) → label < length working
-    → getD working label 0 ≡ getD twins label 0 → NoChange working twins label (label + 1)
-no-change-one lent label within equal =
-    record { after = omega arith; within = omega arith; same = changes-on-same lent label within equal }
+pub no-difference-one : {working twins : List ℕ} → Lent working twins → (label : ℕ) → label < length working
+    → getD working label 0 ≡ getD twins label 0 → NoDifference working twins label (label + 1)
+no-difference-one lent label within equal =
+    record { after = omega arith; within = omega arith; same = differences-on-same lent label within equal }
 
 -- ---- the run of a label that differs
 
@@ -75,20 +86,20 @@ run-alone p (more {p = q} {ps = qs} up word _ rest) apart = go (follows p q) ref
 module _ {working twins : List ℕ} (lent : Lent working twins) (label : ℕ) where
   -- it ends at the end of the pages, at the end of its page and before a word that does not differ
   pub run-at-end : length working ≤ label + 1 → runAt working twins label ≡ 1
-  run-at-end end = rw (changes-on-end working twins (label + 1) end) (run-last (workingPrice working label))
+  run-at-end end = rw (differences-on-end working twins (label + 1) end) (run-last (workingPrice working label))
 
   pub run-at-page-end : label + 1 < length working → (label + 1) % 32 ≡ 0 → runAt working twins label ≡ 1
   run-at-page-end within last =
       let p = workingPrice working label in
-      run-alone p (changes-on-ascend lent (label + 1) (omega arith))
+      run-alone p (differences-on-ascend lent (label + 1) (omega arith))
       (λ q up word on. omega (arith, follows-word p q on))
 
   pub run-at-same : label + 1 < length working → getD working (label + 1) 0 ≡ getD twins (label + 1) 0
       → runAt working twins label ≡ 1
   run-at-same within same =
       let p = workingPrice working label in
-      rw (changes-on-same lent (label + 1) within same)
-      (run-alone p (changes-on-ascend lent (label + 1 + 1) (omega arith))
+      rw (differences-on-same lent (label + 1) within same)
+      (run-alone p (differences-on-ascend lent (label + 1 + 1) (omega arith))
       (λ q up word on. omega (arith, follows-page p q on, follows-word p q on)))
 
   pub run-at-differ : label + 1 < length working → (label + 1) % 32 ≢ 0
@@ -97,22 +108,23 @@ module _ {working twins : List ℕ} (lent : Lent working twins) (label : ℕ) wh
   run-at-differ within inside differ =
       let p = workingPrice working label in
       let q = workingPrice working (label + 1) in
-      rw (changes-on-differ lent (label + 1) within differ)
+      rw (differences-on-differ lent (label + 1) within differ)
       (run-goes-on p q _ (follows-yes p q (omega arith) (omega arith)))
 
 -- ---- what stands before the prices of a run
 
 module _ (next label run : ℕ) where
-  pub header-at-page : next ≤ label / 32 * 32 → (price : ℕ)
-      → header next (priceAt label price) run ≡ pageWord (label / 32) ∷ runWord (label % 32) run ∷ []
-  header-at-page fresh price = header-page next (priceAt label price) run (omega arith)
+  pub run-header-at-page : next ≤ label / 32 * 32 → (price : ℕ)
+      → runHeader next (priceAt label price) run ≡ pageWord (label / 32) ∷ runWord (label % 32) run ∷ []
+  run-header-at-page fresh price = run-header-page next (priceAt label price) run (omega arith)
 
-  pub header-at-none : label / 32 * 32 < next → next ≡ label → (price : ℕ) → header next (priceAt label price) run ≡ []
-  header-at-none named on price = header-none next (priceAt label price) run (omega arith) (omega arith)
+  pub run-header-at-none : label / 32 * 32 < next → next ≡ label → (price : ℕ)
+      → runHeader next (priceAt label price) run ≡ []
+  run-header-at-none named on price = run-header-none next (priceAt label price) run (omega arith) (omega arith)
 
-  pub header-at-run : label / 32 * 32 < next → next ≢ label → (price : ℕ)
-      → header next (priceAt label price) run ≡ runWord (label % 32) run ∷ []
-  header-at-run named apart price = header-run next (priceAt label price) run (omega arith) (omega arith)
+  pub run-header-at-run : label / 32 * 32 < next → next ≢ label → (price : ℕ)
+      → runHeader next (priceAt label price) run ≡ runWord (label % 32) run ∷ []
+  run-header-at-run named apart price = run-header-run next (priceAt label price) run (omega arith) (omega arith)
 
 -- ---- the words of the diff
 
@@ -135,17 +147,18 @@ made-taken made start counted fits stored =
     rw (stored, ← counted, sets-front made start (omega arith)) (take-append-seam made _)
 
 -- the labels that do not differ bring nothing
-module _ {working twins : List ℕ} {next label : ℕ} (skipped : NoChange working twins next label) where
+module _ {working twins : List ℕ} {next label : ℕ} (skipped : NoDifference working twins next label) where
   pub body-on-end : length working ≤ label → bodyOn working twins next ≡ []
-  body-on-end end = rw (skipped .same, changes-on-end working twins label end) (encode-none next)
+  body-on-end end = rw (skipped .same, differences-on-end working twins label end) (encode-none next)
 
   module _ (lent : Lent working twins) (within : label < length working) (differ : Differs working twins label) where
     body-on-differ :
         bodyOn working twins next
-        ≡ headerAt working twins next label ++ getD working label 0 ∷ bodyOn working twins (label + 1)
+        ≡ runHeaderAt working twins next label ++ getD working label 0 ∷ bodyOn working twins (label + 1)
     body-on-differ =
-        rw (skipped .same, changes-on-differ lent label within differ)
-        (rw label-at at (encode-price next (workingPrice working label) (changesOn working twins (label + 1)) _ refl))
+        rw (skipped .same, differences-on-differ lent label within differ)
+        (rw label-at at
+        (encode-price next (workingPrice working label) (differencesOn working twins (label + 1)) _ refl))
 
     pub some-body : 0 < length (bodyOn working twins next)
     some-body = rw (body-on-differ, length-append) (omega arith)
@@ -183,9 +196,9 @@ module _ {working twins : List ℕ} (lent : Lent working twins) where
   run-prices zero label within is = rw (drop-cons working label 0 within)
   run-prices (suc n) label within is =
       let on = goes-on n label is in
-      let start = no-change-yet {working = working} twins (label + 1) (omega (arith, on .within)) in
+      let start = no-difference-yet {working = working} twins (label + 1) (omega (arith, on .within)) in
       let none =
-      header-at-none (label + 1) (label + 1) (runAt working twins (label + 1)) (omega (arith, on .inside)) refl
+      run-header-at-none (label + 1) (label + 1) (runAt working twins (label + 1)) (omega (arith, on .inside)) refl
       (getD working (label + 1) 0)
       in
       let next = rw none at (body-on-differ start lent (on .within) (on .differs)) in
@@ -202,14 +215,14 @@ run-some p [] = omega arith
 run-some p (q ∷ qs) = omega arith
 
 pub run-at-some : (working twins : List ℕ) (label : ℕ) → 0 < runAt working twins label
-run-at-some working twins label = run-some (workingPrice working label) (changesOn working twins (label + 1))
+run-at-some working twins label = run-some (workingPrice working label) (differencesOn working twins (label + 1))
 
 -- a run after labels that do not differ: its header, its prices, and what the labels after it bring
-module _ {working twins : List ℕ} {next label run : ℕ} (skipped : NoChange working twins next label)
+module _ {working twins : List ℕ} {next label run : ℕ} (skipped : NoDifference working twins next label)
     (lent : Lent working twins) (within : label < length working) (differ : Differs working twins label)
     (counted : run ≡ runAt working twins label) (fits : label + run ≤ length working) where
   abbrev before : List ℕ
-  before = header next (workingPrice working label) run
+  before = runHeader next (workingPrice working label) run
 
   abbrev prices : List ℕ
   prices = take run (drop label working)

@@ -1,23 +1,23 @@
--- What one label that differs, and the labels from one on, bring to the made diff.
+-- Inner contracts only. What one label that differs, and the labels from one on, bring to the made diff.
 -- Assumes nothing: these are definitions.
 use Rattle.laws.specs.Prelude.{ℕ, _+_, _<_, _≤_, _≡_, List, length, drop, getD}
 use Rattle.diff.specs.declared.Price.{Price}
-use Rattle.diff.specs.Making.{priceAt, changesFrom, runLength, header, encodeFrom}
+use Rattle.diff.specs.Making.{priceAt, differencesFrom, runLength}
 
 -- working pages lent with their twins: as many words of each, 64 pages at most
 pub record Lent (working twins : List ℕ) : Type 0 where
   pub even : length working ≡ length twins
   pub most : length working ≤ 2048
 
--- the changes from a label on
-abbrev pub changesOn : List ℕ → List ℕ → ℕ → List Price
-changesOn working twins label = changesFrom label (drop label working) (drop label twins)
+-- the differences from a label on
+abbrev pub differencesOn : List ℕ → List ℕ → ℕ → List Price
+differencesOn working twins label = differencesFrom label (drop label working) (drop label twins)
 
 -- no label from `from` on, and before `to`, differs
-pub record NoChange (working twins : List ℕ) (from to : ℕ) : Type 0 where
+pub record NoDifference (working twins : List ℕ) (from to : ℕ) : Type 0 where
   pub after : from ≤ to
   pub within : to ≤ length working
-  pub same : changesOn working twins from ≡ changesOn working twins to
+  pub same : differencesOn working twins from ≡ differencesOn working twins to
 
 -- the eight words from a label on are equal to their twins
 abbrev pub EightSame : List ℕ → List ℕ → ℕ → Type 0
@@ -29,12 +29,4 @@ workingPrice working label = priceAt label (getD working label 0)
 
 -- how many words, the label first, differ one after the other on its page
 abbrev pub runAt : List ℕ → List ℕ → ℕ → ℕ
-runAt working twins label = runLength (workingPrice working label) (changesOn working twins (label + 1))
-
--- what stands before the label's price
-abbrev pub headerAt : List ℕ → List ℕ → ℕ → ℕ → List ℕ
-headerAt working twins next label = header next (workingPrice working label) (runAt working twins label)
-
--- the words that the labels from `next` on bring, the end word not among them
-abbrev pub bodyOn : List ℕ → List ℕ → ℕ → List ℕ
-bodyOn working twins next = encodeFrom next (changesOn working twins next)
+runAt working twins label = runLength (workingPrice working label) (differencesOn working twins (label + 1))

@@ -3,9 +3,9 @@ ghost use Rattle.laws.specs.Prelude.{_≡_, true, ℕ, _+_, _%_, _<_, _≤_, le
 ghost use lib.Seq.{sets};
 ghost use Rattle.answer.specs.Outcome.{answerOf};
 ghost use Rattle.diff.specs.Format.{runWord};
-ghost use Rattle.diff.specs.Making.{priceAt, header, madeDiff, lentPages, makeDiff, bufferAfter};
+ghost use Rattle.diff.specs.Making.{priceAt, runHeader, madeDiff, lentPages, makeDiff, bufferAfter};
 ghost use Rattle.diff.specs.OnlyDiff.{Differs};
-ghost use Rattle.maker.specs.AtLabel.{Lent, NoChange, EightSame, runAt};
+ghost use Rattle.maker.specs.AtLabel.{Lent, NoDifference, EightSame, runAt};
 use answer::Answer;
 
 // Whether the eight words from a label on are equal to their twins. The loop has no other end than
@@ -14,7 +14,7 @@ fn same_eight(working: &[u32], twins: &[u32], label: usize) -> bool
     requires { ⌜ Lent (now working) (now twins) ⌝ }
     requires { ⌜ label + 8 ≤ length (now working) ⌝ }
     ensures same { λ r. ⌜ (r ≡ true
-        → NoChange (now (working .entry)) (now (twins .entry)) label (label + 8)) ⌝ }
+        → NoDifference (now (working .entry)) (now (twins .entry)) label (label + 8)) ⌝ }
     ensures seen { λ r. ⌜ (EightSame (now (working .entry)) (now (twins .entry)) label
         → r ≡ true) ⌝ }
 {
@@ -35,7 +35,7 @@ fn same_eight(working: &[u32], twins: &[u32], label: usize) -> bool
 fn skip_same(working: &[u32], twins: &[u32], from: usize) -> usize
     requires { ⌜ Lent (now working) (now twins) ⌝ }
     requires { ⌜ from ≤ length (now working) ⌝ }
-    ensures same { λ r. ⌜ NoChange (now (working .entry)) (now (twins .entry)) from r ⌝ }
+    ensures same { λ r. ⌜ NoDifference (now (working .entry)) (now (twins .entry)) from r ⌝ }
     ensures far { λ r. ⌜ (r + 8 ≤ length (now (working .entry))
         → EightSame (now (working .entry)) (now (twins .entry)) r → ⊥) ⌝ }
 {
@@ -52,10 +52,10 @@ fn skip_same(working: &[u32], twins: &[u32], from: usize) -> usize
 
 // The first label from one on that differs, or the number of labels if none does. That one itself
 // is looked at first, since it goes on with a run where the label before it differs.
-fn next_change(working: &[u32], twins: &[u32], from: usize) -> usize
+fn next_difference(working: &[u32], twins: &[u32], from: usize) -> usize
     requires { ⌜ Lent (now working) (now twins) ⌝ }
     requires { ⌜ from ≤ length (now working) ⌝ }
-    ensures none_between { λ r. ⌜ NoChange (now (working .entry)) (now (twins .entry)) from r ⌝ }
+    ensures none_between { λ r. ⌜ NoDifference (now (working .entry)) (now (twins .entry)) from r ⌝ }
     ensures differs { λ r. ⌜ (r < length (now (working .entry))
         → Differs (now (working .entry)) (now (twins .entry)) r) ⌝ }
 {
@@ -110,9 +110,9 @@ fn write_header(next: usize, label: usize, run: usize, list: &mut [u32], at: usi
     requires { ⌜ (label < 2048) × (label % 32 + run ≤ 32) ⌝ }
     requires { ⌜ at + 2 ≤ length (now list) ⌝ }
     ensures short { λ r. ⌜ r ≤ at + 2 ⌝ }
-    ensures stopped { λ r. ⌜ ((price : ℕ) → r ≡ at + length (header next (priceAt label price) run)) ⌝ }
+    ensures stopped { λ r. ⌜ ((price : ℕ) → r ≡ at + length (runHeader next (priceAt label price) run)) ⌝ }
     ensures written { λ _. ⌜ ((price : ℕ) → now (list .exit)
-        ≡ sets (now (list .entry)) at (header next (priceAt label price) run)) ⌝ }
+        ≡ sets (now (list .entry)) at (runHeader next (priceAt label price) run)) ⌝ }
 {
     if next <= label / 32 * 32 {
         list[at] = 0x10000000 + (label / 32) as u32;
@@ -143,7 +143,7 @@ fn write_diff(working: &[u32], twins: &[u32], list: &mut [u32]) -> usize
     let mut next: usize = 0;
     let mut words: usize = 0;
     loop {
-        let label = next_change(working, twins, next);
+        let label = next_difference(working, twins, next);
         if working.len() <= label {
             break;
         }

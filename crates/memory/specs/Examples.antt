@@ -3,7 +3,7 @@
 -- Assumes nothing: these are definitions.
 use Rattle.laws.specs.Prelude.{ℕ, List, [], _∷_}
 use Rattle.laws.specs.Examples.{Example, computed}
-use Rattle.memory.specs.Layout.{areaSize, deskSize, ownStamp, ownDesk, releaseOpen, stepsMade, releaseNumber}
+use Rattle.memory.specs.Layout.{areaSize, deskSize, ownStamp, ownDesk, openFlag, stepsMade, releaseNumber}
 use Rattle.memory.specs.Layout.{releaseDesk, releaseSize, recordSize, recordStamp, recordDone, recordDesk}
 use Rattle.memory.specs.Layout.{listStart, listSize, pageSize, pageStart, tentativeHalf, committedHalf, tentative}
 use Rattle.memory.specs.Layout.{committed}
@@ -17,7 +17,7 @@ abbrev pub examples : List Example
 examples =
     -- own stamp and desk, the open release: whether, steps, number, desk; how many words the last four take, and a desk
     computed
-    (ownStamp ∷ ownDesk ∷ releaseOpen ∷ stepsMade ∷ releaseNumber ∷ releaseDesk ∷ releaseSize ∷ deskSize ∷ [])
+    (ownStamp ∷ ownDesk ∷ openFlag ∷ stepsMade ∷ releaseNumber ∷ releaseDesk ∷ releaseSize ∷ deskSize ∷ [])
     (0 ∷ 1 ∷ 9 ∷ 10 ∷ 11 ∷ 12 ∷ 11 ∷ 8 ∷ [])
     -- the records of cards 0 and 1: stamp, done mark, the desk of an even number, that of an odd one
     ∷ computed

@@ -20,8 +20,8 @@ ownDesk = 1
 
 -- ---- 9; 10; 11; 12–19: release open (0 or 1); steps made; its number; its desk
 
-abbrev pub releaseOpen : ℕ
-releaseOpen = 9
+abbrev pub openFlag : ℕ
+openFlag = 9
 
 abbrev pub stepsMade : ℕ
 stepsMade = 10

@@ -14,7 +14,7 @@ pub const OWN_STAMP: usize = 0;
 
 pub const OWN_DESK: usize = 1;
 
-pub const RELEASE_OPEN: usize = 9;
+pub const OPEN_FLAG: usize = 9;
 
 pub const STEPS_MADE: usize = 10;
 

@@ -2,4 +2,4 @@
 pub mod Order
 pub mod Passed
 pub mod Limits
-pub mod Fit
+pub mod ValidDirectory

@@ -1,4 +1,4 @@
--- The book (document 01, "The book of demand 3"): the reference model of the rack. It is fed each call and whether it
+-- The book (document 01, "The book of demand 3"): the reference model of the rack. It is told each call and whether it
 -- was accepted; it sees neither memory nor directory nor an answer.
 -- Assumes nothing: these are definitions.
 use Rattle.laws.specs.Prelude.{ℕ, suc, List, Bool, cond, length, ltb, eqb}
@@ -6,7 +6,7 @@ use Rattle.laws.specs.Search.{inTurn}
 use Rattle.memory.specs.Layout.{deskSize}
 use Rattle.memory.specs.Area.{zeros}
 use Rattle.diff.specs.declared.Price.{Price}
-use Rattle.diff.specs.Prices.{pricesOf, laidAt}
+use Rattle.diff.specs.Prices.{pricesOf, appliedAt}
 use Rattle.protocol.specs.Release.{Release, countsAt, stepsIn}
 
 -- ---- the calls of demand 3
@@ -61,7 +61,7 @@ listPrices list = pricesOf 64 list
 abbrev pub count : Book → ℕ → Release → List ℕ → Book
 count b card r list =
     record {
-      price = λ label. laidAt (listPrices list) label (b .price label);
+      price = λ label. appliedAt (listPrices list) label (b .price label);
       last = update (b .last) card r;
       release = b .release;
       failed = b .failed;
@@ -94,18 +94,18 @@ countUncounted card (opened r list steps) b =
 unfoldable pub countOpen : Book → Book
 countOpen b = inTurn (λ card. countUncounted card (b .release card)) 8 b
 
-abbrev pub strikeOpen : Book → Book
-strikeOpen b = record { price = b .price; last = b .last; release = λ card. none; failed = b .failed }
+abbrev pub clearOpen : Book → Book
+clearOpen b = record { price = b .price; last = b .last; release = λ card. none; failed = b .failed }
 
-unfoldable pub feed : Call → Book → Book
-feed (open-release card r list) b = setOpen b card (opened r list 0)
-feed (make-step card) b = stepBook b card (b .release card)
-feed (fetch-page page buffer) b = b
-feed (fail-card card) b = failBook b card
-feed recover b = strikeOpen (countOpen b)
-feed (join-card card) b = b
-feed (ask-desk card) b = b
+unfoldable pub transition : Call → Book → Book
+transition (open-release card r list) b = setOpen b card (opened r list 0)
+transition (make-step card) b = stepBook b card (b .release card)
+transition (fetch-page page buffer) b = b
+transition (fail-card card) b = failBook b card
+transition recover b = clearOpen (countOpen b)
+transition (join-card card) b = b
+transition (ask-desk card) b = b
 
 -- "refused calls change nothing"
-abbrev pub feedIf : Bool → Call → Book → Book
-feedIf accepted call b = cond accepted (feed call b) b
+abbrev pub transitionIf : Bool → Call → Book → Book
+transitionIf accepted call b = cond accepted (transition call b) b

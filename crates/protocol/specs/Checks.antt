@@ -5,7 +5,7 @@ use Rattle.laws.specs.Prelude.{leb, eqb}
 use Rattle.laws.specs.Search.{someBelow, countBelow}
 use Rattle.answer.specs.declared.Outcome.{Outcome}
 use Rattle.answer.specs.Outcome.{given, refusedAt, limits, unfit, noCard, recoveryAwaited}
-use Rattle.memory.specs.Layout.{areaSize, releaseOpen}
+use Rattle.memory.specs.Layout.{areaSize, openFlag}
 use Rattle.memory.specs.Area.{load}
 use Rattle.directory.specs.declared.Directory.{Directory}
 use Rattle.directory.specs.declared.Status.{Status}
@@ -72,8 +72,8 @@ badRelease (Faulty place) steps = true
 unfoldable pub badCard : List Bool → ℕ → List ℕ → ℕ → Bool
 badCard marks pages m c =
     liveAt marks c
-    && (ltb 1 (load (areaSize pages) m c releaseOpen)
-    || (eqb (load (areaSize pages) m c releaseOpen) 1
+    && (ltb 1 (load (areaSize pages) m c openFlag)
+    || (eqb (load (areaSize pages) m c openFlag) 1
     && badRelease (readDiff pages (openList (areaSize pages) m c)) (stepsOf (areaSize pages) m c)))
 
 unfoldable pub unfitRack : Directory → List ℕ → Bool

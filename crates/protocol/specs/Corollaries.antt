@@ -7,13 +7,13 @@ use Rattle.directory.specs.declared.Status.the-variants.{Running}
 use Rattle.directory.specs.Directory.{isLive}
 use Rattle.protocol.specs.Result.{accepted}
 use Rattle.protocol.specs.Book.{Call, open-release, make-step, fetch-page, fail-card, recover, join-card}
-use Rattle.protocol.specs.Book.{ask-desk, Opened, none, opened, Book, feedIf}
+use Rattle.protocol.specs.Book.{ask-desk, Opened, none, opened, Book, transitionIf}
 use Rattle.protocol.specs.Demand1.{isAmong}
-use Rattle.protocol.specs.Demand3.{Visit, answerTo, Everywhere}
+use Rattle.protocol.specs.Demand3.{Event, answerTo, Everywhere}
 
 -- no call is ever refused with 2
 abbrev pub AlwaysFits : Type 0
-AlwaysFits = Everywhere (λ b d v. answerTo d v .outcome .number ≢ unfit)
+AlwaysFits = Everywhere (λ b d e. answerTo d e .outcome .number ≢ unfit)
 
 -- the number is that of the card's open release, or at or below that of its last: the rack has the release, and no
 -- recovery has undone it
@@ -25,19 +25,19 @@ abbrev pub HasTaken : Book → ℕ → ℕ → Type 0
 HasTaken b card number = (number ≤ b .last card .number) ⊎ OpenUnder (b .release card) number
 
 -- a release resent to its card, live on a running rack, is refused with 4 or 5
-unfoldable pub ResendRefused : Book → Directory → Visit → Call → Type 0
-ResendRefused b d v (open-release card r list) =
+unfoldable pub ResendRefused : Book → Directory → Event → Call → Type 0
+ResendRefused b d e (open-release card r list) =
     d .status ≡ Running → isLive d card ≡ true → HasTaken b card (r .number)
-    → isAmong (releaseOpen ∷ numberUsed ∷ []) (answerTo d v .outcome .number) ≡ true
-ResendRefused b d v (make-step card) = Unit {0}
-ResendRefused b d v (fetch-page page buffer) = Unit {0}
-ResendRefused b d v (fail-card card) = Unit {0}
-ResendRefused b d v recover = Unit {0}
-ResendRefused b d v (join-card card) = Unit {0}
-ResendRefused b d v (ask-desk card) = Unit {0}
+    → isAmong (releaseOpen ∷ numberUsed ∷ []) (answerTo d e .outcome .number) ≡ true
+ResendRefused b d e (make-step card) = Unit {0}
+ResendRefused b d e (fetch-page page buffer) = Unit {0}
+ResendRefused b d e (fail-card card) = Unit {0}
+ResendRefused b d e recover = Unit {0}
+ResendRefused b d e (join-card card) = Unit {0}
+ResendRefused b d e (ask-desk card) = Unit {0}
 
 abbrev pub ResendsRefused : Type 0
-ResendsRefused = Everywhere (λ b d v. ResendRefused b d v (v .call))
+ResendsRefused = Everywhere (λ b d e. ResendRefused b d e (e .call))
 
 -- A call counts at most the next number of a card, so that no number counts twice.
 abbrev pub CountsNext : Book → Book → Type 0
@@ -45,4 +45,4 @@ CountsNext b after =
     (card : ℕ) → (after .last card ≡ b .last card) ⊎ (after .last card .number ≡ suc (b .last card .number))
 
 abbrev pub CountsOnce : Type 0
-CountsOnce = Everywhere (λ b d v. CountsNext b (feedIf (accepted (answerTo d v .outcome)) (v .call) b))
+CountsOnce = Everywhere (λ b d e. CountsNext b (transitionIf (accepted (answerTo d e .outcome)) (e .call) b))

@@ -15,7 +15,7 @@ use Rattle.protocol.specs.Recovery.{recovery}
 use Rattle.protocol.specs.Join.{join}
 use Rattle.protocol.specs.DeskQuestion.{deskQuestion}
 use Rattle.protocol.specs.Book.{Call, open-release, make-step, fetch-page, fail-card, recover, join-card}
-use Rattle.protocol.specs.Book.{ask-desk, none, Book, newBook, update, feedIf}
+use Rattle.protocol.specs.Book.{ask-desk, none, Book, newBook, update, transitionIf}
 
 -- each call by the definition that its contract cites
 unfoldable pub perform : Call → Directory → List ℕ → Result
@@ -30,24 +30,24 @@ perform (ask-desk card) d m = deskQuestion d m card
 -- ---- what stands between two calls
 
 -- which cards are between their accepted failure and their accepted join
-unfoldable pub away : Call → (ℕ → Bool) → ℕ → Bool
-away (open-release card r list) out = out
-away (make-step card) out = out
-away (fetch-page page buffer) out = out
-away (fail-card card) out = update out card true
-away recover out = out
-away (join-card card) out = update out card false
-away (ask-desk card) out = out
+unfoldable pub offlineAfter : Call → (ℕ → Bool) → ℕ → Bool
+offlineAfter (open-release card r list) offline = offline
+offlineAfter (make-step card) offline = offline
+offlineAfter (fetch-page page buffer) offline = offline
+offlineAfter (fail-card card) offline = update offline card true
+offlineAfter recover offline = offline
+offlineAfter (join-card card) offline = update offline card false
+offlineAfter (ask-desk card) offline = offline
 
 -- "Nobody else writes the memory, but from its accepted failure to its accepted join a card's area may hold anything
 -- at each call"
-pub record Undisturbed (d : Directory) (out : ℕ → Bool) (left found : List ℕ) : Type 0 where
+pub record Interference (d : Directory) (offline : ℕ → Bool) (left found : List ℕ) : Type 0 where
   pub same-length : length found ≡ length left
-  pub same-words : (card offset : ℕ) → card < d .cards → offset < sizeOf d → out card ≡ false
+  pub same-words : (card offset : ℕ) → card < d .cards → offset < sizeOf d → offline card ≡ false
       → load (sizeOf d) found card offset ≡ load (sizeOf d) left card offset
 
 -- a call, and the memory that it finds
-pub record Visit : Type 0 where
+pub record Event : Type 0 where
   pub call : Call
   pub found : List ℕ
 
@@ -67,38 +67,39 @@ Typed (ask-desk card) = Unit {0}
 abbrev pub pageIn : Book → ℕ → List ℕ
 pageIn b page = table (λ word. b .price (32 * page + word)) pageSize
 
-unfoldable pub Tells : Book → Call → Result → Type 0
-Tells b (open-release card r list) result = Unit {0}
-Tells b (make-step card) result = Unit {0}
-Tells b (fetch-page page buffer) result = result .words ≡ pageIn b page
-Tells b (fail-card card) result = Unit {0}
-Tells b recover result =
+unfoldable pub Conforms : Book → Call → Result → Type 0
+Conforms b (open-release card r list) result = Unit {0}
+Conforms b (make-step card) result = Unit {0}
+Conforms b (fetch-page page buffer) result = result .words ≡ pageIn b page
+Conforms b (fail-card card) result = Unit {0}
+Conforms b recover result =
     (result .outcome .value ≡ b .last (b .failed) .number) × (result .words ≡ b .last (b .failed) .desk)
-Tells b (join-card card) result = Unit {0}
-Tells b (ask-desk card) result = b .release card ≡ none → result .words ≡ b .last card .desk
+Conforms b (join-card card) result = Unit {0}
+Conforms b (ask-desk card) result = b .release card ≡ none → result .words ≡ b .last card .desk
 
 -- ---- every list of calls
 
-abbrev pub answerTo : Directory → Visit → Result
-answerTo d v = perform (v .call) d (v .found)
+abbrev pub answerTo : Directory → Event → Result
+answerTo d e = perform (e .call) d (e .found)
 
--- Each call gets what the last one left, refused or not; at each, P holds of the book, the directory and the visit.
+-- Each call gets what the last one left, refused or not; at each, P holds of the book, the directory and the event.
 unfoldable pub Always :
-    (Book → Directory → Visit → Type 0) → Directory → List ℕ → (ℕ → Bool) → Book → List Visit → Type 0
-Always P d left out b [] = Unit {0}
-Always P d left out b (v ∷ vs) =
-    let result : Result = answerTo d v in
+    (Book → Directory → Event → Type 0) → Directory → List ℕ → (ℕ → Bool) → Book → List Event → Type 0
+Always P d left offline b [] = Unit {0}
+Always P d left offline b (e ∷ es) =
+    let result : Result = answerTo d e in
     let taken : Bool = accepted (result .outcome) in
-    Typed (v .call) → Undisturbed d out left (v .found)
-    → P b d v
-    × Always P (result .directory) (result .memory) (cond taken (away (v .call) out) out) (feedIf taken (v .call) b) vs
+    Typed (e .call) → Interference d offline left (e .found)
+    → P b d e
+    × Always P (result .directory) (result .memory) (cond taken (offlineAfter (e .call) offline) offline)
+    (transitionIf taken (e .call) b) es
 
 -- on every formatted rack
-abbrev pub Everywhere : (Book → Directory → Visit → Type 0) → Type 0
+abbrev pub Everywhere : (Book → Directory → Event → Type 0) → Type 0
 Everywhere P =
-    (m : List ℕ) (cards pages : ℕ) → accepted (formatting m cards pages .outcome) ≡ true → (visits : List Visit)
-    → Always P (formatting m cards pages .directory) (formatting m cards pages .memory) (λ card. false) newBook visits
+    (m : List ℕ) (cards pages : ℕ) → accepted (formatting m cards pages .outcome) ≡ true → (events : List Event)
+    → Always P (formatting m cards pages .directory) (formatting m cards pages .memory) (λ card. false) newBook events
 
--- Demand 3: an accepted call tells what the book holds.
+-- Demand 3: an accepted call answers what the book holds.
 abbrev pub Demand3 : Type 0
-Demand3 = Everywhere (λ b d v. accepted (answerTo d v .outcome) ≡ true → Tells b (v .call) (answerTo d v))
+Demand3 = Everywhere (λ b d e. accepted (answerTo d e .outcome) ≡ true → Conforms b (e .call) (answerTo d e))

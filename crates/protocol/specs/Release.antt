@@ -1,7 +1,7 @@
 -- A release and its 4k + 11 steps (document 01, "A release and its 4k + 11 steps").
 -- Assumes nothing: these are definitions.
 use Rattle.laws.specs.Prelude.{ℕ, suc, _+_, _*_, List, [], _∷_, _++_, Bool, cond, _&&_, length, getD, ltb, eqb}
-use Rattle.memory.specs.Layout.{areaSize, deskSize, ownStamp, ownDesk, releaseOpen, stepsMade, releaseNumber}
+use Rattle.memory.specs.Layout.{areaSize, deskSize, ownStamp, ownDesk, openFlag, stepsMade, releaseNumber}
 use Rattle.memory.specs.Layout.{releaseDesk, releaseSize, recordStamp, recordDone, recordDesk, listStart, listSize}
 use Rattle.memory.specs.Layout.{pageStart, tentativeHalf, committedHalf}
 use Rattle.memory.specs.Area.{load, store, loadRun, storeRun, clearRun}
@@ -42,7 +42,7 @@ stepsOf size m c = load size m c stepsMade
 
 -- "An open release always means one on a live card."
 unfoldable pub isOpen : List Bool → ℕ → List ℕ → ℕ → Bool
-isOpen marks size m c = liveAt marks c && eqb (load size m c releaseOpen) 1
+isOpen marks size m c = liveAt marks c && eqb (load size m c openFlag) 1
 
 -- ---- its stores in order
 
@@ -105,7 +105,7 @@ close size m c =
     clearRun size
     (clearRun size
     (storeRun size m c ownStamp (openRelease size m c .number ∷ openRelease size m c .desk))
-    c releaseOpen releaseSize)
+    c openFlag releaseSize)
     c listStart listSize
 
 abbrev pub noWrite : Write

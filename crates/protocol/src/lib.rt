@@ -1,6 +1,5 @@
 // The demands on the rack, over the definitions that the calls' contracts cite. The functions here
-// do nothing when they
-// are called: they are where the gate shows the theorems.
+// do nothing when they are called: they are where the gate shows the theorems.
 ghost use Rattle.laws.specs.Examples.{AllHold};
 ghost use Rattle.protocol.specs.Demand1.{Demand1};
 ghost use Rattle.protocol.specs.Demand3.{Demand3};
@@ -22,10 +21,9 @@ pub fn nothing_past_is_read()
     ensures { λ _. ⌜ PastLimits ⌝ }
 {}
 
-// Demand 3: after every list of calls, and whatever the areas of cards that are away hold, accepted
-// calls answer what the
-// book holds.
-pub fn calls_tell_the_book()
+// Demand 3: after every list of calls, and whatever the areas of cards that are offline hold,
+// accepted calls answer what the book holds.
+pub fn calls_conform_to_book()
     ensures { λ _. ⌜ Demand3 ⌝ }
 {}
 

@@ -4,7 +4,7 @@ use Rattle.diff.specs.declared.Cursor.{Cursor}
 use Rattle.diff.specs.declared.Step.{Step}
 use Rattle.diff.specs.declared.Step.the-variants.{Next, End, Fault}
 use Rattle.diff.specs.Reading.{wordStep}
-use Rattle.reader.specs.Steady.{Steady}
+use Rattle.reader.specs.WellFormed.{WellFormed}
 use Rattle.reader.specs.Runs.{pastPrices}
 use Rattle.diff.proofs.Reading.{WordCase, a-price, a-page, a-run, an-end, a-fault, word-case}
 
@@ -56,8 +56,8 @@ module _ (pages : ℕ) (s : Cursor) (index w : ℕ) (free : Idle s) where
   word-passed t e = subst (After pages s) (sym e) (case-passed (word-case pages s index w))
 
 -- the bounds that reading on from there asks for
-pub passed-steady : {pages : ℕ} (s t : Cursor) → Passed pages s t → s .prices ≤ 512 → Steady t
-passed-steady s t passed few =
+pub passed-well-formed : {pages : ℕ} (s t : Cursor) → Passed pages s t → s .prices ≤ 512 → WellFormed t
+passed-well-formed s t passed few =
     record { within = passed .inside; one = passed .one; few = omega arith; named = passed .named }
 
 -- and past the prices that are due none is

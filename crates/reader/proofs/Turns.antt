@@ -7,7 +7,7 @@ use lib.Seq.{drop-cons}
 use Rattle.diff.specs.declared.Cursor.{Cursor}
 use Rattle.diff.specs.declared.Step.{Step}
 use Rattle.diff.specs.declared.Verdict.the-variants.{Faulty}
-use Rattle.diff.specs.Reading.{pastPrice, wordStep, afterStep, readFrom}
+use Rattle.diff.specs.Reading.{pastPrice, wordStep, verdictAfter, readFrom}
 use Rattle.diff.specs.declared.Price.{Price}
 use Rattle.diff.proofs.Derivation.{step-price}
 use Rattle.diff.specs.Prices.{pricedWord, pricesAfter, pricesFrom}
@@ -26,7 +26,7 @@ module _ (pages : ℕ) (list : List ℕ) (index : ℕ) (s : Cursor) where
 
   pub read-turn : (step : Step) → step ≡ wordStep pages s index (getD list index 0) → index < length list
       → (index ≡ 512 → ⊥)
-      → readFrom pages (drop index list) index s ≡ afterStep (readFrom pages (drop (index + 1) list) (index + 1)) s
+      → readFrom pages (drop index list) index s ≡ verdictAfter (readFrom pages (drop (index + 1) list) (index + 1)) s
       index step
   unfolding readFrom
   read-turn step does within few = rw (does, drop-cons list index 0 within, add-one) (simp (ne-eqb index 512 few))

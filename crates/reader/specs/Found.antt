@@ -1,4 +1,4 @@
--- One price of a diff, by its number.
+-- Inner contracts only. One price of a diff, by its number.
 -- Assumes nothing: these are definitions.
 use Rattle.laws.specs.Prelude.{ℕ, zero, suc, List, [], _∷_}
 use Rattle.diff.specs.declared.Price.{Price}

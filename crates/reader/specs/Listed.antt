@@ -1,4 +1,4 @@
--- What a list of prices is written out as, beside its labels (`labelOf`).
+-- Inner contracts only. What a list of prices is written out as, beside its labels (`labelOf`).
 -- Assumes nothing: these are definitions.
 use Rattle.laws.specs.Prelude.{ℕ}
 use Rattle.diff.specs.declared.Price.{Price}

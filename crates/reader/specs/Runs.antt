@@ -1,4 +1,4 @@
--- Several prices of a run passed at once.
+-- Inner contracts only. Several prices of a run passed at once.
 -- Assumes nothing: these are definitions.
 use Rattle.laws.specs.Prelude.{ℕ, _+_, _-_, List, cond, length, getD, ltb}
 use Rattle.diff.specs.declared.Cursor.{Cursor}

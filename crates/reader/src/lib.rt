@@ -10,7 +10,7 @@ ghost use Rattle.memory.specs.Area.{AreaIn, loadRun};
 ghost use Rattle.diff.specs.Reading.{start, pastPrice, pageStep, runStep, endStep, wordStep};
 ghost use Rattle.diff.specs.Reading.{readDiff, checkDiff};
 ghost use Rattle.diff.specs.Prices.{labelOf, pricesOf};
-ghost use Rattle.reader.specs.Steady.{Steady};
+ghost use Rattle.reader.specs.WellFormed.{WellFormed};
 ghost use Rattle.reader.specs.Found.{nthPrice};
 ghost use Rattle.reader.specs.Runs.{pastPrices, nthDue};
 ghost use Rattle.reader.specs.Listed.{priceOf};
@@ -35,7 +35,7 @@ pub fn cursor() -> Cursor
 
 // Past a price of a run.
 pub fn price_read(s: Cursor) -> Cursor
-    requires { ⌜ Steady s ⌝ }
+    requires { ⌜ WellFormed s ⌝ }
     requires { ⌜ 0 < s .due ⌝ }
     ensures { λ r. ⌜ r ≡ pastPrice s ⌝ }
 {
@@ -72,7 +72,7 @@ fn page_word(s: Cursor, w: u32, pages: u32) -> Step
 }
 
 fn run_word(s: Cursor, w: u32) -> Step
-    requires { ⌜ Steady s ⌝ }
+    requires { ⌜ WellFormed s ⌝ }
     ensures { λ r. ⌜ r ≡ runStep s w ⌝ }
 {
     let offset = w / 0x10000 % 0x1000;
@@ -111,7 +111,7 @@ fn end_word(s: Cursor, w: u32, index: usize) -> Step
 
 // What the word at an index does to the reading.
 pub fn read_word(s: Cursor, w: u32, index: usize, pages: u32) -> Step
-    requires { ⌜ Steady s ⌝ }
+    requires { ⌜ WellFormed s ⌝ }
     ensures { λ r. ⌜ r ≡ wordStep pages s index w ⌝ }
 {
     if 0 < s.due {
@@ -128,7 +128,7 @@ pub fn read_word(s: Cursor, w: u32, index: usize, pages: u32) -> Step
 
 // Past all prices of a run: they are not looked at.
 fn run_read(s: Cursor) -> Cursor
-    requires { ⌜ Steady s ⌝ }
+    requires { ⌜ WellFormed s ⌝ }
     ensures { λ r. ⌜ r ≡ pastPrices s (s .due) ⌝ }
 {
     Cursor {
@@ -209,7 +209,7 @@ pub enum Found {
 
 // The price numbered `n` of those that are due from an index on, unless the list stops before it.
 fn nth_due(list: &[u32], index: usize, s: Cursor, n: u32) -> Found
-    requires { ⌜ Steady s ⌝ }
+    requires { ⌜ WellFormed s ⌝ }
     requires { ⌜ (n < s .due) × (index ≤ length (now list)) ⌝ }
     ensures { λ r. ⌜ r ≡ nthDue (now (list .entry)) index s n ⌝ }
 {

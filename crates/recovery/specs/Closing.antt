@@ -1,4 +1,5 @@
--- What closing the open releases relies on, as a rack that passed its checks has it, and the memory after recovery.
+-- Inner contracts only. What closing the open releases relies on, as a rack that passed its checks has it, and the
+-- memory after recovery.
 use Rattle.laws.specs.Prelude.{ℕ, _<_, _≡_, List, Bool, true}
 use Rattle.memory.specs.Layout.{areaSize}
 use Rattle.directory.specs.declared.Directory.{Directory}

@@ -1,4 +1,5 @@
--- What recovery and join rely on, as a rack that passed its checks has it; a directory as far as they look at it.
+-- Inner contracts only. What recovery and join rely on, as a rack that passed its checks has it; a directory as far as
+-- they look at it.
 use Rattle.laws.specs.Prelude.{ℕ, _*_, _<_, _≤_, _≡_, List, [], Bool, true, cond, _&&_, length, eqb}
 use Rattle.memory.specs.Layout.{areaSize, recordStamp}
 use Rattle.memory.specs.Area.{storeRun}
@@ -28,8 +29,8 @@ storeFailed d failed words holder m =
     cond (isLive d holder) (storeRun (sizeOf d) m holder (recordStamp failed) words) m
 
 -- homes alone
-abbrev pub pagesOf : List ℕ → List ℕ → Directory
-pagesOf primary secondary = rackOf 0 0 [] primary secondary
+abbrev pub homesOnly : List ℕ → List ℕ → Directory
+homesOnly primary secondary = rackOf 0 0 [] primary secondary
 
 -- a live card whose backup, by other marks, is a given one
 abbrev pub backedBy : List Bool → List Bool → ℕ → ℕ → ℕ → Bool

@@ -4,13 +4,13 @@ ghost use Rattle.memory.specs.Layout.{areaSize};
 ghost use Rattle.protocol.specs.Recovery.{lostHome, keptHome, copyToNewHome, copyToNewHomes};
 ghost use Rattle.protocol.specs.Recovery.{moveHome, recoveredDirectory};
 ghost use Rattle.release.specs.Stepping.{CardIn, HomesIn};
-ghost use Rattle.recovery.specs.Rack.{RackIn, SomeLive, pagesOf, rackOf};
+ghost use Rattle.recovery.specs.Rack.{RackIn, SomeLive, homesOnly, rackOf};
 
 // Whether a home of the page failed.
 fn lost_home(primary: &[u32], secondary: &[u32], failed: u32, page: usize) -> bool
     requires { ⌜ (page < length (now primary)) × (page < length (now secondary)) ⌝ }
     ensures { λ r. ⌜ r
-        ≡ lostHome (pagesOf (now (primary .entry)) (now (secondary .entry))) failed page ⌝ }
+        ≡ lostHome (homesOnly (now (primary .entry)) (now (secondary .entry))) failed page ⌝ }
 {
     if primary[page] == failed {
         return true;
@@ -22,7 +22,7 @@ fn lost_home(primary: &[u32], secondary: &[u32], failed: u32, page: usize) -> bo
 fn kept_home(primary: &[u32], secondary: &[u32], failed: u32, page: usize) -> u32
     requires { ⌜ (page < length (now primary)) × (page < length (now secondary)) ⌝ }
     ensures { λ r. ⌜ r
-        ≡ keptHome (pagesOf (now (primary .entry)) (now (secondary .entry))) failed page ⌝ }
+        ≡ keptHome (homesOnly (now (primary .entry)) (now (secondary .entry))) failed page ⌝ }
 {
     if primary[page] == failed {
         return secondary[page];
@@ -46,7 +46,7 @@ fn move_home(
     requires { ⌜ page < pages ⌝ }
     requires { ⌜ (page < length (now primary)) × (page < length (now secondary)) ⌝ }
     requires { ⌜ CardIn (now live) (length (now memory)) (areaSize pages)
-        (keptHome (pagesOf (now primary) (now secondary)) failed page) ⌝ }
+        (keptHome (homesOnly (now primary) (now secondary)) failed page) ⌝ }
     ensures memory { λ _. ⌜ now (memory .exit)
         ≡ copyToNewHome
         (rackOf cards pages (now (live .entry)) (now (primary .entry)) (now (secondary .entry)))

@@ -1,4 +1,5 @@
--- The last checks of an opening (document 01, refusals 4 to 8) in the two parts that the code makes of them.
+-- Inner contracts only. The last checks of an opening (document 01, refusals 4 to 8) in the two parts that the code
+-- makes of them.
 -- Assumes nothing: these are definitions.
 use Rattle.laws.specs.Prelude.{ℕ, _+_, List, [], _∷_, Bool, ltb, leb}
 use Rattle.laws.specs.Search.{lowest, someBelow}

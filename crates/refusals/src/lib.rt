@@ -128,7 +128,16 @@ pub fn opening(
         (now (memory .entry)) card number (now (list .entry)))
         0 ⌝ }
 {
-    let first = checks::live_card(memory, cards, pages, live, primary, secondary, status, card);
+    let first = checks::live_card_refusal(
+        memory,
+        cards,
+        pages,
+        live,
+        primary,
+        secondary,
+        status,
+        card,
+    );
     if first != 0 {
         return refused(first, 0);
     }
@@ -156,7 +165,16 @@ pub fn step(
         (now (memory .entry)) card)
         0 ⌝ }
 {
-    let first = checks::live_card(memory, cards, pages, live, primary, secondary, status, card);
+    let first = checks::live_card_refusal(
+        memory,
+        cards,
+        pages,
+        live,
+        primary,
+        secondary,
+        status,
+        card,
+    );
     if first != 0 {
         return refused(first, 0);
     }
@@ -188,7 +206,7 @@ pub fn fetch(
         (now (memory .entry)) page room)
         0 ⌝ }
 {
-    let first = checks::running(memory, cards, pages, live, primary, secondary, status);
+    let first = checks::running_refusal(memory, cards, pages, live, primary, secondary, status);
     if first != 0 {
         return refused(first, 0);
     }
@@ -221,7 +239,16 @@ pub fn failure(
         (now (memory .entry)) card)
         0 ⌝ }
 {
-    let first = checks::live_card(memory, cards, pages, live, primary, secondary, status, card);
+    let first = checks::live_card_refusal(
+        memory,
+        cards,
+        pages,
+        live,
+        primary,
+        secondary,
+        status,
+        card,
+    );
     if first != 0 {
         return refused(first, 0);
     }
@@ -248,7 +275,7 @@ pub fn desk_question(
         0 ⌝ }
 {
     refused(
-        checks::card(memory, cards, pages, live, primary, secondary, status, card),
+        checks::card_refusal(memory, cards, pages, live, primary, secondary, status, card),
         0,
     )
 }
@@ -272,7 +299,7 @@ pub fn recovery(
         (now (memory .entry)))
         0 .number ⌝ }
 {
-    let first = checks::fitting(memory, cards, pages, live, primary, secondary, status);
+    let first = checks::fit_refusal(memory, cards, pages, live, primary, secondary, status);
     if first != 0 {
         return first;
     }
@@ -301,7 +328,7 @@ pub fn join(
         (now (memory .entry)) card)
         0 ⌝ }
 {
-    let first = checks::card(memory, cards, pages, live, primary, secondary, status, card);
+    let first = checks::card_refusal(memory, cards, pages, live, primary, secondary, status, card);
     if first != 0 {
         return refused(first, 0);
     }

@@ -1,6 +1,6 @@
 -- Opening and close: the stores that the code makes, in its order, are those of the definitions.
 use Rattle.laws.proofs.Prelude.{ℕ, _≡_, List}
-use Rattle.memory.specs.Layout.{ownStamp, ownDesk, deskSize, releaseOpen, stepsMade, releaseNumber, releaseDesk}
+use Rattle.memory.specs.Layout.{ownStamp, ownDesk, deskSize, openFlag, stepsMade, releaseNumber, releaseDesk}
 use Rattle.memory.specs.Layout.{releaseSize, listStart, listSize}
 use Rattle.memory.specs.Area.{load, store, loadRun, storeRun, clearRun}
 use Rattle.memory.proofs.Runs.{store-run-cons}
@@ -12,7 +12,7 @@ module _ (size : ℕ) (m : List ℕ) (card : ℕ) where
   pub open-stores : (number : ℕ) (desk list : List ℕ)
       → storeRun size
       (storeRun size
-      (store size (store size (store size m card releaseOpen 1) card stepsMade 0) card releaseNumber number)
+      (store size (store size (store size m card openFlag 1) card stepsMade 0) card releaseNumber number)
       card releaseDesk desk)
       card listStart list
       ≡ openMemory size m card (releaseOf number desk) list
@@ -25,7 +25,7 @@ module _ (size : ℕ) (m : List ℕ) (card : ℕ) where
       (clearRun size
       (storeRun size (store size m card ownStamp (load size m card releaseNumber)) card ownDesk
       (loadRun size m card releaseDesk deskSize))
-      card releaseOpen releaseSize)
+      card openFlag releaseSize)
       card listStart listSize
       ≡ close size m card
   unfolding openRelease close

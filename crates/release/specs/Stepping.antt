@@ -1,5 +1,5 @@
--- What a step relies on: a memory of its stated length, homes that are cards, and a release whose list reads well.
--- A rack that passed its checks has it.
+-- Inner contracts only. What a step relies on: a memory of its stated length, homes that are cards, and a release whose
+-- list reads well. A rack that passed its checks has it.
 use Rattle.laws.specs.Prelude.{ℕ, _*_, _+_, _-_, _/_, _%_, _<_, _≤_, _≡_, List, Bool, cond, length, getD, ltb, eqb}
 use Rattle.memory.specs.Layout.{areaSize, recordStamp, recordDesk, tentativeHalf, committedHalf}
 use Rattle.memory.specs.Area.{AreaIn}

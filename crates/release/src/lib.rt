@@ -10,11 +10,11 @@ ghost use Rattle.release.specs.Stepping.{CardIn, HomesIn, GoodRelease, C
 ghost use Rattle.release.specs.Stepping.{afterStore, afterStep, recordWrite, pricesNext};
 ghost use Rattle.release.specs.Stepping.{halfNext, numberNext, NumberedPrice};
 
-mod running;
+mod steps;
 
 use diff::Price;
 use reader::Found;
-pub use running::make_steps;
+pub use steps::make_steps;
 
 // Copies list, desk and number to the card's own area and sets steps to 0.
 pub fn open_release(
@@ -31,7 +31,7 @@ pub fn open_release(
         ≡ openMemory size (now (memory .entry)) card (releaseOf number (now (desk .entry)))
         (now (list .entry)) ⌝ }
 {
-    memory::store_word(memory, size, card, memory::RELEASE_OPEN, 1);
+    memory::store_word(memory, size, card, memory::OPEN_FLAG, 1);
     memory::store_word(memory, size, card, memory::STEPS_MADE, 0);
     memory::store_word(memory, size, card, memory::RELEASE_NUMBER, number);
     memory::store_run(memory, size, card, memory::RELEASE_DESK, desk);
@@ -48,7 +48,7 @@ pub fn close_release(memory: &mut [u32], size: usize, card: usize)
     memory::load_run(memory, size, card, memory::RELEASE_DESK, &mut desk);
     memory::store_word(memory, size, card, memory::OWN_STAMP, number);
     memory::store_run(memory, size, card, memory::OWN_DESK, &desk);
-    memory::clear_run(memory, size, card, memory::RELEASE_OPEN, 11);
+    memory::clear_run(memory, size, card, memory::OPEN_FLAG, 11);
     memory::clear_run(memory, size, card, memory::LIST_START, 512);
 }
 
@@ -329,7 +329,7 @@ pub fn step_release(
         (now (memory .entry)) card ⌝ }
 {
     let size = memory::area_size(pages);
-    let k = running::count_prices(memory, size, pages, card);
+    let k = steps::count_prices(memory, size, pages, card);
     let steps = memory::load_word(memory, size, card, memory::STEPS_MADE);
     if 0 < prices_next(k, steps) {
         let at = number_next(k, steps);

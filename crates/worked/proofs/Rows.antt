@@ -9,7 +9,7 @@ use Rattle.answer.specs.Outcome.{refusedAt, numberUsed}
 use Rattle.memory.specs.Area.{load, store, loadRun, overwrite, storeRun, clearRun, copyRun, zeros}
 use Rattle.directory.specs.declared.Directory.{Directory}
 use Rattle.directory.specs.Directory.{formattedDirectory, emptyDirectory, tableFrom, nextLive}
-use Rattle.diff.specs.Making.{changesFrom, encodeFrom, madeDiff, runLength, header, lentPages, makeDiff}
+use Rattle.diff.specs.Making.{differencesFrom, encodeFrom, madeDiff, runLength, runHeader, lentPages, makeDiff}
 use Rattle.diff.specs.Prices.{pricesOf, pricesFrom, names}
 use Rattle.diff.specs.Reading.{readFrom, wordStep, checkDiff}
 use Rattle.protocol.specs.Release.{Release, sizeOf, ownRelease, openRelease, openList, stepsOf, isOpen, releaseWrites}
@@ -56,8 +56,8 @@ used d m card r list idle low =
 
 all-shown : AllHold (completed ∷ rows)
 unfolding sameWords failuresFrom Claims lowestFrom countBelow inTurn load store loadRun overwrite storeRun clearRun
-    copyRun zeros formattedDirectory emptyDirectory tableFrom nextLive changesFrom encodeFrom madeDiff runLength
-    header lentPages makeDiff pricesOf pricesFrom names readFrom wordStep checkDiff ownRelease openRelease openList
+    copyRun zeros formattedDirectory emptyDirectory tableFrom nextLive differencesFrom encodeFrom madeDiff runLength
+    runHeader lentPages makeDiff pricesOf pricesFrom names readFrom wordStep checkDiff ownRelease openRelease openList
     stepsOf isOpen releaseWrites makeWrite close stepMemory recordedRelease underWay settledRecord writeRecord
     writeOwnRecord firstRefusal outsideLimits fewLive badHome badPage badStatus badRelease badCard unfitRack
     awaitsRecovery formatting shareWord sharesWith openMemory opening step namesPage inMotion committedPage fetch

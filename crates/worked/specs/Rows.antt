@@ -6,7 +6,7 @@ use Rattle.laws.specs.Prelude.{ℕ, zero, suc, _≤_, _<_, _≡_, List, [], _�
 use Rattle.laws.specs.Prelude.{replicate}
 use Rattle.laws.specs.Examples.{Example, computed, claimed}
 use Rattle.answer.specs.Outcome.{inWords, refusedAt, numberUsed}
-use Rattle.memory.specs.Layout.{recordStamp, releaseOpen}
+use Rattle.memory.specs.Layout.{recordStamp, openFlag}
 use Rattle.memory.specs.Area.{load, loadRun, zeros}
 use Rattle.directory.specs.declared.Directory.{Directory}
 use Rattle.directory.specs.declared.Status.the-variants.{Running}
@@ -71,7 +71,7 @@ stampAfter list steps = load 932 (stepped steps (opened list) .memory) 2 (record
 
 -- after so many steps: whether the release is open, the steps made and its number; each accepted step counts
 abbrev pub releaseAfter : List ℕ → ℕ → List ℕ
-releaseAfter list steps = loadRun 932 (stepped steps (opened list) .memory) 1 releaseOpen 3
+releaseAfter list steps = loadRun 932 (stepped steps (opened list) .memory) 1 openFlag 3
 
 -- ---- ".. by card 1, which dies after .. steps"
 

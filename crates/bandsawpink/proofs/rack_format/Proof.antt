@@ -2,14 +2,14 @@
 use mathlib.Core.Path.{ap, _∙_}
 use borrow.Author.Needs.{needs}
 use Rattle.bandsawpink.specs.Words.{wordsOf}
-use Rattle.bandsawpink.proofs.Told.{answer-told}
+use Rattle.bandsawpink.proofs.Exported.{answer-exported}
 use Rattle.bandsawpink.proofs.rack_format.Statement.{statement}
 use Rattle.bandsawpink.proofs.rack_format.Tie as tie
 
 returns : tie.Need-returns
 returns c =
     let formatted = c .before .before .before .before .before .before .format-rack .ensures in (
-      c .in-numbers .ensures ∙ answer-told _ (formatted .0),
+      c .in-numbers .ensures ∙ answer-exported _ (formatted .0),
       (c .before .write-directory .ensures ∙ ap wordsOf (formatted .1 .0), formatted .1 .1),
     )
 

@@ -4,7 +4,7 @@ use borrow.Author.Needs.{needs}
 use Rattle.protocol.specs.Release.{releaseOf}
 use Rattle.protocol.specs.Opening.{opening}
 use Rattle.bandsawpink.specs.Words.{directoryIn}
-use Rattle.bandsawpink.proofs.Told.{answer-told}
+use Rattle.bandsawpink.proofs.Exported.{answer-exported}
 use Rattle.bandsawpink.proofs.rack_open.Statement.{statement}
 use Rattle.bandsawpink.proofs.rack_open.Tie as tie
 
@@ -17,7 +17,7 @@ returns c =
     let release = releaseOf (a .number) (a .desk .now) in
     let comes = opening d (a .memory .now) (a .card) release (a .list .now) .outcome in
     let opened = rw (read .directory-in .ensures) at (called .open-release .ensures) in
-    (c .in-numbers .ensures ∙ answer-told comes (opened .0), opened .1 .1)
+    (c .in-numbers .ensures ∙ answer-exported comes (opened .0), opened .1 .1)
 
 pub rack-open-spec : {M : Type 1} → statement M
 rack-open-spec =

@@ -5,7 +5,7 @@ use borrow.Author.Tests.{ne-eqb}
 use borrow.Author.Needs.{needs, length-unmapped}
 use lib.ListN.{length}
 use Rattle.protocol.specs.Fetch.{committedPage}
-use Rattle.rack.proofs.Fitting.{fitting}
+use Rattle.rack.proofs.ValidRack.{valid-rack}
 use Rattle.batch.proofs.Fetching.{all-refused, all-facts, all-accepted}
 use Rattle.batch.proofs.fetch_all.Statement.{statement}
 use Rattle.batch.proofs.fetch_all.Tie as tie
@@ -27,7 +27,7 @@ mark-in-motion-requires c κs =
     let arrays = start .good .1 .0 .1 .1 .1 .1 in
     let marks : length (d .live) ≡ 8 = length-unmapped _ (d .live) 8 (arrays .0 .1 .0 .1) in
     let passed = all-facts d (a .memory .now) (a .buffer .now) (first .fetch-refusal .ensures) (test .if1 .left) in
-    let within = fitting (passed .runs .fits) .within in
+    let within = valid-rack (passed .runs .fits) .within in
     ((within .pages-most, within .whole), (omega arith, search needs))
 
 fetch-pages-requires : tie.Need-fetch-pages-requires
@@ -40,7 +40,7 @@ fetch-pages-requires c κs =
     let arrays = start .good .1 .0 .1 .1 .1 .1 in
     let primaries : length (d .primary) ≡ 64 = length-unmapped _ (d .primary) 64 (arrays .1 .0 .1 .0 .1) in
     let passed = all-facts d (a .memory .now) (a .buffer .now) (first .fetch-refusal .ensures) (test .if1 .left) in
-    let fit = fitting (passed .runs .fits) in
+    let fit = valid-rack (passed .runs .fits) in
     let within = fit .within in (
       (within .pages-most, within .whole),
       (

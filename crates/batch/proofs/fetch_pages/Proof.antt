@@ -6,7 +6,7 @@ use borrow.Author.Needs.{needs}
 use lib.ListN.{length, length-set}
 use Rattle.laws.specs.Search.{inTurn}
 use Rattle.laws.proofs.Search.{in-turn-none, in-turn-more}
-use Rattle.batch.specs.FetchAll.{pagesOf}
+use Rattle.batch.specs.FetchAll.{fetchedPages}
 use Rattle.batch.specs.Showing.{showNext, primariesOf}
 use Rattle.batch.proofs.fetch_pages.Statement.{statement}
 use Rattle.batch.proofs.fetch_pages.Tie as tie
@@ -14,8 +14,8 @@ use Rattle.batch.proofs.fetch_pages.Tie as tie
 abbrev Inv-loop : tie.InvT-loop
 Inv-loop memory cards pages primary moving buffer₀ shown₀ page₀ buffer shown page =
     (page ≤ pages) × (length buffer ≡ length buffer₀) × (length shown ≡ length shown₀)
-    × (pagesOf buffer shown
-    ≡ inTurn (showNext moving (primariesOf pages primary) memory) page (pagesOf buffer₀ shown₀))
+    × (fetchedPages buffer shown
+    ≡ inTurn (showNext moving (primariesOf pages primary) memory) page (fetchedPages buffer₀ shown₀))
 
 abbrev μ-loop : tie.MeasureT-loop
 μ-loop memory cards pages primary moving buffer₀ shown₀ page₀ buffer shown page = pages - page

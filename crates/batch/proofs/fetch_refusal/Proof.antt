@@ -8,13 +8,13 @@ use Rattle.batch.proofs.fetch_refusal.Statement.{statement}
 use Rattle.batch.proofs.fetch_refusal.Tie as tie
 
 returns : tie.Need-returns
-returns c = rw (refused-before _ _ _ refl (c .before .running .ensures) (c .if1 .taken))
+returns c = rw (refused-before _ _ _ refl (c .before .running-refusal .ensures) (c .if1 .taken))
 
 returns-2 : tie.Need-returns-2
 returns-2 c =
     let test = c .before in
     rw (
-      passed-before _ _ _ refl (test .before .running .ensures) (test .if1 .left),
+      passed-before _ _ _ refl (test .before .running-refusal .ensures) (test .if1 .left),
       first-refuses _ _ _ _ _ (ap not (ne-eqb _ _ (c .if2 .taken))),
     )
 
@@ -22,7 +22,7 @@ returns-3 : tie.Need-returns-3
 returns-3 c =
     let test = c .before in
     rw (
-      passed-before _ _ _ refl (test .before .running .ensures) (test .if1 .left),
+      passed-before _ _ _ refl (test .before .running-refusal .ensures) (test .if1 .left),
       last-passes _ _ _ _ (ap not (eq-eqb _ _ (c .if2 .left))),
     )
 

@@ -7,7 +7,7 @@ use lib.ListN.{length}
 use Rattle.protocol.specs.Release.{sizeOf}
 use Rattle.release.specs.Stepping.{CardIn}
 use Rattle.release.proofs.Callers.{card-in}
-use Rattle.rack.proofs.Fitting.{homes-in, fitting}
+use Rattle.rack.proofs.ValidRack.{homes-in, valid-rack}
 use Rattle.rack.proofs.Results.{step-facts}
 use Rattle.batch.specs.Steps.{stepsFrom}
 use Rattle.batch.proofs.Stepping.{first-refused, all-made}
@@ -41,7 +41,7 @@ make-steps-requires c κs =
     let primaries : length (d .primary) ≡ 64 = length-unmapped _ (d .primary) 64 (arrays .1 .0 .1 .0 .1) in
     let secondaries : length (d .secondary) ≡ 64 = length-unmapped _ (d .secondary) 64 (arrays .1 .1 .0 .1 .0 .1) in
     let passed = step-facts d m (a .card) (first .step-refusal .ensures) (c .before .if2 .left) in
-    let fit = fitting (passed .runs .fits) in
+    let fit = valid-rack (passed .runs .fits) in
     let card-at : (x : ℕ) → x < d .cards → CardIn (d .live) (length m) (sizeOf d) x
     = λ x. card-in (d .live) (sizeOf d) marks (fit .within .cards-most) (fit .within .whole)
     in (

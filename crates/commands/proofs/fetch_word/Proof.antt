@@ -2,7 +2,7 @@
 use mathlib.Core.Path.{_∙_}
 use borrow.Author.Tests.{eq-eqb, ne-eqb}
 use borrow.Author.Needs.{needs}
-use Rattle.answer.proofs.Told.{told}
+use Rattle.answer.proofs.RoundTrip.{answer-outcome}
 use Rattle.memory.specs.Layout.{pageSize}
 use Rattle.protocol.specs.Fetch.{fetch}
 use Rattle.memory.specs.Area.{zeros}
@@ -16,7 +16,7 @@ returns c =
     let fetched = c .before .before .before .before .before .fetch-page .ensures in
     let a = c .before .before .before .before .before .before .before .before .args in
     let came = fetch (a .directory) (a .memory .now) (a .page) (zeros pageSize) .outcome in
-    let comes = c .before .before .outcome-of .ensures ∙ told came (fetched .0) in
+    let comes = c .before .before .outcome-of .ensures ∙ answer-outcome came (fetched .0) in
     (rw (← comes) (simp (ne-eqb _ _ (c .if1 .taken))), fetched .1 .0)
 
 returns-2 : tie.Need-returns-2
@@ -25,7 +25,7 @@ returns-2 c =
     let fetched = c .before .before .before .before .before .before .before .fetch-page .ensures in
     let a = c .before .before .before .before .before .before .before .before .before .before .args in
     let came = fetch (a .directory) (a .memory .now) (a .page) (zeros pageSize) .outcome in
-    let comes = c .before .before .before .before .outcome-of .ensures ∙ told came (fetched .0) in (
+    let comes = c .before .before .before .before .outcome-of .ensures ∙ answer-outcome came (fetched .0) in (
       rw (← comes, ← fetched .1 .1, ← c .price-in .ensures) (simp (eq-eqb _ _ (c .before .before .if1 .left))),
       fetched .1 .0,
     )

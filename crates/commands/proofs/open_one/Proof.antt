@@ -1,7 +1,7 @@
 -- Rests on the call of the rack.
 use mathlib.Core.Path.{_∙_}
 use borrow.Author.Needs.{needs}
-use Rattle.answer.proofs.Told.{told}
+use Rattle.answer.proofs.RoundTrip.{answer-outcome}
 use Rattle.memory.specs.Area.{zeros}
 use Rattle.commands.specs.Execute.{openOne}
 use Rattle.commands.proofs.open_one.Statement.{statement}
@@ -11,7 +11,7 @@ returns : tie.Need-returns
 unfolding openOne zeros
 returns c =
     let opened = c .before .before .before .before .open-release .ensures in
-    (c .outcome-of .ensures ∙ told _ (opened .0), opened .1)
+    (c .outcome-of .ensures ∙ answer-outcome _ (opened .0), opened .1)
 
 pub open-one-spec : {M : Type 1} → statement M
 open-one-spec =

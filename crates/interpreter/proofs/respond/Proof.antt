@@ -24,13 +24,13 @@ loop-holds c = (search needs, search needs, search needs, search needs, none-rea
 loop-again : tie.Need-loop-again Inv-loop μ-loop
 loop-again c =
     let at = c .before .before .before .before .before .before .before .before .before .before .loop in
-    let fed = c .before .before .before .before .before .feed .ensures in
-    let more = fed .0 .0 in (
+    let done = c .before .before .before .before .before .process-line .ensures in
+    let more = done .0 .0 in (
       search needs,
       search needs,
       search needs,
       search needs,
-      more-read (at .inv .4) (omega arith) (fed .1 .0) (fed .1 .1 .0) (fed .1 .1 .1),
+      more-read (at .inv .4) (omega arith) (done .1 .0) (done .1 .1 .0) (done .1 .1 .1),
     )
 
 returns : tie.Need-returns Inv-loop μ-loop

@@ -6,20 +6,21 @@ use mathlib.Core.Bool.{true, true≢false}
 use native.Mathlib.Nat.{add-zero}
 use native.Mathlib.Omega.{arith}
 use borrow.Author.Needs.{needs}
-use Rattle.maker.specs.AtLabel.{NoChange, EightSame}
-use Rattle.maker.proofs.Turns.{no-change-yet, no-change-more, no-change-one}
+use Rattle.maker.specs.AtLabel.{NoDifference, EightSame}
+use Rattle.maker.proofs.Turns.{no-difference-yet, no-difference-more, no-difference-one}
 use Rattle.maker.proofs.same_eight.Statement.{statement}
 use Rattle.maker.proofs.same_eight.Tie as tie
 
 abbrev Inv-loop : tie.InvT-loop
 Inv-loop working twins label same₀ i₀ same i =
-    (i ≤ 8) × (same ≡ true → NoChange working twins label (label + i)) × (EightSame working twins label → same ≡ true)
+    (i ≤ 8) × (same ≡ true → NoDifference working twins label (label + i)) ×
+    (EightSame working twins label → same ≡ true)
 
 abbrev μ-loop : tie.MeasureT-loop
 μ-loop working twins label same₀ i₀ same i = 8 - i
 
 loop-holds : tie.Need-loop-holds Inv-loop μ-loop
-loop-holds c = (omega arith, λ same. rw add-zero (no-change-yet _ _ (omega arith)), λ eight. refl)
+loop-holds c = (omega arith, λ same. rw add-zero (no-difference-yet _ _ (omega arith)), λ eight. refl)
 
 loop-again : tie.Need-loop-again Inv-loop μ-loop
 loop-again c =
@@ -27,9 +28,9 @@ loop-again c =
     let label = turn .before .args .label in
     let i = turn .loop .i in
     let next : label + (i + 1) ≡ label + i + 1 = omega arith in
-    let one = no-change-one (turn .before .pre .0) (label + i) (omega arith) (c .if1 .taken) in
+    let one = no-difference-one (turn .before .pre .0) (label + i) (omega arith) (c .if1 .taken) in
     let far = turn .loop .inv in
-    (omega arith, λ same. rw next (no-change-more (far .1 same) one), far .2)
+    (omega arith, λ same. rw next (no-difference-more (far .1 same) one), far .2)
 
 loop-again-2 : tie.Need-loop-again-2 Inv-loop μ-loop
 loop-again-2 c =

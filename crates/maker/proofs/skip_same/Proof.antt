@@ -6,24 +6,24 @@ use mathlib.Core.Bool.{true≢false}
 use native.Mathlib.Omega.{arith}
 use borrow.Author.Needs.{needs}
 use lib.ListN.{length}
-use Rattle.maker.specs.AtLabel.{NoChange}
-use Rattle.maker.proofs.Turns.{no-change-yet, no-change-more}
+use Rattle.maker.specs.AtLabel.{NoDifference}
+use Rattle.maker.proofs.Turns.{no-difference-yet, no-difference-more}
 use Rattle.maker.proofs.skip_same.Statement.{statement}
 use Rattle.maker.proofs.skip_same.Tie as tie
 
 abbrev Inv-loop : tie.InvT-loop
-Inv-loop working twins from label₀ label = NoChange working twins from label
+Inv-loop working twins from label₀ label = NoDifference working twins from label
 
 abbrev μ-loop : tie.MeasureT-loop
 μ-loop working twins from label₀ label = length working - label
 
 loop-holds : tie.Need-loop-holds Inv-loop μ-loop
-loop-holds c = no-change-yet _ _ (omega arith)
+loop-holds c = no-difference-yet _ _ (omega arith)
 
 loop-again : tie.Need-loop-again Inv-loop μ-loop
 loop-again c =
     let equal = c .before .same-eight .ensures .0 in
-    no-change-more (c .before .before .before .loop .inv) (equal (c .if1 .taken))
+    no-difference-more (c .before .before .before .loop .inv) (equal (c .if1 .taken))
 
 returns : tie.Need-returns Inv-loop μ-loop
 returns c =

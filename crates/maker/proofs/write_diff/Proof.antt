@@ -8,9 +8,8 @@ use lib.ListN.{length, getD, length-set, length-take, length-drop}
 use lib.Seq.{sets}
 use denote.Ref.{now}
 use Rattle.diff.specs.Making.{madeDiff}
-use Rattle.maker.specs.AtLabel.{bodyOn}
 use Rattle.maker.proofs.Turns.{run-at-some, body-on-end, some-body, run-counts, run-stored}
-use Rattle.maker.proofs.Turns.{length-made, end-stored}
+use Rattle.maker.proofs.Turns.{length-made, end-stored, bodyOn}
 use Rattle.maker.proofs.write_diff.Statement.{statement}
 use Rattle.maker.proofs.write_diff.Tie as tie
 
@@ -32,7 +31,7 @@ loop-holds c =
 returns : tie.Need-returns Inv-loop μ-loop
 returns c =
     let lent = c .before .before .before .before .before .before .before .pre .0 in
-    let first = c .before .before .next-change .ensures in
+    let first = c .before .before .next-difference .ensures in
     let within = c .before .if1 .left in
     let some = some-body (first .0) lent within (first .1 within) in
     (λ over. omega arith, (λ few. absurd (omega arith), λ few. absurd (omega arith)))
@@ -51,7 +50,7 @@ loop-less c =
     let counting = c .before .before .before .before .before .before .before .before .before in
     let found = counting .before .before .before in
     let args = found .before .before .before .before .before .args in
-    let first = found .next-change in
+    let first = found .next-difference in
     let some = run-at-some (now (args .working)) (now (args .twins)) (first .result) in
     omega (arith, counting .run-length .ensures .1 .1, first .ensures .0 .after)
 
@@ -65,18 +64,18 @@ loop-again c =
     let at = found .before .loop in
     let start = found .before .before .before .before .before in
     let lent = start .pre .0 in
-    let first = found .next-change .ensures in
+    let first = found .next-difference .ensures in
     let within = tested .if1 .left in
     let differ = first .1 within in
     let run = counting .run-length .ensures in
-    let header = headed .write-header .ensures in
-    let short : headed .write-header .result ≤ at .words + 2 = header .0 in
-    let price = getD (now (start .args .working)) (found .next-change .result) 0 in
-    let stopped = header .1 .0 price in
+    let runHeader = headed .write-header .ensures in
+    let short : headed .write-header .result ≤ at .words + 2 = runHeader .0 in
+    let price = getD (now (start .args .working)) (found .next-difference .result) 0 in
+    let stopped = runHeader .1 .0 price in
     let count = run-counts (first .0) lent within differ (run .1 .1) (run .1 .0) (at .words) stopped (at .inv .3) in
     let stored =
     run-stored (first .0) lent within differ (run .1 .1) (run .1 .0) (at .words) stopped (at .list) (at .inv .4)
-    (header .1 .1 price) (c .before .before .store-run-in .ensures)
+    (runHeader .1 .1 price) (c .before .before .store-run-in .ensures)
     in
     let kept = c .before .list2 .given ∙ c .before .before .before .before .before .before .list .given ∙ at .inv .2 in
     (omega arith, omega (arith, short, run .0, room .if2 .left), kept, count, stored)
@@ -88,7 +87,7 @@ returns-2 : tie.Need-returns-2 Inv-loop μ-loop
 returns-2 c =
     let args = c .before .before .before .before .before .before .args in
     let at = c .before .before .loop in
-    let none = body-on-end (c .before .next-change .ensures .0) (c .if1 .taken) in
+    let none = body-on-end (c .before .next-difference .ensures .0) (c .if1 .taken) in
     let empty = ap length none in
     let whole = length-made (now (args .working)) (now (args .twins)) in
     let stored = rw none at (at .inv .4) in

@@ -7,8 +7,9 @@ use native.Mathlib.Nat.{add-zero}
 use Rattle.laws.specs.Search.{inTurn}
 use Rattle.protocol.specs.Release.{Release, countsAt, stepsIn}
 use Rattle.protocol.specs.Book.{Opened, none, opened, listPrices, Book, count, setOpen, stepBook, countUncounted}
-use Rattle.protocol.specs.Book.{countOpen, strikeOpen}
-use Rattle.protocol.proofs.book.Changes.{update-same, update-other, update-update, update-unchanged, step-book-plain}
+use Rattle.protocol.specs.Book.{countOpen, clearOpen}
+use Rattle.protocol.proofs.book.Changes.{update-same, update-other, update-update, update-unchanged}
+use Rattle.protocol.proofs.book.Changes.{step-book-plain}
 use Rattle.protocol.proofs.book.Changes.{step-book-counts, step-book-closes}
 
 -- ---- books that are equal part by part
@@ -128,7 +129,7 @@ module _ (b : Book) where
 
   record ClosedBelow (n : ℕ) (closed : Book) : Type 0 where
     same : SamePrices closed (counted n)
-    struck : (x : ℕ) → x < n → closed .release x ≡ none
+    cleared : (x : ℕ) → x < n → closed .release x ≡ none
     left : (x : ℕ) → n ≤ x → closed .release x ≡ b .release x
 
   closed-below : (n : ℕ) → ClosedBelow n (closedBooks n b)
@@ -136,7 +137,7 @@ module _ (b : Book) where
   closed-below zero =
       record {
         same = record { price = refl; last = refl; failed = refl };
-        struck = λ x below. absurd (omega arith);
+        cleared = λ x below. absurd (omega arith);
         left = λ x above. refl;
       }
   closed-below (suc n) = go (closed-below n)
@@ -150,10 +151,10 @@ module _ (b : Book) where
           record {
             same = rw (← (below .left n (omega arith)))
                 (record { price = counts .price; last = counts .last; failed = counts .failed });
-            struck = λ x small.
+            cleared = λ x small.
                 elim (ℕ-discrete x n) [
                   | yes here ↦ rw (kept, here) (update-same (now .release) n none)
-                  | no other ↦ rw kept (update-other (now .release) n none x other ∙ below .struck x (omega arith))
+                  | no other ↦ rw kept (update-other (now .release) n none x other ∙ below .cleared x (omega arith))
                 ];
             left = λ x above. rw kept
                 (update-other (now .release) n none x (omega arith) ∙ below .left x (omega arith));
@@ -170,7 +171,7 @@ module _ (b : Book) where
 
   -- what the book does at a recovery is what running the releases to their close does
   pub closed-books : (cards : ℕ) → cards ≤ 8 → ((x : ℕ) → cards ≤ x → b .release x ≡ none)
-      → closedBooks cards b ≡ strikeOpen (countOpen b)
+      → closedBooks cards b ≡ clearOpen (countOpen b)
   unfolding countOpen counted
   closed-books cards few idle =
       let below = closed-below cards in
@@ -182,6 +183,6 @@ module _ (b : Book) where
       none-open : (x : ℕ) → closedBooks cards b .release x ≡ none
       none-open x =
           elim (decLt x cards) [
-            | yes small ↦ closed-below cards .struck x small
+            | yes small ↦ closed-below cards .cleared x small
             | no past ↦ closed-below cards .left x (omega arith) ∙ idle x (omega arith)
           ]

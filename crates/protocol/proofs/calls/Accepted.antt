@@ -4,17 +4,17 @@ use Rattle.directory.specs.declared.Directory.{Directory}
 use Rattle.directory.specs.declared.Status.the-variants.{Running}
 use Rattle.protocol.specs.Checks.{Check, firstRefusal, awaitsRecovery}
 use Rattle.protocol.specs.Result.{Result, accepted, resultOf}
-use Rattle.protocol.specs.Book.{Call, Book, feed}
-use Rattle.protocol.specs.Demand3.{away, Tells}
+use Rattle.protocol.specs.Book.{Call, Book, transition}
+use Rattle.protocol.specs.Demand3.{offlineAfter, Conforms}
 use Rattle.protocol.proofs.invariant.Rack.{RunningRack, AwaitingRack}
 use Rattle.protocol.proofs.checks.Order.{numbered, Passed, all-passed, when-accepted}
 use Rattle.protocol.proofs.checks.Passed.{Runs}
-use Rattle.protocol.proofs.invariant.Found.{Rack, NoneAway}
+use Rattle.protocol.proofs.invariant.Found.{Rack, LiveOnline}
 
-pub record Good (call : Call) (out : ℕ → Bool) (b : Book) (result : Result) : Type 0 where
-  pub tells : Tells b call result
-  pub rack : Rack (result .directory) (result .memory) (feed call b)
-  pub here : NoneAway (result .directory) (away call out)
+pub record AcceptedCall (call : Call) (offline : ℕ → Bool) (b : Book) (result : Result) : Type 0 where
+  pub conforms : Conforms b call result
+  pub rack : Rack (result .directory) (result .memory) (transition call b)
+  pub online : LiveOnline (result .directory) (offlineAfter call offline)
 
 -- a rack by its status
 pub running-rack : {d : Directory} {m : List ℕ} {b : Book} → Rack d m b → d .status ≡ Running → RunningRack d m b
@@ -28,15 +28,17 @@ unfolding awaitsRecovery
 awaiting-rack (inl rack) awaits = absurd (false≢true (ap awaitsRecovery (sym (rack .running)) ∙ awaits))
 awaiting-rack (inr rack) awaits = rack
 
-module _ (d : Directory) (m : List ℕ) (b : Book) (out : ℕ → Bool) (rack : Rack d m b) (here : NoneAway d out) where
+module _ (d : Directory) (m : List ℕ) (b : Book) (offline : ℕ → Bool) (rack : Rack d m b)
+    (online : LiveOnline d offline) where
   -- a call whose checks all pass
   pub by-checks : (call : Call) (checks : List Check) (value : ℕ) (done : Result) (words : List ℕ)
-      → done .outcome ≡ firstRefusal checks value → numbered checks ≡ true → (Passed checks → Good call out b done)
+      → done .outcome ≡ firstRefusal checks value → numbered checks ≡ true
+      → (Passed checks → AcceptedCall call offline b done)
       → accepted (resultOf (firstRefusal checks value) done d m words .outcome) ≡ true
-      → Good call out b (resultOf (firstRefusal checks value) done d m words)
+      → AcceptedCall call offline b (resultOf (firstRefusal checks value) done d m words)
   by-checks call checks value done words same real good ok =
       let taken = when-accepted (firstRefusal checks value) done d m words same ok in
-      subst (Good call out b) (sym (taken .1)) (good (all-passed checks value real (taken .0)))
+      subst (AcceptedCall call offline b) (sym (taken .1)) (good (all-passed checks value real (taken .0)))
 
   pub running : Runs d m → RunningRack d m b
   running runs = running-rack rack (runs .running)

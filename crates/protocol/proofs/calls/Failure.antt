@@ -5,31 +5,38 @@ use Rattle.directory.specs.Directory.{isLive}
 use Rattle.directory.proofs.Changes.{live-of-marked-dead, live-of-other}
 use Rattle.protocol.specs.Result.{accepted}
 use Rattle.protocol.specs.Failure.{failure, failureChecks, failedDirectory}
-use Rattle.protocol.specs.Book.{fail-card, Book, feed, update}
-use Rattle.protocol.specs.Demand3.{away, Tells}
+use Rattle.protocol.specs.Book.{fail-card, Book, transition, update}
+use Rattle.protocol.specs.Demand3.{offlineAfter, Conforms}
 use Rattle.protocol.proofs.book.Changes.{update-other}
 use Rattle.protocol.proofs.invariant.Failure.{fails}
 use Rattle.protocol.proofs.invariant.TwoLive.{two-stay}
 use Rattle.protocol.proofs.checks.Passed.{failure-passed}
-use Rattle.protocol.proofs.invariant.Found.{Rack, NoneAway}
-use Rattle.protocol.proofs.calls.Accepted.{Good, by-checks, running}
+use Rattle.protocol.proofs.invariant.Found.{Rack, LiveOnline}
+use Rattle.protocol.proofs.calls.Accepted.{AcceptedCall, by-checks, running}
 
-module _ (d : Directory) (m : List ℕ) (b : Book) (out : ℕ → Bool) (rack : Rack d m b) (here : NoneAway d out) where
-  pub failure-good : (c : ℕ) → accepted (failure d m c .outcome) ≡ true → Good (fail-card c) out b (failure d m c)
-  unfolding failure Tells feed away
-  failure-good c =
-      by-checks d m b out rack here (fail-card c) (failureChecks d m c) 0 _ [] refl refl
+module _ (d : Directory) (m : List ℕ) (b : Book) (offline : ℕ → Bool) (rack : Rack d m b)
+    (online : LiveOnline d offline) where
+  pub failure-accepted : (c : ℕ) → accepted (failure d m c .outcome) ≡ true
+      → AcceptedCall (fail-card c) offline b (failure d m c)
+  unfolding failure Conforms transition offlineAfter
+  failure-accepted c =
+      by-checks d m b offline rack online (fail-card c) (failureChecks d m c) 0 _ [] refl refl
       (λ p.
       let passed = failure-passed d m c p in
       record {
-        tells = tt;
-        rack = inr (c, fails d c m b (running d m b out rack here (passed .runs)) (passed .live) (two-stay d c (passed .many)));
-        here = still-here;
+        conforms = tt;
+        rack =
+            inr (
+              c,
+              fails d c m b (running d m b offline rack online (passed .runs)) (passed .live)
+                  (two-stay d c (passed .many)),
+            );
+        online = still-online;
       })
     where
-      still-here : (x : ℕ) → isLive (failedDirectory d c) x ≡ true → update out c true x ≡ false
-      still-here x live =
+      still-online : (x : ℕ) → isLive (failedDirectory d c) x ≡ true → update offline c true x ≡ false
+      still-online x live =
           elim (ℕ-discrete x c) [
             | yes same ↦ absurd (true≢false (sym live ∙ (rw same (live-of-marked-dead d c))))
-            | no other ↦ update-other out c true x other ∙ here x (sym (live-of-other d c false x other) ∙ live)
+            | no other ↦ update-other offline c true x other ∙ online x (sym (live-of-other d c false x other) ∙ live)
           ]

@@ -6,28 +6,30 @@ use Rattle.directory.proofs.Changes.{live-of-other}
 use Rattle.protocol.specs.Release.{sizeOf, isOpen}
 use Rattle.protocol.specs.Result.{accepted}
 use Rattle.protocol.specs.Join.{join, joinChecks}
-use Rattle.protocol.specs.Book.{join-card, Book, none, feed, update}
-use Rattle.protocol.specs.Demand3.{away, Tells}
+use Rattle.protocol.specs.Book.{join-card, Book, none, transition, update}
+use Rattle.protocol.specs.Demand3.{offlineAfter, Conforms}
 use Rattle.protocol.proofs.book.Changes.{update-same, update-other}
 use Rattle.protocol.proofs.invariant.Rack.{RunningRack}
 use Rattle.protocol.proofs.join.Joined.{joins}
 use Rattle.protocol.proofs.checks.Passed.{join-passed}
-use Rattle.protocol.proofs.invariant.Found.{Rack, NoneAway}
+use Rattle.protocol.proofs.invariant.Found.{Rack, LiveOnline}
 use Rattle.protocol.proofs.invariant.Running.{none-if-idle}
-use Rattle.protocol.proofs.calls.Accepted.{Good, by-checks, running}
+use Rattle.protocol.proofs.calls.Accepted.{AcceptedCall, by-checks, running}
 
-module _ (d : Directory) (m : List ℕ) (b : Book) (out : ℕ → Bool) (rack : Rack d m b) (here : NoneAway d out) where
-  pub join-good : (x : ℕ) → accepted (join d m x .outcome) ≡ true → Good (join-card x) out b (join d m x)
-  unfolding join Tells feed away
-  join-good x =
-      by-checks d m b out rack here (join-card x) (joinChecks d m x) 0 _ [] refl refl
+module _ (d : Directory) (m : List ℕ) (b : Book) (offline : ℕ → Bool) (rack : Rack d m b)
+    (online : LiveOnline d offline) where
+  pub join-accepted : (x : ℕ) → accepted (join d m x .outcome) ≡ true
+      → AcceptedCall (join-card x) offline b (join d m x)
+  unfolding join Conforms transition offlineAfter
+  join-accepted x =
+      by-checks d m b offline rack online (join-card x) (joinChecks d m x) 0 _ [] refl refl
       (λ p.
       let passed = join-passed d m x p in
-      let runs = running d m b out rack here (passed .runs) in
+      let runs = running d m b offline rack online (passed .runs) in
       record {
-        tells = tt;
+        conforms = tt;
         rack = inl (joins d x m b runs (passed .dead) (passed .below) (idle runs (passed .none-open)));
-        here = still-here;
+        online = still-online;
       })
     where
       idle : RunningRack d m b → ((c : ℕ) → c < d .cards → isOpen (d .live) (sizeOf d) m c ≡ false) → (c : ℕ)
@@ -42,9 +44,9 @@ module _ (d : Directory) (m : List ℕ) (b : Book) (out : ℕ → Bool) (rack : 
           go true live = none-if-idle d m b runs c (closed c (runs .core .shape .below c live))
           go false dead = runs .core .gone c dead
 
-      still-here : (c : ℕ) → isLive (markedLive d x) c ≡ true → update out x false c ≡ false
-      still-here c live =
+      still-online : (c : ℕ) → isLive (markedLive d x) c ≡ true → update offline x false c ≡ false
+      still-online c live =
           elim (ℕ-discrete c x) [
-            | yes same ↦ rw same (update-same out x false)
-            | no other ↦ update-other out x false c other ∙ here c (sym (live-of-other d x true c other) ∙ live)
+            | yes same ↦ rw same (update-same offline x false)
+            | no other ↦ update-other offline x false c other ∙ online c (sym (live-of-other d x true c other) ∙ live)
           ]

@@ -11,7 +11,7 @@ use Rattle.diff.proofs.Prices.{names-none}
 use Rattle.diff.proofs.OnlyDiff.{allowed-few}
 use Rattle.protocol.specs.Release.{Release, sizeOf}
 use Rattle.protocol.specs.Opening.{shareWord, sharesWith, openMemory, opening, openingChecks}
-use Rattle.protocol.specs.Book.{Opened, none, opened, listPrices, Book, setOpen, open-release, feed}
+use Rattle.protocol.specs.Book.{Opened, none, opened, listPrices, Book, setOpen, open-release, transition}
 use Rattle.protocol.proofs.book.Changes.{pricesIn}
 use Rattle.protocol.proofs.invariant.Core.{OpenStands}
 use Rattle.protocol.proofs.release.Opening.{stored-prices}
@@ -20,9 +20,9 @@ use Rattle.protocol.proofs.invariant.Rack.{RunningRack}
 use Rattle.protocol.proofs.checks.Passed.{OpeningPassed, opening-passed}
 use Rattle.protocol.proofs.invariant.Running.{stands-open, is-open, none-if-idle, own-is-last, runs-on}
 use Rattle.protocol.specs.Result.{accepted}
-use Rattle.protocol.specs.Demand3.{away, Tells}
-use Rattle.protocol.proofs.invariant.Found.{Rack, NoneAway}
-use Rattle.protocol.proofs.calls.Accepted.{Good, by-checks, running}
+use Rattle.protocol.specs.Demand3.{offlineAfter, Conforms}
+use Rattle.protocol.proofs.invariant.Found.{Rack, LiveOnline}
+use Rattle.protocol.proofs.calls.Accepted.{AcceptedCall, by-checks, running}
 
 -- lists that share no word
 unshared-names : (ps others : List Price) (label : ℕ) → shareWord ps others ≡ false → names others label ≡ true
@@ -73,20 +73,23 @@ module _ (d : Directory) (m : List ℕ) (b : Book) (rack : RunningRack d m b) (c
   opening-runs =
       runs-on d m b rack _ _
       (open-core d (backupOf d) _ _ _ m b (rack .core) c (passed .live) idle r list eight few (passed .allowed)
-      (omega (arith, passed .next, ap (λ (own : Release). own .number) (own-is-last d m b rack c (passed .live) idle))) free)
+      (omega
+      (arith, passed .next, ap (λ (own : Release). own .number) (own-is-last d m b rack c (passed .live) idle))) free)
       (λ g dead. refl)
 
-module _ (d : Directory) (m : List ℕ) (b : Book) (out : ℕ → Bool) (rack : Rack d m b) (here : NoneAway d out) where
-  pub opening-good : (c : ℕ) (r : Release) (list : List ℕ) → length (r .desk) ≡ 8
-      → accepted (opening d m c r list .outcome) ≡ true → Good (open-release c r list) out b (opening d m c r list)
-  unfolding opening Tells feed away
-  opening-good c r list eight =
-      by-checks d m b out rack here (open-release c r list) (openingChecks d m c (r .number) list) 0 _ [] refl refl
+module _ (d : Directory) (m : List ℕ) (b : Book) (offline : ℕ → Bool) (rack : Rack d m b)
+    (online : LiveOnline d offline) where
+  pub opening-accepted : (c : ℕ) (r : Release) (list : List ℕ) → length (r .desk) ≡ 8
+      → accepted (opening d m c r list .outcome) ≡ true
+      → AcceptedCall (open-release c r list) offline b (opening d m c r list)
+  unfolding opening Conforms transition offlineAfter
+  opening-accepted c r list eight =
+      by-checks d m b offline rack online (open-release c r list) (openingChecks d m c (r .number) list) 0 _
+      [] refl refl
       (λ p.
       let passed = opening-passed d m c (r .number) list p in
       record {
-        tells = tt;
-        rack = inl (opening-runs d m b (running d m b out rack here (passed .runs)) c r list eight passed);
-        here =
-            here;
+        conforms = tt;
+        rack = inl (opening-runs d m b (running d m b offline rack online (passed .runs)) c r list eight passed);
+        online = online;
       })

@@ -9,21 +9,22 @@ use Rattle.protocol.specs.Checks.{firstRefusal, awaitsRecovery}
 use Rattle.protocol.specs.Result.{accepted}
 use Rattle.protocol.specs.Recovery.{recovery, recoveryChecks, failedRelease, awaitedCard, recoveredDirectory}
 use Rattle.protocol.specs.Recovery.{recoveredMemory}
-use Rattle.protocol.specs.Book.{recover, Book, feed}
-use Rattle.protocol.specs.Demand3.{away, Tells}
+use Rattle.protocol.specs.Book.{recover, Book, transition}
+use Rattle.protocol.specs.Demand3.{offlineAfter, Conforms}
 use Rattle.protocol.proofs.invariant.Rack.{AwaitingRack}
 use Rattle.protocol.proofs.recovery.Pages.{answers}
 use Rattle.protocol.proofs.recovery.Recovered.{recovers}
 use Rattle.protocol.proofs.recovery.Homes.{recovered-parts}
 use Rattle.protocol.proofs.checks.Order.{given-value}
-use Rattle.protocol.proofs.invariant.Found.{Rack, NoneAway}
-use Rattle.protocol.proofs.calls.Accepted.{Good, by-checks, awaiting-rack}
+use Rattle.protocol.proofs.invariant.Found.{Rack, LiveOnline}
+use Rattle.protocol.proofs.calls.Accepted.{AcceptedCall, by-checks, awaiting-rack}
 
-module _ (d : Directory) (m : List ℕ) (b : Book) (out : ℕ → Bool) (rack : Rack d m b) (here : NoneAway d out) where
-  pub recovery-good : accepted (recovery d m .outcome) ≡ true → Good recover out b (recovery d m)
-  unfolding recovery awaitedCard Tells feed away
-  recovery-good =
-      by-checks d m b out rack here recover (recoveryChecks d m) _ _ _ refl refl
+module _ (d : Directory) (m : List ℕ) (b : Book) (offline : ℕ → Bool) (rack : Rack d m b)
+    (online : LiveOnline d offline) where
+  pub recovery-accepted : accepted (recovery d m .outcome) ≡ true → AcceptedCall recover offline b (recovery d m)
+  unfolding recovery awaitedCard Conforms transition offlineAfter
+  recovery-accepted =
+      by-checks d m b offline rack online recover (recoveryChecks d m) _ _ _ refl refl
       (λ p.
       let awaited = awaiting-rack rack (not-false (awaitsRecovery (d .status)) (p .1 .1 .0)) in
       recovered (awaited .0) (awaited .1) (given-value (recoveryChecks d m) _ p))
@@ -31,7 +32,7 @@ module _ (d : Directory) (m : List ℕ) (b : Book) (out : ℕ → Bool) (rack : 
       recovered : (f : ℕ) → AwaitingRack d f m b
           → firstRefusal (recoveryChecks d m) (failedRelease d (awaitedCard (d .status)) m .number)
           ≡ given (failedRelease d (awaitedCard (d .status)) m .number)
-          → Good recover out b
+          → AcceptedCall recover offline b
           (record {
             outcome = firstRefusal (recoveryChecks d m) (failedRelease d (awaitedCard (d .status)) m .number);
             directory = recoveredDirectory d (awaitedCard (d .status));
@@ -40,15 +41,15 @@ module _ (d : Directory) (m : List ℕ) (b : Book) (out : ℕ → Bool) (rack : 
           })
       recovered f awaiting gives =
           let card : awaitedCard (d .status) ≡ f = rw (awaiting .awaiting) in
-          let told : failedRelease d (awaitedCard (d .status)) m ≡ b .last (b .failed) =
+          let release-is : failedRelease d (awaitedCard (d .status)) m ≡ b .last (b .failed) =
           rw (card, awaiting .failed) (answers d f m b awaiting) in
           record {
-            tells = (
-              ap (λ (o : Outcome). o .value) gives ∙ ap (λ (r : Release). r .number) told,
-              ap (λ (r : Release). r .desk) told,
+            conforms = (
+              ap (λ (o : Outcome). o .value) gives ∙ ap (λ (r : Release). r .number) release-is,
+              ap (λ (r : Release). r .desk) release-is,
             );
             rack = inl (rw card (recovers d f m b awaiting));
-            here = λ c live. here c (subst (λ (marks : List Bool). liveAt marks c ≡ true) (marks card) live);
+            online = λ c live. online c (subst (λ (marks : List Bool). liveAt marks c ≡ true) (marks card) live);
           }
         where
           marks : awaitedCard (d .status) ≡ f → recoveredDirectory d (awaitedCard (d .status)) .live ≡ d .live

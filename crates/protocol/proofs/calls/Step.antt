@@ -4,7 +4,7 @@ use Rattle.laws.proofs.Prelude.{eqb, inl}
 use Rattle.directory.specs.declared.Directory.{Directory}
 use Rattle.directory.specs.Directory.{backupOf}
 use Rattle.protocol.specs.Release.{stepMemory, countsAt}
-use Rattle.protocol.specs.Book.{Opened, none, opened, listPrices, Book, count, stepBook, make-step, feed}
+use Rattle.protocol.specs.Book.{Opened, none, opened, listPrices, Book, count, stepBook, make-step, transition}
 use Rattle.protocol.proofs.book.Changes.{update-other}
 use Rattle.protocol.proofs.invariant.Step.{step-core}
 use Rattle.protocol.proofs.invariant.Rack.{RunningRack}
@@ -12,9 +12,9 @@ use Rattle.protocol.proofs.checks.Passed.{StepPassed, step-passed}
 use Rattle.protocol.proofs.invariant.Running.{is-open, idle-word, runs-on}
 use Rattle.protocol.specs.Result.{accepted}
 use Rattle.protocol.specs.Step.{step, stepChecks}
-use Rattle.protocol.specs.Demand3.{away, Tells}
-use Rattle.protocol.proofs.invariant.Found.{Rack, NoneAway}
-use Rattle.protocol.proofs.calls.Accepted.{Good, by-checks, running}
+use Rattle.protocol.specs.Demand3.{offlineAfter, Conforms}
+use Rattle.protocol.proofs.invariant.Found.{Rack, LiveOnline}
+use Rattle.protocol.proofs.calls.Accepted.{AcceptedCall, by-checks, running}
 
 step-last : (b : Book) (c g : ℕ) (R : Opened) → g ≢ c → stepBook b c R .last g ≡ b .last g
 unfolding stepBook
@@ -35,11 +35,17 @@ module _ (d : Directory) (m : List ℕ) (b : Book) (rack : RunningRack d m b) (c
           runs-on d m b rack _ _ (step-core d (backupOf d) _ _ _ m b (rack .core) c (passed .live) r list s is)
           (λ g dead. step-last b c g (opened r list s) (λ same. true≢false (sym (passed .live) ∙ (rw same at dead))))
 
-module _ (d : Directory) (m : List ℕ) (b : Book) (out : ℕ → Bool) (rack : Rack d m b) (here : NoneAway d out) where
-  pub step-good : (c : ℕ) → accepted (step d m c .outcome) ≡ true → Good (make-step c) out b (step d m c)
-  unfolding step Tells feed away
-  step-good c =
-      by-checks d m b out rack here (make-step c) (stepChecks d m c) 0 _ [] refl refl
+module _ (d : Directory) (m : List ℕ) (b : Book) (offline : ℕ → Bool) (rack : Rack d m b)
+    (online : LiveOnline d offline) where
+  pub step-accepted : (c : ℕ) → accepted (step d m c .outcome) ≡ true
+      → AcceptedCall (make-step c) offline b (step d m c)
+  unfolding step Conforms transition offlineAfter
+  step-accepted c =
+      by-checks d m b offline rack online (make-step c) (stepChecks d m c) 0 _ [] refl refl
       (λ p.
       let passed = step-passed d m c p in
-      record { tells = tt; rack = inl (step-runs d m b (running d m b out rack here (passed .runs)) c passed); here = here })
+      record {
+        conforms = tt;
+        rack = inl (step-runs d m b (running d m b offline rack online (passed .runs)) c passed);
+        online = online;
+      })

@@ -1,4 +1,5 @@
--- Checks in order: an accepted call passed all of them, a refused one has the number of one of them and changes nothing.
+-- Checks in order: an accepted call passed all of them, a refused one has the number of the first that it failed and
+-- changes nothing.
 use Rattle.laws.proofs.Prelude.{ℕ, _≡_, refl, sym, _∙_, List, [], _∷_, Bool, true, false, cond, not, _&&_, true≢false}
 use Rattle.laws.proofs.Prelude.{not-true, eqb, eq-eqb}
 use Rattle.laws.proofs.Bools.{and-first, and-second}

@@ -1,6 +1,5 @@
--- The claim on page words while releases are under way: the writes that a card has still to make, laid over what
--- memory has in a word that no other card's open list names, give the book's price of it, with the prices that the
--- book has not yet.
+-- The claim on page words while releases are under way: the writes that a card has still to make, made to a word that
+-- no other card's open list names, give the book's price of it, with the prices that the book has not yet.
 use Rattle.laws.proofs.Prelude.{ℕ, _+_, _*_, _<_, _≡_, refl, sym, _∙_, _≢_, List, [], Bool, true, false, arith}
 use Rattle.laws.proofs.Prelude.{ℕ-discrete}
 use Rattle.memory.specs.Layout.{pageStart}
@@ -8,20 +7,20 @@ use Rattle.memory.specs.Area.{load}
 use Rattle.directory.specs.declared.Directory.{Directory}
 use Rattle.directory.specs.Directory.{isLive}
 use Rattle.diff.specs.declared.Price.{Price}
-use Rattle.diff.specs.Prices.{names, laidAt}
-use Rattle.diff.proofs.Prices.{names-none, laid-none}
+use Rattle.diff.specs.Prices.{names, appliedAt}
+use Rattle.diff.proofs.Prices.{names-none, applied-none}
 use Rattle.protocol.specs.Release.{Write, sizeOf}
 use Rattle.protocol.specs.Book.{Opened, none, update}
-use Rattle.protocol.proofs.release.WordAfter.{over, over-none, HomeOf}
+use Rattle.protocol.proofs.release.WordAfter.{wordAfter, word-after-none, HomeOf}
 use Rattle.protocol.proofs.book.Changes.{pricesIn, EightWords, update-same, update-other}
 
 -- no card but c names the label in its open release
-abbrev pub Alone : (ℕ → Opened) → ℕ → ℕ → Type 0
-Alone release c label = (x : ℕ) → x ≢ c → names (pricesIn (release x)) label ≡ false
+abbrev pub Unshared : (ℕ → Opened) → ℕ → ℕ → Type 0
+Unshared release c label = (x : ℕ) → x ≢ c → names (pricesIn (release x)) label ≡ false
 
 -- no two open releases name one label
-abbrev pub Apart : (ℕ → Opened) → Type 0
-Apart release = (c x label : ℕ) → x ≢ c → names (pricesIn (release c)) label ≡ true
+abbrev pub Disjoint : (ℕ → Opened) → Type 0
+Disjoint release = (c x label : ℕ) → x ≢ c → names (pricesIn (release c)) label ≡ true
     → names (pricesIn (release x)) label ≡ false
 
 -- a word of a page at a live home
@@ -41,8 +40,8 @@ pub record Half (d : Directory) : Type 0 where
   pub due-none : due none ≡ []
   pub todo-unnamed : (c h p w v : ℕ) (R : Opened) → c < 8 → EightWords R → w < 32
       → names (pricesIn R) (32 * p + w) ≡ false
-      → over (todo c R) h (pageStart p + (half + w)) v ≡ v
-  pub due-unnamed : (label v : ℕ) (R : Opened) → names (pricesIn R) label ≡ false → laidAt (due R) label v ≡ v
+      → wordAfter (todo c R) h (pageStart p + (half + w)) v ≡ v
+  pub due-unnamed : (label v : ℕ) (R : Opened) → names (pricesIn R) label ≡ false → appliedAt (due R) label v ≡ v
 
 -- the word, as memory has it
 abbrev pub wordIn : (d : Directory) → Half d → List ℕ → ℕ → ℕ → ℕ → ℕ
@@ -51,10 +50,10 @@ wordIn d H m h p w = load (sizeOf d) m h (pageStart p + (H .half + w))
 -- the claim on one word by one card
 abbrev pub Agrees : (d : Directory) → Half d → ℕ → Opened → (ℕ → ℕ) → ℕ → ℕ → ℕ → ℕ → Type 0
 Agrees d H c R price h p w v =
-    over (H .todo c R) h (pageStart p + (H .half + w)) v ≡ laidAt (H .due R) (32 * p + w) (price (32 * p + w))
+    wordAfter (H .todo c R) h (pageStart p + (H .half + w)) v ≡ appliedAt (H .due R) (32 * p + w) (price (32 * p + w))
 
 pub record Claim (d : Directory) (H : Half d) (release : ℕ → Opened) (price : ℕ → ℕ) (m : List ℕ) : Type 0 where
-  pub agrees : (c h p w : ℕ) → c < 8 → HomeWord d h p w → Alone release c (32 * p + w)
+  pub agrees : (c h p w : ℕ) → c < 8 → HomeWord d h p w → Unshared release c (32 * p + w)
       → Agrees d H c (release c) price h p w (wordIn d H m h p w)
 
 -- ---- with nothing open the claim says that every word is the book's
@@ -67,16 +66,16 @@ module _ (d : Directory) (H : Half d) (release : ℕ → Opened) (price : ℕ �
       record {
         agrees = λ c h p w few word alone.
             rw (idle c, H .todo-none c, H .due-none)
-            (over-none h _ _ ∙ right h p w word ∙ sym (laid-none (32 * p + w) _));
+            (word-after-none h _ _ ∙ right h p w word ∙ sym (applied-none (32 * p + w) _));
       }
 
   pub idle-words : Claim d H release price m → (h p w : ℕ) → HomeWord d h p w
       → wordIn d H m h p w ≡ price (32 * p + w)
   idle-words claim h p w word =
-      sym (over-none h _ _)
+      sym (word-after-none h _ _)
       ∙ (rw (idle 0, H .todo-none 0, H .due-none) at
       (claim .agrees 0 h p w (omega arith) word (λ x other. rw (idle x) (names-none (32 * p + w)))))
-      ∙ laid-none (32 * p + w) _
+      ∙ applied-none (32 * p + w) _
 
 -- ---- only card c moves: its own words go from the old claim to the new, and what others claim is not touched
 
@@ -95,15 +94,15 @@ module _ (d : Directory) (H : Half d) (release : ℕ → Opened) (price price′
     pub claim-moves : Moves → Claim d H release price m → Claim d H (update release c R) price′ m′
     claim-moves moves claim = record { agrees = λ x h p w few word alone. at x h p w few word alone (ℕ-discrete x c) }
       where
-        before : (x h p w : ℕ) → HomeWord d h p w → Alone (update release c R) x (32 * p + w)
-            → Alone release x (32 * p + w)
+        before : (x h p w : ℕ) → HomeWord d h p w → Unshared (update release c R) x (32 * p + w)
+            → Unshared release x (32 * p + w)
         before x h p w word alone y other =
             elim (ℕ-discrete y c) [
               | yes same ↦ rw same (moves .grows (32 * p + w) (rw (same, update-same) at (alone y other)))
-              | no away ↦ rw (update-other release c R y away) at (alone y other)
+              | no elsewhere ↦ rw (update-other release c R y elsewhere) at (alone y other)
             ]
 
-        at : (x h p w : ℕ) → x < 8 → HomeWord d h p w → Alone (update release c R) x (32 * p + w) → Dec (x ≡ c)
+        at : (x h p w : ℕ) → x < 8 → HomeWord d h p w → Unshared (update release c R) x (32 * p + w) → Dec (x ≡ c)
             → Agrees d H x (update release c R x) price′ h p w (wordIn d H m′ h p w)
         at x h p w few word alone (yes same) =
             rw (same, update-same release c R)
@@ -121,48 +120,48 @@ module _ (d : Directory) (H : Half d) (release : ℕ → Opened) (price price′
 -- ---- card c's release is struck out, with nothing of it to write or to count
 
 module _ (d : Directory) (H : Half d) (release : ℕ → Opened) (price : ℕ → ℕ) (m : List ℕ) (c : ℕ) where
-  pub claim-struck : c < 8 → ((x : ℕ) → EightWords (release x)) → Apart release
-      → ((h p w v : ℕ) → w < 32 → over (H .todo c (release c)) h (pageStart p + (H .half + w)) v ≡ v)
+  pub claim-cleared : c < 8 → ((x : ℕ) → EightWords (release x)) → Disjoint release
+      → ((h p w v : ℕ) → w < 32 → wordAfter (H .todo c (release c)) h (pageStart p + (H .half + w)) v ≡ v)
       → H .due (release c) ≡ []
       → Claim d H release price m → Claim d H (update release c none) price m
-  claim-struck card eights apart written-all counted claim =
+  claim-cleared card eights apart written-all counted claim =
       record {
         agrees = λ x h p w few word alone.
             at x h p w few word alone (names (pricesIn (release c)) (32 * p + w)) refl (ℕ-discrete x c);
       }
     where
       -- what stands is the price, as nothing is pending
-      settled : (h p w : ℕ) → HomeWord d h p w → Alone release c (32 * p + w)
+      settled : (h p w : ℕ) → HomeWord d h p w → Unshared release c (32 * p + w)
           → wordIn d H m h p w ≡ price (32 * p + w)
       settled h p w word alone =
           sym (written-all h p w (wordIn d H m h p w) (word .word))
           ∙ (rw counted at (claim .agrees c h p w card word alone))
-          ∙ laid-none (32 * p + w) (price (32 * p + w))
+          ∙ applied-none (32 * p + w) (price (32 * p + w))
 
-      others : (x y label : ℕ) → Alone (update release c none) x label → y ≢ x → y ≢ c
+      others : (x y label : ℕ) → Unshared (update release c none) x label → y ≢ x → y ≢ c
           → names (pricesIn (release y)) label ≡ false
-      others x y label alone other away = rw (update-other release c none y away) at (alone y other)
+      others x y label alone other elsewhere = rw (update-other release c none y elsewhere) at (alone y other)
 
-      at : (x h p w : ℕ) → x < 8 → HomeWord d h p w → Alone (update release c none) x (32 * p + w)
+      at : (x h p w : ℕ) → x < 8 → HomeWord d h p w → Unshared (update release c none) x (32 * p + w)
           → (named : Bool) → names (pricesIn (release c)) (32 * p + w) ≡ named → Dec (x ≡ c)
           → Agrees d H x (update release c none x) price h p w (wordIn d H m h p w)
       at x h p w few word alone named is (yes same) =
           rw (same, update-same release c none, H .todo-none c, H .due-none)
-          (over-none h (pageStart p + (H .half + w)) (wordIn d H m h p w)
-          ∙ settled h p w word (λ y away. others x y (32 * p + w) alone (λ e. away (e ∙ same)) away)
-          ∙ sym (laid-none (32 * p + w) (price (32 * p + w))))
+          (word-after-none h (pageStart p + (H .half + w)) (wordIn d H m h p w)
+          ∙ settled h p w word (λ y elsewhere. others x y (32 * p + w) alone (λ e. elsewhere (e ∙ same)) elsewhere)
+          ∙ sym (applied-none (32 * p + w) (price (32 * p + w))))
       at x h p w few word alone true named (no other) =
           let unnamed = apart c x (32 * p + w) other named in
           rw (update-other release c none x other)
           (H .todo-unnamed x h p w (wordIn d H m h p w) (release x) few (eights x) (word .word) unnamed
-          ∙ settled h p w word (λ y away. apart c y (32 * p + w) away named)
+          ∙ settled h p w word (λ y elsewhere. apart c y (32 * p + w) elsewhere named)
           ∙ sym (H .due-unnamed (32 * p + w) (price (32 * p + w)) (release x) unnamed))
       at x h p w few word alone false unnamed (no other) =
           rw (update-other release c none x other)
           (claim .agrees x h p w few word
-          (λ y away. elim (ℕ-discrete y c) [
+          (λ y elsewhere. elim (ℕ-discrete y c) [
             | yes same ↦ rw same unnamed
-            | no far ↦ others x y (32 * p + w) alone away far
+            | no far ↦ others x y (32 * p + w) alone elsewhere far
           ]))
 
 -- ---- a claim on fewer words, or on words that are the same

@@ -6,14 +6,16 @@ use lib.Seq.{drop-append-add}
 use Rattle.memory.specs.Layout.{pageStart, tentativeHalf, committedHalf, recordStamp, recordDone, recordDesk}
 use Rattle.directory.specs.declared.Directory.{Directory}
 use Rattle.diff.specs.declared.Price.{Price}
-use Rattle.diff.specs.Prices.{names, laidAt}
-use Rattle.diff.proofs.Prices.{laid-none, laid-unnamed}
+use Rattle.diff.specs.Prices.{names, appliedAt}
+use Rattle.diff.proofs.Prices.{applied-none, applied-unnamed}
 use Rattle.diff.proofs.Stored.{OnPages, prices-on-pages}
 use Rattle.protocol.specs.Release.{Release, Write, priceWrites, runWrites, releaseWrites, countsAt}
 use Rattle.protocol.specs.Book.{Opened, none, opened, listPrices}
 use Rattle.protocol.proofs.release.Writes.{length-writes, length-price-writes, length-run-writes}
-use Rattle.protocol.proofs.release.WordAfter.{over, over-none, over-first, over-append, over-miss, written, Misses}
-use Rattle.protocol.proofs.release.WordAfter.{misses-append, misses-drop, run-misses, prices-miss, unnamed-miss, prices-over}
+use Rattle.protocol.proofs.release.WordAfter.{wordAfter, word-after-none, word-after-first, word-after-append}
+use Rattle.protocol.proofs.release.WordAfter.{word-after-miss, written, Misses}
+use Rattle.protocol.proofs.release.WordAfter.{misses-append, misses-drop, run-misses, prices-miss, unnamed-miss}
+use Rattle.protocol.proofs.release.WordAfter.{word-after-prices}
 use Rattle.protocol.proofs.release.WordAfter.{HomeOf}
 use Rattle.protocol.proofs.book.Changes.{pricesIn, EightWords, uncounted, uncounted-none}
 use Rattle.protocol.proofs.claims.Claim.{Half}
@@ -92,27 +94,27 @@ module _ (d : Directory) (backup c : ℕ) (r : Release) (ps : List Price) (few :
       drop-part (priceWrites d tentativeHalf ps) _ (countsAt (length ps)) 9 (omega arith)
       ∙ drop-part (runWrites backup (recordDesk c (r .number)) (r .desk)) _ 9 1 (omega arith)
 
-  -- the writes from the count on lay the prices on the committed words
-  pub committed-over : (h p w v : ℕ) → w < 32 → HomeOf d h p
-      → over (drop (countsAt (length ps)) (releaseWrites d backup c r ps)) h (pageStart p + (committedHalf + w)) v
-      ≡ laidAt ps (32 * p + w) v
-  committed-over h p w v within home =
+  -- the writes from the count on apply the prices to the committed words
+  pub word-after-committed : (h p w v : ℕ) → w < 32 → HomeOf d h p
+      → wordAfter (drop (countsAt (length ps)) (releaseWrites d backup c r ps)) h (pageStart p + (committedHalf + w)) v
+      ≡ appliedAt ps (32 * p + w) v
+  word-after-committed h p w v within home =
       rw after-stamp
-      (over-append (priceWrites d committedHalf ps) _ h (pageStart p + (committedHalf + w)) v
-      ∙ over-miss _ (records-miss h p w committedHalf within (omega arith) .2)
-      ∙ prices-over d committedHalf ps h p w v within (omega arith) home 64 on)
+      (word-after-append (priceWrites d committedHalf ps) _ h (pageStart p + (committedHalf + w)) v
+      ∙ word-after-miss _ (records-miss h p w committedHalf within (omega arith) .2)
+      ∙ word-after-prices d committedHalf ps h p w v within (omega arith) home 64 on)
 
-  -- all of them lay the prices on the tentative words
-  pub tentative-over : (h p w v : ℕ) → w < 32 → HomeOf d h p
-      → over (releaseWrites d backup c r ps) h (pageStart p + (tentativeHalf + w)) v ≡ laidAt ps (32 * p + w) v
+  -- all of them apply the prices to the tentative words
+  pub word-after-tentative : (h p w v : ℕ) → w < 32 → HomeOf d h p
+      → wordAfter (releaseWrites d backup c r ps) h (pageStart p + (tentativeHalf + w)) v ≡ appliedAt ps (32 * p + w) v
   unfolding releaseWrites
-  tentative-over h p w v within home =
+  word-after-tentative h p w v within home =
       let records = records-miss h p w tentativeHalf within (omega arith) in
       let second = prices-miss d committedHalf ps h (pageStart p + (tentativeHalf + w)) (λ q u inside e. omega arith)
       64 on in
-      over-append (priceWrites d tentativeHalf ps) _ h (pageStart p + (tentativeHalf + w)) v
-      ∙ over-miss _ (misses-append (records .0) (misses-append (records .1) (misses-append second (records .2))))
-      ∙ prices-over d tentativeHalf ps h p w v within (omega arith) home 64 on
+      word-after-append (priceWrites d tentativeHalf ps) _ h (pageStart p + (tentativeHalf + w)) v
+      ∙ word-after-miss _ (misses-append (records .0) (misses-append (records .1) (misses-append second (records .2))))
+      ∙ word-after-prices d tentativeHalf ps h p w v within (omega arith) home 64 on
 
 -- ---- what a card's release has still to write
 
@@ -138,29 +140,29 @@ module _ (d : Directory) (backup : ℕ → ℕ) where
 
   pub pending-unnamed : (c h p w v : ℕ) (R : Opened) → c < 8 → EightWords R → w < 32
       → names (pricesIn R) (32 * p + w) ≡ false
-      → over (pending d backup c R) h (pageStart p + (tentativeHalf + w)) v ≡ v
+      → wordAfter (pending d backup c R) h (pageStart p + (tentativeHalf + w)) v ≡ v
   unfolding pending
-  pending-unnamed c h p w v none few eight within unnamed = over-none h _ v
+  pending-unnamed c h p w v none few eight within unnamed = word-after-none h _ v
   pending-unnamed c h p w v (opened r list s) few eight within unnamed =
-      over-miss v
+      word-after-miss v
       (misses-drop s (tentative-misses d (backup c) c r (listPrices list) few eight (on-pages list) h p w within
       unnamed))
 
   pub committed-unnamed : (c h p w v : ℕ) (R : Opened) → c < 8 → EightWords R → w < 32
       → names (pricesIn R) (32 * p + w) ≡ false
-      → over (pendingCommitted d backup c R) h (pageStart p + (committedHalf + w)) v ≡ v
+      → wordAfter (pendingCommitted d backup c R) h (pageStart p + (committedHalf + w)) v ≡ v
   unfolding pendingCommitted
-  committed-unnamed c h p w v none few eight within unnamed = over-none h _ v
+  committed-unnamed c h p w v none few eight within unnamed = word-after-none h _ v
   committed-unnamed c h p w v (opened r list s) few eight within unnamed = go
       (ltb s (countsAt (length (listPrices list))))
     where
       go : (early : Bool)
-          → over (cond early [] (drop s (releaseWrites d (backup c) c r (listPrices list)))) h
+          → wordAfter (cond early [] (drop s (releaseWrites d (backup c) c r (listPrices list)))) h
           (pageStart p + (committedHalf + w)) v
           ≡ v
-      go true = over-none h _ v
+      go true = word-after-none h _ v
       go false =
-          over-miss v
+          word-after-miss v
           (misses-drop s (committed-misses d (backup c) c r (listPrices list) few eight (on-pages list) h p w within
           unnamed))
 
@@ -168,42 +170,45 @@ module _ (d : Directory) (backup : ℕ → ℕ) where
 module _ (d : Directory) (backup : ℕ → ℕ) (c : ℕ) (r : Release) (list : List ℕ) (s : ℕ) (eight : length (r .desk) ≡ 8)
   where
     pub pending-first : (h o v : ℕ) → s < 4 * length (listPrices list) + 10
-        → over (pending d backup c (opened r list s)) h o v
-        ≡ over (pending d backup c (opened r list (suc s))) h o
+        → wordAfter (pending d backup c (opened r list s)) h o v
+        ≡ wordAfter (pending d backup c (opened r list (suc s))) h o
         (written (stepWrite d (backup c) c r (listPrices list) s) h o v)
     unfolding pending
     pending-first h o v before =
-        over-first (releaseWrites d (backup c) c r (listPrices list)) s h o v
+        word-after-first (releaseWrites d (backup c) c r (listPrices list)) s h o v
         (omega (arith, length-writes d (backup c) c r (listPrices list) eight))
 
-    pub pending-over : 4 * length (listPrices list) + 10 ≤ s → pending d backup c (opened r list s) ≡ []
+    pub pending-done : 4 * length (listPrices list) + 10 ≤ s → pending d backup c (opened r list s) ≡ []
     unfolding pending
-    pending-over past =
+    pending-done past =
         drop-of-length-le (releaseWrites d (backup c) c r (listPrices list)) {i = s}
         (omega (arith, length-writes d (backup c) c r (listPrices list) eight))
 
     -- once the tentative words are written none of them is to be
     pub tentative-late : c < 8 → 2 * length (listPrices list) ≤ s → (h p w v : ℕ) → w < 32
-        → over (pending d backup c (opened r list s)) h (pageStart p + (tentativeHalf + w)) v ≡ v
+        → wordAfter (pending d backup c (opened r list s)) h (pageStart p + (tentativeHalf + w)) v ≡ v
     unfolding pending
     tentative-late few late h p w v within =
-        over-miss v (after-tentative d (backup c) c r (listPrices list) few eight (on-pages list) h p w s within late)
+        word-after-miss v
+        (after-tentative d (backup c) c r (listPrices list) few eight (on-pages list) h p w s within late)
 
     -- at the opening the tentative words are all to be written
     pub tentative-first : c < 8 → s ≡ 0 → (h p w v : ℕ) → w < 32 → HomeOf d h p
-        → over (pending d backup c (opened r list s)) h (pageStart p + (tentativeHalf + w)) v
-        ≡ laidAt (listPrices list) (32 * p + w) v
+        → wordAfter (pending d backup c (opened r list s)) h (pageStart p + (tentativeHalf + w)) v
+        ≡ appliedAt (listPrices list) (32 * p + w) v
     unfolding pending
     tentative-first few opening h p w v within home =
-        rw opening (tentative-over d (backup c) c r (listPrices list) few eight (on-pages list) h p w v within home)
+        rw opening
+        (word-after-tentative d (backup c) c r (listPrices list) few eight (on-pages list) h p w v within home)
 
     -- at the count the committed words are all to be written
     pub committed-first : c < 8 → s ≡ countsAt (length (listPrices list)) → (h p w v : ℕ) → w < 32 → HomeOf d h p
-        → over (pending d backup c (opened r list s)) h (pageStart p + (committedHalf + w)) v
-        ≡ laidAt (listPrices list) (32 * p + w) v
+        → wordAfter (pending d backup c (opened r list s)) h (pageStart p + (committedHalf + w)) v
+        ≡ appliedAt (listPrices list) (32 * p + w) v
     unfolding pending
     committed-first few counts h p w v within home =
-        rw counts (committed-over d (backup c) c r (listPrices list) few eight (on-pages list) h p w v within home)
+        rw counts
+        (word-after-committed d (backup c) c r (listPrices list) few eight (on-pages list) h p w v within home)
 
     pub committed-early : s < countsAt (length (listPrices list)) → pendingCommitted d backup c (opened r list s) ≡ []
     unfolding pendingCommitted
@@ -215,14 +220,14 @@ module _ (d : Directory) (backup : ℕ → ℕ) (c : ℕ) (r : Release) (list : 
     committed-late late = rw (le-ltb s (countsAt (length (listPrices list))) late)
 
 pub uncounted-unnamed : (label v : ℕ) (R : Opened) → names (pricesIn R) label ≡ false
-    → laidAt (uncounted R) label v ≡ v
+    → appliedAt (uncounted R) label v ≡ v
 unfolding uncounted
-uncounted-unnamed label v none unnamed = laid-none label v
+uncounted-unnamed label v none unnamed = applied-none label v
 uncounted-unnamed label v (opened r list s) unnamed = go (ltb s (countsAt (length (listPrices list))))
   where
-    go : (early : Bool) → laidAt (cond early (listPrices list) []) label v ≡ v
-    go true = laid-unnamed (listPrices list) label v unnamed
-    go false = laid-none label v
+    go : (early : Bool) → appliedAt (cond early (listPrices list) []) label v ≡ v
+    go true = applied-unnamed (listPrices list) label v unnamed
+    go false = applied-none label v
 
 -- ---- the halves
 
@@ -247,5 +252,5 @@ committeds d backup =
       todo-none = committed-none d backup;
       due-none = refl;
       todo-unnamed = committed-unnamed d backup;
-      due-unnamed = λ label v R unnamed. laid-none label v;
+      due-unnamed = λ label v R unnamed. applied-none label v;
     }

@@ -3,24 +3,28 @@ use Rattle.laws.proofs.Prelude.{ℕ, suc, _+_, _*_, _/_, _≤_, _<_, _≡_, ref
 use Rattle.laws.proofs.Prelude.{ℕ-discrete, decLt, length}
 use Rattle.memory.specs.Layout.{pageStart, tentativeHalf, committedHalf}
 use Rattle.directory.specs.declared.Directory.{Directory}
-use Rattle.diff.specs.Prices.{names, laidAt}
-use Rattle.diff.proofs.Prices.{laid-none, laid-unnamed}
+use Rattle.diff.specs.Prices.{names, appliedAt}
+use Rattle.diff.proofs.Prices.{applied-none, applied-unnamed}
 use Rattle.diff.proofs.Stored.{price-on-page}
 use Rattle.protocol.specs.Release.{Release, releaseWrites, countsAt}
 use Rattle.protocol.specs.Book.{Opened, none, opened, listPrices, update}
 use Rattle.protocol.proofs.release.Writes.{noPrice, length-writes, Phase, phase, to-tentative, to-desk, to-stamp}
-use Rattle.protocol.proofs.release.Writes.{to-committed, to-done, to-close, write-tentative, write-desk, write-stamp}
-use Rattle.protocol.proofs.release.WordAfter.{over-none, written, written-miss, written-other-offset, misses-at}
+use Rattle.protocol.proofs.release.Writes.{to-committed, to-done, to-close, write-tentative, write-desk}
+use Rattle.protocol.proofs.release.Writes.{write-stamp}
+use Rattle.protocol.proofs.release.WordAfter.{word-after-none, written, written-miss, written-other-offset}
+use Rattle.protocol.proofs.release.WordAfter.{misses-at}
 use Rattle.protocol.proofs.release.Step.{stepWrite}
 use Rattle.protocol.proofs.book.Changes.{EightWords, uncounted, uncounted-early, uncounted-late}
-use Rattle.protocol.proofs.claims.Claim.{Apart, HomeWord, Half, wordIn, Agrees, Claim, Moves, claim-moves}
-use Rattle.protocol.proofs.claims.Claim.{claim-struck, claim-kept}
-use Rattle.protocol.proofs.claims.Halves.{on-pages, tentative-misses, committed-misses, pending-first, pending-over}
-use Rattle.protocol.proofs.claims.Halves.{committed-early, committed-late, committed-first, tentatives, committeds}
+use Rattle.protocol.proofs.claims.Claim.{Disjoint, HomeWord, Half, wordIn, Agrees, Claim, Moves, claim-moves}
+use Rattle.protocol.proofs.claims.Claim.{claim-cleared, claim-kept}
+use Rattle.protocol.proofs.claims.Halves.{on-pages, tentative-misses, committed-misses, pending-first}
+use Rattle.protocol.proofs.claims.Halves.{pending-done}
+use Rattle.protocol.proofs.claims.Halves.{committed-early, committed-late, committed-first, tentatives}
+use Rattle.protocol.proofs.claims.Halves.{committeds}
 
 -- the book's prices after a step: counted with the release's own if the step counts it
-pub record PricesAfter (k s : ℕ) (price price′ : ℕ → ℕ) (laid : ℕ → ℕ) : Type 0 where
-  pub counts : suc s ≡ countsAt k → (label : ℕ) → price′ label ≡ laid label
+pub record PricesAfter (k s : ℕ) (price price′ : ℕ → ℕ) (applied : ℕ → ℕ) : Type 0 where
+  pub counts : suc s ≡ countsAt k → (label : ℕ) → price′ label ≡ applied label
   pub plain : suc s ≢ countsAt k → (label : ℕ) → price′ label ≡ price label
 
 module _ (d : Directory) (backup : ℕ → ℕ) (release : ℕ → Opened) (price price′ : ℕ → ℕ) (m m′ : List ℕ) (c : ℕ)
@@ -28,18 +32,19 @@ module _ (d : Directory) (backup : ℕ → ℕ) (release : ℕ → Opened) (pric
     (r : Release) (list : List ℕ) (s : ℕ) (is : release c ≡ opened r list s) (eight : length (r .desk) ≡ 8)
     (before : s < 4 * length (listPrices list) + 10)
     (after : PricesAfter (length (listPrices list)) s price price′
-    (λ label. laidAt (listPrices list) label (price label))) where
+    (λ label. appliedAt (listPrices list) label (price label))) where
   -- a label that the release does not name keeps its price
   price-kept : (label : ℕ) → names (listPrices list) label ≡ false → price′ label ≡ price label
   price-kept label unnamed =
       elim (ℕ-discrete (suc s) (countsAt (length (listPrices list)))) [
-        | yes counts ↦ after .counts counts label ∙ laid-unnamed (listPrices list) label (price label) unnamed
+        | yes counts ↦ after .counts counts label ∙ applied-unnamed (listPrices list) label (price label) unnamed
         | no plain ↦ after .plain plain label
       ]
 
   -- the target of the tentative words stays
   due-kept : (label : ℕ)
-      → laidAt (uncounted (opened r list (suc s))) label (price′ label) ≡ laidAt (uncounted (opened r list s)) label
+      → appliedAt (uncounted (opened r list (suc s))) label (price′ label)
+      ≡ appliedAt (uncounted (opened r list s)) label
       (price label)
   due-kept label =
       elim (ℕ-discrete (suc s) (countsAt (length (listPrices list)))) [
@@ -50,13 +55,13 @@ module _ (d : Directory) (backup : ℕ → ℕ) (release : ℕ → Opened) (pric
               after .counts
                   counts label,
             )
-            (laid-none label _)
+            (applied-none label _)
         | no plain ↦ rw (after .plain plain label) (go (decLt s (countsAt (length (listPrices list)))) plain)
       ]
     where
       go : Dec (s < countsAt (length (listPrices list))) → suc s ≢ countsAt (length (listPrices list))
-          → laidAt (uncounted (opened r list (suc s))) label (price label)
-          ≡ laidAt (uncounted (opened r list s)) label (price label)
+          → appliedAt (uncounted (opened r list (suc s))) label (price label)
+          ≡ appliedAt (uncounted (opened r list s)) label (price label)
       go (yes early) plain = rw (uncounted-early r list (suc s) (omega arith), uncounted-early r list s early)
       go (no late) plain = rw (uncounted-late r list (suc s) (omega arith), uncounted-late r list s (omega arith))
 
@@ -144,15 +149,16 @@ module _ (d : Directory) (backup : ℕ → ℕ) (release : ℕ → Opened) (pric
               → Agrees d (committeds d backup) c (opened r list (suc s)) price′ h p w
               (wordIn d (committeds d backup) m′ h p w)
           at (yes counts) =
-              let was = sym (over-none h _ _)
-              ∙ (rw (committed-early d backup c r list s eight (omega arith)) at agrees) ∙ laid-none (32 * p + w) _ in
+              let was = sym (word-after-none h _ _)
+              ∙ (rw (committed-early d backup c r list s eight (omega arith)) at agrees) ∙ applied-none
+              (32 * p + w) _ in
               rw (
                 still (omega arith) h p w word,
                 committed-late d backup c r list (suc s) eight (omega arith),
                 after .counts counts (32 * p + w),
               )
               (committed-first d backup c r list (suc s) eight few counts h p w _ (word .word) (word .home)
-              ∙ ap (laidAt (listPrices list) (32 * p + w)) was ∙ sym (laid-none (32 * p + w) _))
+              ∙ ap (appliedAt (listPrices list) (32 * p + w)) was ∙ sym (applied-none (32 * p + w) _))
           at (no plain) = rw (after .plain plain (32 * p + w))
               (going-on (decLt s (countsAt (length (listPrices list)))) plain)
             where
@@ -170,7 +176,7 @@ module _ (d : Directory) (backup : ℕ → ℕ) (release : ℕ → Opened) (pric
 -- ---- the close
 
 module _ (d : Directory) (backup : ℕ → ℕ) (release : ℕ → Opened) (price : ℕ → ℕ) (m m′ : List ℕ) (c : ℕ) (few : c < 8)
-    (eights : (x : ℕ) → EightWords (release x)) (apart : Apart release) (r : Release) (list : List ℕ) (s : ℕ)
+    (eights : (x : ℕ) → EightWords (release x)) (apart : Disjoint release) (r : Release) (list : List ℕ) (s : ℕ)
     (is : release c ≡ opened r list s) (past : 4 * length (listPrices list) + 10 ≤ s) where
   eight : length (r .desk) ≡ 8
   eight = rw is at (eights c)
@@ -185,8 +191,8 @@ module _ (d : Directory) (backup : ℕ → ℕ) (release : ℕ → Opened) (pric
       → Claim d (tentatives d backup) release price m → Claim d (tentatives d backup) (update release c none) price m′
   close-tentatives same claim =
       same-words (tentatives d backup) same (update release c none)
-      (claim-struck d (tentatives d backup) release price m c few eights apart
-      (λ h p w v within. rw (is, pending-over d backup c r list s eight past) (over-none h _ v))
+      (claim-cleared d (tentatives d backup) release price m c few eights apart
+      (λ h p w v within. rw (is, pending-done d backup c r list s eight past) (word-after-none h _ v))
       (rw is (uncounted-late r list s (omega arith))) claim)
 
   pub close-committeds : ((h p w : ℕ) → HomeWord d h p w
@@ -194,8 +200,8 @@ module _ (d : Directory) (backup : ℕ → ℕ) (release : ℕ → Opened) (pric
       → Claim d (committeds d backup) release price m → Claim d (committeds d backup) (update release c none) price m′
   close-committeds same claim =
       same-words (committeds d backup) same (update release c none)
-      (claim-struck d (committeds d backup) release price m c few eights apart
+      (claim-cleared d (committeds d backup) release price m c few eights apart
       (λ h p w v within.
-      rw (is, committed-late d backup c r list s eight (omega arith), pending-over d backup c r list s eight past)
-      (over-none h _ v))
+      rw (is, committed-late d backup c r list s eight (omega arith), pending-done d backup c r list s eight past)
+      (word-after-none h _ v))
       refl claim)

@@ -55,5 +55,5 @@ module _ (d : Directory) (m : List ℕ) (fits : Fits d m) where
 
 pub always-fits : AlwaysFits
 always-fits =
-    everywhere (λ b d v. answerTo d v .outcome .number ≢ unfit)
-    (λ d out b v rack here typed. never-unfit d (v .found) (rack-fits d (v .found) b rack) (v .call))
+    everywhere (λ b d e. answerTo d e .outcome .number ≢ unfit)
+    (λ d offline b e rack online typed. never-unfit d (e .found) (rack-fits d (e .found) b rack) (e .call))

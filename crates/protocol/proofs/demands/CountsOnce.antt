@@ -7,11 +7,11 @@ use Rattle.protocol.specs.Release.{Release, countsAt}
 use Rattle.protocol.specs.Result.{accepted}
 use Rattle.protocol.specs.Book.{Call, open-release, make-step, fetch-page, fail-card, recover, join-card}
 use Rattle.protocol.specs.Book.{ask-desk, Opened, none, opened, listPrices, Book, update, count, stepBook}
-use Rattle.protocol.specs.Book.{countUncounted, countOpen, feed, feedIf}
+use Rattle.protocol.specs.Book.{countUncounted, countOpen, transition, transitionIf}
 use Rattle.protocol.specs.Demand3.{answerTo}
 use Rattle.protocol.specs.Corollaries.{CountsNext, CountsOnce}
 use Rattle.protocol.proofs.book.Changes.{update-each}
-use Rattle.protocol.proofs.records.Matching.{Numbers}
+use Rattle.protocol.proofs.records.Recorded.{Numbers}
 use Rattle.protocol.proofs.invariant.Found.{Rack}
 use Rattle.protocol.proofs.demands.Demand3.{everywhere}
 
@@ -29,7 +29,7 @@ module _ (b : Book) (numbers : (c : ℕ) → Numbers (b .release c) (b .last c))
   -- to count it keeps the others
   counted : (c : ℕ) (r : Release) (last : ℕ → Release) → Next c r → ((x : ℕ) → Next x (last x)) → (x : ℕ)
       → Next x (update last c r x)
-  counted c r last here all = update-each last c r Next here (λ x other. all x)
+  counted c r last online all = update-each last c r Next online (λ x other. all x)
 
   step-next : (c : ℕ) (R : Opened) → b .release c ≡ R → CountsNext b (stepBook b c R)
   unfolding stepBook
@@ -62,19 +62,19 @@ module _ (b : Book) (numbers : (c : ℕ) → Numbers (b .release c) (b .last c))
   turns-next zero x = inl refl
   turns-next (suc n) x = turn-next n (b .release n) refl _ (turns-next n) x
 
-  feed-next : (call : Call) → CountsNext b (feed call b)
-  unfolding feed countOpen
-  feed-next (open-release card r list) x = inl refl
-  feed-next (make-step card) x = step-next card (b .release card) refl x
-  feed-next (fetch-page page buffer) x = inl refl
-  feed-next (fail-card card) x = inl refl
-  feed-next recover x = turns-next 8 x
-  feed-next (join-card card) x = inl refl
-  feed-next (ask-desk card) x = inl refl
+  transition-next : (call : Call) → CountsNext b (transition call b)
+  unfolding transition countOpen
+  transition-next (open-release card r list) x = inl refl
+  transition-next (make-step card) x = step-next card (b .release card) refl x
+  transition-next (fetch-page page buffer) x = inl refl
+  transition-next (fail-card card) x = inl refl
+  transition-next recover x = turns-next 8 x
+  transition-next (join-card card) x = inl refl
+  transition-next (ask-desk card) x = inl refl
 
-  fed-next : (taken : Bool) (call : Call) → CountsNext b (feedIf taken call b)
-  fed-next true call = feed-next call
-  fed-next false call = λ x. inl refl
+  transition-if-next : (taken : Bool) (call : Call) → CountsNext b (transitionIf taken call b)
+  transition-if-next true call = transition-next call
+  transition-if-next false call = λ x. inl refl
 
 rack-numbers : {d : Directory} {m : List ℕ} {b : Book} → Rack d m b → (c : ℕ) → Numbers (b .release c) (b .last c)
 rack-numbers (inl rack) = rack .core .numbers
@@ -82,5 +82,6 @@ rack-numbers (inr rack) = rack .1 .core .numbers
 
 pub counts-once : CountsOnce
 counts-once =
-    everywhere (λ b d v. CountsNext b (feedIf (accepted (answerTo d v .outcome)) (v .call) b))
-    (λ d out b v rack here typed. fed-next b (rack-numbers rack) (accepted (answerTo d v .outcome)) (v .call))
+    everywhere (λ b d e. CountsNext b (transitionIf (accepted (answerTo d e .outcome)) (e .call) b))
+    (λ d offline b e rack online typed. transition-if-next b (rack-numbers rack) (accepted (answerTo d e .outcome))
+    (e .call))

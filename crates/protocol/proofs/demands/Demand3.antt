@@ -5,53 +5,55 @@ use Rattle.answer.specs.Outcome.{limits}
 use Rattle.protocol.specs.Checks.{Check, check, firstRefusal, outsideLimits}
 use Rattle.protocol.specs.Result.{accepted}
 use Rattle.protocol.specs.Formatting.{formatting}
-use Rattle.protocol.specs.Book.{Book, newBook, feedIf}
-use Rattle.protocol.specs.Demand3.{away, Visit, Typed, Tells, answerTo, Always, Everywhere, Demand3}
+use Rattle.protocol.specs.Book.{Book, newBook, transitionIf}
+use Rattle.protocol.specs.Demand3.{offlineAfter, Event, Typed, Conforms, answerTo, Always, Everywhere, Demand3}
 use Rattle.protocol.proofs.checks.Limits.{within-limits}
 use Rattle.protocol.proofs.checks.Order.{all-passed, when-accepted}
-use Rattle.protocol.proofs.invariant.Found.{Rack, NoneAway, rack-found, undisturbed-live}
+use Rattle.protocol.proofs.invariant.Found.{Rack, LiveOnline, rack-found, interference-live}
 use Rattle.protocol.proofs.invariant.Formatted.{formatted}
 use Rattle.protocol.proofs.calls.Refused.{refused-unchanged}
-use Rattle.protocol.proofs.calls.Each.{accepted-good}
+use Rattle.protocol.proofs.calls.Each.{each-accepted}
 
 -- what holds of every rack that agrees with its book holds always
-module _ (P : Book → Directory → Visit → Type 0)
-    (each : (d : Directory) (out : ℕ → Bool) (b : Book) (v : Visit) → Rack d (v .found) b → NoneAway d out
-    → Typed (v .call)
-    → P b d v) where
-  always : (d : Directory) (left : List ℕ) (out : ℕ → Bool) (b : Book) (visits : List Visit) → Rack d left b
-      → NoneAway d out
-      → Always P d left out b visits
+module _ (P : Book → Directory → Event → Type 0)
+    (each : (d : Directory) (offline : ℕ → Bool) (b : Book) (e : Event) → Rack d (e .found) b → LiveOnline d offline
+    → Typed (e .call)
+    → P b d e) where
+  always : (d : Directory) (left : List ℕ) (offline : ℕ → Bool) (b : Book) (events : List Event) → Rack d left b
+      → LiveOnline d offline
+      → Always P d left offline b events
   unfolding Always
-  always d left out b [] rack here = tt
-  always d left out b (v ∷ vs) rack here = λ typed undisturbed.
-      let found = rack-found d left (v .found) b (undisturbed-live rack here undisturbed) rack in (
-        each d out b v found here typed,
-        go typed found (accepted (answerTo d v .outcome)) refl (λ d m out b. always d m out b vs),
+  always d left offline b [] rack online = tt
+  always d left offline b (e ∷ es) rack online = λ typed interference.
+      let found = rack-found d left (e .found) b (interference-live rack online interference) rack in (
+        each d offline b e found online typed,
+        go typed found (accepted (answerTo d e .outcome)) refl (λ d m offline b. always d m offline b es),
       )
     where
-      go : Typed (v .call) → Rack d (v .found) b → (taken : Bool) → accepted (answerTo d v .outcome) ≡ taken
-          → ((d : Directory) (m : List ℕ) (out : ℕ → Bool) (b : Book) → Rack d m b → NoneAway d out
-          → Always P d m out b vs)
-          → Always P (answerTo d v .directory) (answerTo d v .memory) (cond taken (away (v .call) out) out)
-          (feedIf taken (v .call) b) vs
+      go : Typed (e .call) → Rack d (e .found) b → (taken : Bool) → accepted (answerTo d e .outcome) ≡ taken
+          → ((d : Directory) (m : List ℕ) (offline : ℕ → Bool) (b : Book) → Rack d m b → LiveOnline d offline
+          → Always P d m offline b es)
+          → Always P (answerTo d e .directory) (answerTo d e .memory)
+          (cond taken (offlineAfter (e .call) offline) offline)
+          (transitionIf taken (e .call) b) es
       go typed found true ok rest =
-          let good = accepted-good d (v .found) b out found here (v .call) typed ok in
-          rest _ _ _ _ (good .rack) (good .here)
+          let good = each-accepted d (e .found) b offline found online (e .call) typed ok in
+          rest _ _ _ _ (good .rack) (good .online)
       go typed found false refused rest =
-          let same = refused-unchanged (v .call) d (v .found) refused in
-          rw (same .directory, same .memory) (rest _ _ _ _ found here)
+          let same = refused-unchanged (e .call) d (e .found) refused in
+          rw (same .directory, same .memory) (rest _ _ _ _ found online)
 
   pub everywhere : Everywhere P
   unfolding formatting
-  everywhere m cards pages ok visits =
+  everywhere m cards pages ok events =
       let checks : List Check = check (outsideLimits (length m) cards pages) limits ∷ [] in
       let taken = when-accepted (firstRefusal checks 0) _ _ m [] refl ok in
       let passed = all-passed checks 0 refl (taken .0) in
       let start = formatted cards pages (length m) (within-limits (length m) cards pages (passed .0)) in
-      rw (taken .1) (always _ _ _ newBook visits (inl start) (λ c live. refl))
+      rw (taken .1) (always _ _ _ newBook events (inl start) (λ c live. refl))
 
 pub demand-3 : Demand3
 demand-3 =
-    everywhere (λ b d v. accepted (answerTo d v .outcome) ≡ true → Tells b (v .call) (answerTo d v))
-    (λ d out b v rack here typed ok. accepted-good d (v .found) b out rack here (v .call) typed ok .tells)
+    everywhere (λ b d e. accepted (answerTo d e .outcome) ≡ true → Conforms b (e .call) (answerTo d e))
+    (λ d offline b e rack online typed ok. each-accepted d (e .found) b offline rack online
+    (e .call) typed ok .conforms)

@@ -10,7 +10,7 @@ use Rattle.protocol.specs.Opening.{opening, openingChecks, openMemory}
 use Rattle.protocol.specs.Book.{Call, open-release, make-step, fetch-page, fail-card, recover, join-card}
 use Rattle.protocol.specs.Book.{ask-desk, Opened, none, opened, Book}
 use Rattle.protocol.specs.Demand1.{isAmong}
-use Rattle.protocol.specs.Demand3.{Visit, perform}
+use Rattle.protocol.specs.Demand3.{Event, perform}
 use Rattle.protocol.specs.Corollaries.{OpenUnder, ResendRefused, ResendsRefused}
 use Rattle.protocol.proofs.invariant.Rack.{RunningRack}
 use Rattle.protocol.proofs.checks.Passed.{Fits}
@@ -54,22 +54,22 @@ module _ (d : Directory) (m : List ℕ) (b : Book) (rack : RunningRack d m b) (f
       )))
   resent (opened r′ list′ s) is taken = rw (number-is 4 (rw (is-open d m b rack c r′ list′ s is)))
 
-resend-refused : (d : Directory) (b : Book) (v : Visit) → Rack d (v .found) b → (call : Call) → v .call ≡ call
-    → ResendRefused b d v call
+resend-refused : (d : Directory) (b : Book) (e : Event) → Rack d (e .found) b → (call : Call) → e .call ≡ call
+    → ResendRefused b d e call
 unfolding ResendRefused perform
-resend-refused d b v rack (open-release card r list) is = λ running live taken.
+resend-refused d b e rack (open-release card r list) is = λ running live taken.
     rw is
-    (resent d (v .found) b (running-rack rack running) (rack-fits d (v .found) b rack) card live r list
+    (resent d (e .found) b (running-rack rack running) (rack-fits d (e .found) b rack) card live r list
     (b .release card) refl
     taken)
-resend-refused d b v rack (make-step card) is = tt
-resend-refused d b v rack (fetch-page page buffer) is = tt
-resend-refused d b v rack (fail-card card) is = tt
-resend-refused d b v rack recover is = tt
-resend-refused d b v rack (join-card card) is = tt
-resend-refused d b v rack (ask-desk card) is = tt
+resend-refused d b e rack (make-step card) is = tt
+resend-refused d b e rack (fetch-page page buffer) is = tt
+resend-refused d b e rack (fail-card card) is = tt
+resend-refused d b e rack recover is = tt
+resend-refused d b e rack (join-card card) is = tt
+resend-refused d b e rack (ask-desk card) is = tt
 
 pub resends-refused : ResendsRefused
 resends-refused =
-    everywhere (λ b d v. ResendRefused b d v (v .call))
-    (λ d out b v rack here typed. resend-refused d b v rack (v .call) refl)
+    everywhere (λ b d e. ResendRefused b d e (e .call))
+    (λ d offline b e rack online typed. resend-refused d b e rack (e .call) refl)

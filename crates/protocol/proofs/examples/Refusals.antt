@@ -25,9 +25,11 @@ use Rattle.protocol.specs.examples.Refusals.{twoOpen, nineClosed, fourCo
 
 pub refusals-hold : AllHold refusalExamples
 unfolding sameWords failuresFrom Claims lowestFrom countBelow inTurn load store loadRun overwrite storeRun clearRun
-    copyRun zeros formattedDirectory emptyDirectory tableFrom nextLive wordStep readFrom checkDiff pricesFrom pricesOf names
+    copyRun zeros formattedDirectory emptyDirectory tableFrom nextLive wordStep readFrom checkDiff pricesFrom pricesOf
+    names
     ownRelease openRelease openList stepsOf isOpen releaseWrites makeWrite close stepMemory recordedRelease
-    firstRefusal outsideLimits fewLive badHome badPage badStatus badRelease badCard unfitRack awaitsRecovery formatting shareWord
+    firstRefusal outsideLimits fewLive badHome badPage badStatus badRelease badCard unfitRack awaitsRecovery
+    formatting shareWord
     sharesWith openMemory opening step namesPage inMotion committedPage fetch failure recovery join deskQuestion
     smallMemory twoOpen nineClosed fourCopies
 refusals-hold = all-hold refusalExamples refl tt

@@ -24,5 +24,6 @@ unfolding sameWords failuresFrom Claims lowestFrom countBelow load store loadRun
     formattedDirectory tableFrom nextLive wordStep readFrom checkDiff pricesFrom pricesOf names ownRelease openRelease
     openList stepsOf isOpen releaseWrites makeWrite close stepMemory recordedRelease underWay settledRecord
     firstRefusal outsideLimits fewLive badHome badPage badStatus badRelease badCard unfitRack awaitsRecovery shareWord
-    sharesWith openMemory opening step smallMemory beforeOpening opened steppedOnce steppedTwice askedInMotion deskOf deskQuestion
+    sharesWith openMemory opening step smallMemory beforeOpening opened steppedOnce steppedTwice askedInMotion deskOf
+    deskQuestion
 releases-hold = all-hold releaseExamples refl tt

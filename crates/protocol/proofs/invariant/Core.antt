@@ -3,37 +3,40 @@
 -- tentative and the committed words are made. `old` is what the records of dead cards say.
 use Rattle.laws.proofs.Prelude.{ℕ, suc, _+_, _*_, _≤_, _<_, _≡_, refl, sym, ap, _∙_, _≢_, List, true, false, true≢false}
 use Rattle.laws.proofs.Prelude.{arith, ℕ-discrete, length}
-use Rattle.memory.specs.Layout.{areaSize, releaseOpen}
+use Rattle.memory.specs.Layout.{areaSize, openFlag}
 use Rattle.memory.specs.Area.{AreaIn, load}
 use Rattle.directory.specs.declared.Directory.{Directory}
 use Rattle.directory.specs.Directory.{isLive}
 use Rattle.diff.specs.declared.Verdict.the-variants.{Good}
 use Rattle.diff.specs.Reading.{readDiff}
-use Rattle.diff.specs.Prices.{laidAt}
+use Rattle.diff.specs.Prices.{appliedAt}
 use Rattle.protocol.specs.Release.{Release, sizeOf, ownRelease, openList, stepMemory, countsAt, stepsIn}
 use Rattle.protocol.specs.Book.{Opened, none, opened, listPrices, Book, update}
-use Rattle.protocol.proofs.release.Shape.{Shape, SameOwn, SameRelease, shape-kept, own-kept, open-kept, list-kept}
+use Rattle.protocol.proofs.release.Shape.{Shape, SameOwn, SameRelease, shape-kept, own-kept, open-kept}
+use Rattle.protocol.proofs.release.Shape.{list-kept}
 use Rattle.protocol.proofs.release.Shape.{area-of-live, steps-kept, same-own-release}
 use Rattle.protocol.proofs.release.WordAfter.{written}
-use Rattle.protocol.proofs.release.Step.{StandsIn, stepWrite, load-step, steps-step, step-keeps, step-keeps-other}
+use Rattle.protocol.proofs.release.Step.{StandsIn, stepWrite, load-step, steps-step, step-keeps}
+use Rattle.protocol.proofs.release.Step.{step-keeps-other}
 use Rattle.protocol.proofs.release.Step.{step-keeps-record}
 use Rattle.protocol.proofs.book.Changes.{pricesIn, EightWords, update-each}
-use Rattle.protocol.proofs.claims.Claim.{Apart, Claim}
+use Rattle.protocol.proofs.claims.Claim.{Disjoint, Claim}
 use Rattle.protocol.proofs.claims.Halves.{tentatives, committeds}
 use Rattle.protocol.proofs.claims.Step.{PricesAfter, step-tentatives, step-committeds}
-use Rattle.protocol.proofs.records.Matching.{Numbers, Own, Held, held-kept, LastAfter, step-numbers, step-held}
+use Rattle.protocol.proofs.records.Recorded.{Numbers, Own, Recorded, recorded-kept, LastAfter, step-numbers}
+use Rattle.protocol.proofs.records.Recorded.{step-recorded}
 
 -- ---- what memory has of a card's release
 
 -- a release that stands open in memory as the book has it
 pub record OpenStands (pages : ℕ) (m : List ℕ) (c : ℕ) (r : Release) (list : List ℕ) (s : ℕ) : Type 0 where
-  pub word-9 : load (areaSize pages) m c releaseOpen ≡ 1
+  pub word-9 : load (areaSize pages) m c openFlag ≡ 1
   pub stands : StandsIn pages m c r (listPrices list) s
   pub words : ℕ
   pub reads : readDiff pages (openList (areaSize pages) m c) ≡ Good (length (listPrices list)) words
 
 abbrev pub Standing : ℕ → List ℕ → ℕ → Opened → Type 0
-Standing pages m c none = load (areaSize pages) m c releaseOpen ≡ 0
+Standing pages m c none = load (areaSize pages) m c openFlag ≡ 0
 Standing pages m c (opened r list s) = OpenStands pages m c r list s
 
 -- the steps that a release may have made
@@ -49,14 +52,14 @@ pub record Core (d : Directory) (backup : ℕ → ℕ) (old : ℕ → ℕ → �
     pub under : (c : ℕ) → Under (b .release c)
     pub eights : (c : ℕ) → EightWords (b .release c)
     pub last-eight : (c : ℕ) → length (b .last c .desk) ≡ 8
-    pub apart : Apart (b .release)
+    pub apart : Disjoint (b .release)
     pub numbers : (c : ℕ) → Numbers (b .release c) (b .last c)
     pub owns : (c : ℕ) → isLive d c ≡ true → Own (b .release c) (ownRelease (sizeOf d) m c) (b .last c)
     pub tentative : T → Claim d (tentatives d backup) (b .release) (b .price) m
     pub committed : C → Claim d (committeds d backup) (b .release) (b .price) m
     -- the record of each live card on its backup, and those of dead cards on every live card
-    pub held : (c : ℕ) → isLive d c ≡ true → isLive d (backup c) ≡ true
-        → Held c (b .release c) (b .last c) (load (sizeOf d) m (backup c))
+    pub recorded : (c : ℕ) → isLive d c ≡ true → isLive d (backup c) ≡ true
+        → Recorded c (b .release c) (b .last c) (load (sizeOf d) m (backup c))
     pub dead : (g h o : ℕ) → isLive d g ≡ false → g < d .cards → isLive d h ≡ true → 20 + 18 * g ≤ o → o < 38 + 18 * g
         → load (sizeOf d) m h o ≡ old h o
 
@@ -66,11 +69,11 @@ pub record Core (d : Directory) (backup : ℕ → ℕ) (old : ℕ → ℕ → �
 pub standing-kept : (pages : ℕ) (m m′ : List ℕ) (c : ℕ) (R : Opened) → SameOwn (areaSize pages) m m′ c
     → Standing pages m c R
     → Standing pages m′ c R
-standing-kept pages m m′ c none same standing = same .low releaseOpen (omega arith) ∙ standing
+standing-kept pages m m′ c none same standing = same .low openFlag (omega arith) ∙ standing
 standing-kept pages m m′ c (opened r list s) same standing =
     let kept = same-own-release (areaSize pages) m m′ c same in
     record {
-      word-9 = same .low releaseOpen (omega arith) ∙ standing .word-9;
+      word-9 = same .low openFlag (omega arith) ∙ standing .word-9;
       stands = record {
         release = open-kept (areaSize pages) m m′ c kept ∙ standing .stands .release;
         prices = rw (list-kept (areaSize pages) m m′ c kept) (standing .stands .prices);
@@ -102,7 +105,7 @@ module _ (d : Directory) (backup : ℕ → ℕ) (old : ℕ → ℕ → ℕ) (T C
 
   module _ (before : s < 4 * length (listPrices list) + 10) (price : ℕ → ℕ) (last : ℕ → Release)
       (prices : PricesAfter (length (listPrices list)) s (b .price) price
-      (λ label. laidAt (listPrices list) label (b .price label)))
+      (λ label. appliedAt (listPrices list) label (b .price label)))
       (lasts : LastAfter (length (listPrices list)) s r (b .last c) (last c))
       (others : (x : ℕ) → x ≢ c → last x ≡ b .last x) where
     abbrev m′ : List ℕ
@@ -131,7 +134,7 @@ module _ (d : Directory) (backup : ℕ → ℕ) (old : ℕ → ℕ → ℕ) (T C
     own-stands : Standing (d .pages) m′ c R′
     own-stands =
         record {
-          word-9 = kept .low releaseOpen (omega arith) (omega arith) ∙ standing .word-9;
+          word-9 = kept .low openFlag (omega arith) (omega arith) ∙ standing .word-9;
           stands = record {
             release = open-kept (sizeOf d) m m′ c kept ∙ standing .stands .release;
             prices = rw (list-kept (sizeOf d) m m′ c kept) (standing .stands .prices);
@@ -186,18 +189,18 @@ module _ (d : Directory) (backup : ℕ → ℕ) (old : ℕ → ℕ → ℕ) (T C
               step-committeds d backup (b .release) (b .price) price m m′ c few r list s is eight before prices
               (λ h p w word. wrote h _ (word .live) (omega (arith, word .page, word .word)) (omega arith))
               (core .committed t);
-          held = update-each (b .release) c R′
+          recorded = update-each (b .release) c R′
               (λ x R. isLive d x ≡ true → isLive d (backup x) ≡ true
-              → Held x R (last x) (load (sizeOf d) m′ (backup x)))
-              (λ _ up. step-held r list s (b .last c) (last c) lasts (rw is at (core .numbers c)) d (backup c) c few
+              → Recorded x R (last x) (load (sizeOf d) m′ (backup x)))
+              (λ _ up. step-recorded r list s (b .last c) (last c) lasts (rw is at (core .numbers c)) d (backup c) c few
               eight before
               (load (sizeOf d) m (backup c)) (load (sizeOf d) m′ (backup c))
               (λ o above below. wrote (backup c) o up (omega (arith, few)) (omega arith))
-              (rw is at (core .held c live up)))
+              (rw is at (core .recorded c live up)))
               (λ x other lives up. rw (others x other)
-              (held-kept x (b .release x) (b .last x) (load (sizeOf d) m (backup x)) (load (sizeOf d) m′ (backup x))
+              (recorded-kept x (b .release x) (b .last x) (load (sizeOf d) m (backup x)) (load (sizeOf d) m′ (backup x))
               (λ o above below. kept-record x (backup x) o (small x lives) other above below)
-              (core .held x lives up)));
+              (core .recorded x lives up)));
           dead = λ g h o gone few′ up above below.
               kept-record g h o (omega (arith, core .shape .few-cards))
               (λ e. true≢false (sym live ∙ ap (isLive d) (sym e) ∙ gone)) above below

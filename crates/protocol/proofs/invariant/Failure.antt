@@ -13,14 +13,14 @@ use Rattle.protocol.specs.Release.{sizeOf, countsAt}
 use Rattle.protocol.specs.Failure.{failedDirectory}
 use Rattle.protocol.specs.Recovery.{backupBefore}
 use Rattle.protocol.specs.Book.{Opened, none, opened, listPrices, Book, update, failBook}
-use Rattle.protocol.proofs.release.WordAfter.{over-none}
+use Rattle.protocol.proofs.release.WordAfter.{word-after-none}
 use Rattle.protocol.proofs.book.Changes.{EightWords, uncounted-late, update-other, update-each}
-use Rattle.protocol.proofs.claims.Claim.{HomeWord, Claim, claim-struck, claim-kept}
+use Rattle.protocol.proofs.claims.Claim.{HomeWord, Claim, claim-cleared, claim-kept}
 use Rattle.protocol.proofs.claims.Halves.{tentatives, committeds, pendingCommitted, committed-none}
-use Rattle.protocol.proofs.claims.Halves.{tentative-late, committed-early, committed-late, pending-over}
-use Rattle.protocol.proofs.records.Matching.{Numbers, Held}
+use Rattle.protocol.proofs.claims.Halves.{tentative-late, committed-early, committed-late, pending-done}
+use Rattle.protocol.proofs.records.Recorded.{Numbers, Recorded}
 use Rattle.protocol.proofs.invariant.Core.{Core, Under}
-use Rattle.protocol.proofs.invariant.Step.{apart-struck}
+use Rattle.protocol.proofs.invariant.Step.{disjoint-cleared}
 use Rattle.protocol.proofs.invariant.Rack.{TwoLive, RunningRack, AwaitingRack, unmarked, next-is-live}
 use Rattle.protocol.proofs.invariant.Rack.{next-is-other}
 use Rattle.protocol.proofs.claims.SameHomes.{pending-same, committed-same}
@@ -37,8 +37,8 @@ module _ (d : Directory) (f : ℕ) (m : List ℕ) (b : Book) (rack : RunningRack
   up : isLive d (backupOf d f) ≡ true
   up = next-is-live d (rack .two) (core .shape .below) f
 
-  held : Held f (b .release f) (b .last f) (load (sizeOf d) m (backupOf d f))
-  held = core .held f live up
+  recorded : Recorded f (b .release f) (b .last f) (load (sizeOf d) m (backupOf d f))
+  recorded = core .recorded f live up
 
   abbrev stamp : ℕ
   stamp = load (sizeOf d) m (backupOf d f) (recordStamp f)
@@ -47,31 +47,31 @@ module _ (d : Directory) (f : ℕ) (m : List ℕ) (b : Book) (rack : RunningRack
   done = load (sizeOf d) m (backupOf d f) (recordDone f)
 
   -- the second phase was under way: the tentative words are written, and the release counts
-  struck-tentative : stamp ≢ done → Claim d (tentatives d (backupOf d)) (b .release) (b .price) m
+  cleared-tentative : stamp ≢ done → Claim d (tentatives d (backupOf d)) (b .release) (b .price) m
       → Claim d (tentatives d (backupOf d)) (update (b .release) f none) (b .price) m
-  struck-tentative differ claim = go (b .release f) refl
+  cleared-tentative differ claim = go (b .release f) refl
     where
       go : (R : Opened) → b .release f ≡ R
           → Claim d (tentatives d (backupOf d)) (update (b .release) f none) (b .price) m
-      go none is = absurd (differ (held .stamped ∙ sym (rw is at (held .done))))
+      go none is = absurd (differ (recorded .stamped ∙ sym (rw is at (recorded .done))))
       go (opened r list s) is =
-          let marks = rw is at (held .done) in
+          let marks = rw is at (recorded .done) in
           let counted : countsAt (length (listPrices list)) ≤ s =
           elim (decLt s (countsAt (length (listPrices list)))) [
-            | yes early ↦ absurd (differ (held .stamped ∙ sym (marks .0 early)))
+            | yes early ↦ absurd (differ (recorded .stamped ∙ sym (marks .0 early)))
             | no late ↦ omega arith
           ] in
-          claim-struck d (tentatives d (backupOf d)) (b .release) (b .price) m f few (core .eights) (core .apart)
+          claim-cleared d (tentatives d (backupOf d)) (b .release) (b .price) m f few (core .eights) (core .apart)
           (λ h p w v within. rw is
           (tentative-late d (backupOf d) f r list s (rw is at (core .eights f)) few (omega arith) h p w v within))
           (rw is (uncounted-late r list s counted)) claim
 
   -- it was not: no committed word is to be written, or all are
-  struck-committed : stamp ≡ done → Claim d (committeds d (backupOf d)) (b .release) (b .price) m
+  cleared-committed : stamp ≡ done → Claim d (committeds d (backupOf d)) (b .release) (b .price) m
       → Claim d (committeds d (backupOf d)) (update (b .release) f none) (b .price) m
-  struck-committed agree claim =
-      claim-struck d (committeds d (backupOf d)) (b .release) (b .price) m f few (core .eights) (core .apart)
-      (λ h p w v within. rw (nothing (b .release f) refl) (over-none h _ v)) refl claim
+  cleared-committed agree claim =
+      claim-cleared d (committeds d (backupOf d)) (b .release) (b .price) m f few (core .eights) (core .apart)
+      (λ h p w v within. rw (nothing (b .release f) refl) (word-after-none h _ v)) refl claim
     where
       nothing : (R : Opened) → b .release f ≡ R → pendingCommitted d (backupOf d) f (b .release f) ≡ []
       nothing none is = rw is (committed-none d (backupOf d) f)
@@ -85,13 +85,14 @@ module _ (d : Directory) (f : ℕ) (m : List ℕ) (b : Book) (rack : RunningRack
           by-steps (yes early) = committed-early d (backupOf d) f r list s eight early
           by-steps (no late) =
               committed-late d (backupOf d) f r list s eight (omega arith)
-              ∙ pending-over d (backupOf d) f r list s eight (over-all (decLt s (4 * length (listPrices list) + 10)))
+              ∙ pending-done d (backupOf d) f r list s eight
+              (word-after-all (decLt s (4 * length (listPrices list) + 10)))
             where
-              over-all : Dec (s < 4 * length (listPrices list) + 10) → 4 * length (listPrices list) + 10 ≤ s
-              over-all (yes before) =
-                  let behind = (rw is at (held .done)) .1 (omega arith) before in
-                  absurd (omega (arith, held .stamped))
-              over-all (no past) = omega arith
+              word-after-all : Dec (s < 4 * length (listPrices list) + 10) → 4 * length (listPrices list) + 10 ≤ s
+              word-after-all (yes before) =
+                  let behind = (rw is at (recorded .done)) .1 (omega arith) before in
+                  absurd (omega (arith, recorded .stamped))
+              word-after-all (no past) = omega arith
 
   -- ---- the rack that awaits
 
@@ -142,7 +143,7 @@ module _ (d : Directory) (f : ℕ) (m : List ℕ) (b : Book) (rack : RunningRack
         under = update-each (b .release) f none (λ c R. Under R) tt (λ c other. core .under c);
         eights = update-each (b .release) f none (λ c R. EightWords R) tt (λ c other. core .eights c);
         last-eight = core .last-eight;
-        apart = apart-struck (b .release) f (core .apart);
+        apart = disjoint-cleared (b .release) f (core .apart);
         numbers = update-each (b .release) f none (λ c R. Numbers R (b .last c)) tt (λ c other. core .numbers c);
         owns = λ c still.
             let was = live-before c still in
@@ -153,18 +154,18 @@ module _ (d : Directory) (f : ℕ) (m : List ℕ) (b : Book) (rack : RunningRack
             (λ c h p w word. home-word h p w word)
             (λ c h p w v word agrees. rw (pending-same d d′ refl refl (backupOf d) c (update (b .release) f none c))
             agrees)
-            (λ h p w word. refl) (struck-tentative differ (core .tentative tt));
+            (λ h p w word. refl) (cleared-tentative differ (core .tentative tt));
         committed = λ agree.
             claim-kept d d′ (committeds d (backupOf d)) (committeds d′ (backupOf d)) (update (b .release) f none)
             (b .price) m m
             (λ c h p w word. home-word h p w word)
             (λ c h p w v word agrees. rw (committed-same d d′ refl refl (backupOf d) c (update (b .release) f none c))
             agrees)
-            (λ h p w word. refl) (struck-committed agree (core .committed tt));
-        held = λ c still kept.
+            (λ h p w word. refl) (cleared-committed agree (core .committed tt));
+        recorded = λ c still kept.
             let was = live-before c still in
             rw (update-other (b .release) f none c (was .1))
-            (core .held c (was .0) (live-before (backupOf d c) kept .0));
+            (core .recorded c (was .0) (live-before (backupOf d c) kept .0));
         dead = λ g h o gone little still above below. refl;
       }
 
@@ -187,8 +188,8 @@ module _ (d : Directory) (f : ℕ) (m : List ℕ) (b : Book) (rack : RunningRack
             (sym (fun-ext before)) core-before);
         records = λ g h gone other little still.
             rack .records g h (dead-before g other gone) little (live-before h still .0);
-        stamped = rw same-place (held .stamped);
-        desked = λ j within. rw same-place (held .desked j within);
+        stamped = rw same-place (recorded .stamped);
+        desked = λ j within. rw same-place (recorded .desked j within);
         two = two;
         primary-live = λ p page. home (primaryOf d p) (rack .primary-live p page);
         secondary-live = λ p page. home (secondaryOf d p) (rack .secondary-live p page);

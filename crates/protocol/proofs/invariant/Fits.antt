@@ -4,7 +4,7 @@ use Rattle.laws.proofs.Prelude.{true, false, cond, not, _&&_, _||_, true≢fals
 use Rattle.laws.proofs.Prelude.{ne-eqb, le-ltb, lt-leb, length, ltb, eqb}
 use Rattle.laws.specs.Search.{lowest, someBelow, countBelow}
 use Rattle.laws.proofs.Search.{lowest-stops}
-use Rattle.memory.specs.Layout.{areaSize, releaseOpen}
+use Rattle.memory.specs.Layout.{areaSize, openFlag}
 use Rattle.memory.specs.Area.{load}
 use Rattle.directory.specs.declared.Directory.{Directory}
 use Rattle.directory.specs.declared.Status.{Status}
@@ -85,8 +85,8 @@ good-card marks pages m c R standing under = go (liveAt marks c) refl R standing
   where
     go : (up : Bool) → liveAt marks c ≡ up → (R : Opened) → (liveAt marks c ≡ true → Standing pages m c R) → Under R
         → up
-        && (ltb 1 (load (areaSize pages) m c releaseOpen)
-        || (eqb (load (areaSize pages) m c releaseOpen) 1
+        && (ltb 1 (load (areaSize pages) m c openFlag)
+        || (eqb (load (areaSize pages) m c openFlag) 1
         && badRelease (readDiff pages (openList (areaSize pages) m c)) (stepsOf (areaSize pages) m c)))
         ≡ false
     go false dead R standing under = refl

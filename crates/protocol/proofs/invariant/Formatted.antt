@@ -15,10 +15,10 @@ use Rattle.protocol.specs.Release.{sizeOf, ownRelease}
 use Rattle.protocol.specs.Book.{none, newBook}
 use Rattle.protocol.proofs.checks.Limits.{Within}
 use Rattle.protocol.proofs.release.Shape.{Shape, area-of-live}
-use Rattle.protocol.proofs.recovery.Copying.{Right}
+use Rattle.protocol.proofs.recovery.Copying.{BothHalves}
 use Rattle.protocol.proofs.claims.Claim.{claim-idle}
 use Rattle.protocol.proofs.claims.Halves.{tentatives, committeds}
-use Rattle.protocol.proofs.records.Matching.{Held}
+use Rattle.protocol.proofs.records.Recorded.{Recorded}
 use Rattle.protocol.proofs.invariant.Core.{Core}
 use Rattle.protocol.proofs.invariant.Rack.{RunningRack}
 
@@ -82,7 +82,7 @@ module _ (cards pages words : ℕ) (limits : Within words cards pages) where
         below = below-live;
       }
 
-  right : (h p : ℕ) → Right (sizeOf d) (newBook .price) (zeros words) h p
+  right : (h p : ℕ) → BothHalves (sizeOf d) (newBook .price) (zeros words) h p
   right h p = record { tentatives = λ w _. load-zeros _ words h _; committeds = λ w _. load-zeros _ words h _ }
 
   own : (c : ℕ) → isLive d c ≡ true → ownRelease (sizeOf d) (zeros words) c ≡ newBook .last c
@@ -110,11 +110,11 @@ module _ (cards pages words : ℕ) (limits : Within words cards pages) where
             (λ c. refl) (λ h p w word. right h p .tentatives w (word .word));
         committed = λ _. claim-idle d (committeds d (backupOf d)) (newBook .release) (newBook .price) (zeros words)
             (λ c. refl) (λ h p w word. right h p .committeds w (word .word));
-        held = λ c live up. settled c (backupOf d c);
+        recorded = λ c live up. settled c (backupOf d c);
         dead = λ g h o gone less live above below. refl;
       }
     where
-      settled : (c h : ℕ) → Held c none (newBook .last c) (load (sizeOf d) (zeros words) h)
+      settled : (c h : ℕ) → Recorded c none (newBook .last c) (load (sizeOf d) (zeros words) h)
       settled c h =
           record {
             stamped = load-zeros _ words h _;

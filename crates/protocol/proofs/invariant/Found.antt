@@ -1,5 +1,5 @@
 -- The invariant between two calls: what a call finds is as good as what the last call left, whatever the areas of
--- cards that are away hold.
+-- cards that are offline hold.
 use Rattle.laws.proofs.Prelude.{ℕ, _+_, _*_, _≤_, _<_, _≡_, refl, _∙_, _⊎_, inl, inr, List, Bool, true, false, arith}
 use Rattle.memory.specs.Area.{load}
 use Rattle.memory.specs.Layout.{recordStamp, recordDone, recordDesk}
@@ -8,8 +8,8 @@ use Rattle.directory.specs.Directory.{isLive, nextLiveOf, backupOf}
 use Rattle.protocol.specs.Release.{sizeOf}
 use Rattle.protocol.specs.Recovery.{backupBefore}
 use Rattle.protocol.specs.Book.{none, Book}
-use Rattle.protocol.specs.Demand3.{Undisturbed}
-use Rattle.protocol.proofs.records.Matching.{Held, held-kept}
+use Rattle.protocol.specs.Demand3.{Interference}
+use Rattle.protocol.proofs.records.Recorded.{Recorded, recorded-kept}
 use Rattle.protocol.proofs.invariant.Core.{Core}
 use Rattle.protocol.proofs.invariant.Kept.{SameLive, core-found}
 use Rattle.protocol.proofs.invariant.Rack.{RunningRack, AwaitingRack, stampOf, doneOf, next-is-live}
@@ -18,9 +18,9 @@ use Rattle.protocol.proofs.invariant.Rack.{RunningRack, AwaitingRack, s
 abbrev pub Rack : Directory → List ℕ → Book → Type 0
 Rack d m b = RunningRack d m b ⊎ ((f : ℕ) × AwaitingRack d f m b)
 
--- no card that is live is away
-abbrev pub NoneAway : Directory → (ℕ → Bool) → Type 0
-NoneAway d out = (c : ℕ) → isLive d c ≡ true → out c ≡ false
+-- no card that is live is offline
+abbrev pub LiveOnline : Directory → (ℕ → Bool) → Type 0
+LiveOnline d offline = (c : ℕ) → isLive d c ≡ true → offline c ≡ false
 
 -- the records of dead cards, as memory has them
 pub core-now : {d : Directory} {backup : ℕ → ℕ} {old : ℕ → ℕ → ℕ} {T C : Type 0} {m : List ℕ} {b : Book}
@@ -38,15 +38,15 @@ core-now core =
       owns = core .owns;
       tentative = core .tentative;
       committed = core .committed;
-      held = core .held;
+      recorded = core .recorded;
       dead = λ g h o gone less live above below. refl;
     }
 
 module _ (d : Directory) (left found : List ℕ) (b : Book) (agree : SameLive d left found) where
   record-found : d .cards ≤ 8 → (g h : ℕ) → g < d .cards → isLive d h ≡ true
-      → Held g none (b .last g) (load (sizeOf d) left h) → Held g none (b .last g) (load (sizeOf d) found h)
-  record-found few g h real live held =
-      held-kept g none _ _ _ (λ o above below. agree .same h o live (omega arith)) held
+      → Recorded g none (b .last g) (load (sizeOf d) left h) → Recorded g none (b .last g) (load (sizeOf d) found h)
+  record-found few g h real live recorded =
+      recorded-kept g none _ _ _ (λ o above below. agree .same h o live (omega arith)) recorded
 
   running-found : RunningRack d left b → RunningRack d found b
   running-found rack =
@@ -104,11 +104,11 @@ pub rack-below : {d : Directory} {m : List ℕ} {b : Book} → Rack d m b → (c
 rack-below (inl rack) = rack .core .shape .below
 rack-below (inr rack) = rack .1 .core .shape .below
 
-pub undisturbed-live : {d : Directory} {out : ℕ → Bool} {left found : List ℕ} {b : Book} → Rack d left b
-    → NoneAway d out
-    → Undisturbed d out left found → SameLive d left found
-undisturbed-live rack here undisturbed =
+pub interference-live : {d : Directory} {offline : ℕ → Bool} {left found : List ℕ} {b : Book} → Rack d left b
+    → LiveOnline d offline
+    → Interference d offline left found → SameLive d left found
+interference-live rack online interference =
     record {
-      same-length = undisturbed .same-length;
-      same = λ h o live within. undisturbed .same-words h o (rack-below rack h live) within (here h live);
+      same-length = interference .same-length;
+      same = λ h o live within. interference .same-words h o (rack-below rack h live) within (online h live);
     }

@@ -6,15 +6,15 @@ use Rattle.memory.specs.Area.{load}
 use Rattle.directory.specs.declared.Directory.{Directory}
 use Rattle.directory.specs.Directory.{isLive}
 use Rattle.diff.specs.Prices.{names}
-use Rattle.diff.proofs.Prices.{names-none, laid-none}
+use Rattle.diff.proofs.Prices.{names-none, applied-none}
 use Rattle.protocol.specs.Release.{Release, sizeOf, countsAt}
 use Rattle.protocol.specs.Book.{Opened, none, opened, listPrices, Book}
 use Rattle.protocol.proofs.release.Shape.{SameOwn, shape-kept, own-kept, same-own-release}
-use Rattle.protocol.proofs.release.WordAfter.{over, over-none}
+use Rattle.protocol.proofs.release.WordAfter.{wordAfter, word-after-none}
 use Rattle.protocol.proofs.book.Changes.{pricesIn}
-use Rattle.protocol.proofs.claims.Claim.{Alone, HomeWord, claim-kept}
+use Rattle.protocol.proofs.claims.Claim.{Unshared, HomeWord, claim-kept}
 use Rattle.protocol.proofs.claims.Halves.{tentatives, committeds, committed-early, committed-unnamed}
-use Rattle.protocol.proofs.records.Matching.{held-kept}
+use Rattle.protocol.proofs.records.Recorded.{recorded-kept}
 use Rattle.protocol.proofs.invariant.Core.{Core, standing-kept}
 
 -- ---- two memories that agree in the areas of live cards
@@ -59,8 +59,8 @@ module _ (d : Directory) (backup : ℕ → ℕ) (old : ℕ → ℕ → ℕ) (T C
             (λ c h p w word. word)
             (λ c h p w v word agrees. agrees) (λ h p w word. page-word h p w word _ (omega arith))
             (core .committed (second t));
-        held = λ c live up. held-kept c (b .release c) (b .last c) _ _
-            (λ o above below. record-word c o live up above below) (core .held c live up);
+        recorded = λ c live up. recorded-kept c (b .release c) (b .last c) _ _
+            (λ o above below. record-word c o live up above below) (core .recorded c live up);
         dead = λ g h o gone little up above below.
             agree .same h o up (omega (arith, core .shape .few-cards)) ∙ core .dead g h o gone little up above below;
       }
@@ -97,24 +97,24 @@ namer release label (suc n) = go (names (pricesIn (release n)) label) refl (name
         ])
 
 -- releases that count leave the page alone
-abbrev pub Quiet : Book → ℕ → Type 0
-Quiet b p = (c : ℕ) (r : Release) (list : List ℕ) (s w : ℕ) → b .release c ≡ opened r list s → w < 32
+abbrev pub NotInMotion : Book → ℕ → Type 0
+NotInMotion b p = (c : ℕ) (r : Release) (list : List ℕ) (s w : ℕ) → b .release c ≡ opened r list s → w < 32
     → names (listPrices list) (32 * p + w) ≡ true → s < countsAt (length (listPrices list))
 
 module _ (d : Directory) (backup : ℕ → ℕ) (old : ℕ → ℕ → ℕ) (T C : Type 0) (m : List ℕ) (b : Book)
     (core : Core d backup old T C m b) (claims : C) (none-past : (c : ℕ) → 8 ≤ c → b .release c ≡ none) where
   -- the committed word at a live home is the book's
-  pub shown-price : (h p w : ℕ) → HomeWord d h p w → Quiet b p
+  pub shown-price : (h p w : ℕ) → HomeWord d h p w → NotInMotion b p
       → load (sizeOf d) m h (pageStart p + (committedHalf + w)) ≡ b .price (32 * p + w)
-  shown-price h p w word quiet = go (namer (b .release) (32 * p + w) 8)
+  shown-price h p w word not-in-motion = go (namer (b .release) (32 * p + w) 8)
     where
-      settle : (c : ℕ) → c < 8 → Alone (b .release) c (32 * p + w)
-          → over (committeds d backup .todo c (b .release c)) h (pageStart p + (committedHalf + w))
+      settle : (c : ℕ) → c < 8 → Unshared (b .release) c (32 * p + w)
+          → wordAfter (committeds d backup .todo c (b .release c)) h (pageStart p + (committedHalf + w))
           (load (sizeOf d) m h (pageStart p + (committedHalf + w)))
           ≡ load (sizeOf d) m h (pageStart p + (committedHalf + w))
           → load (sizeOf d) m h (pageStart p + (committedHalf + w)) ≡ b .price (32 * p + w)
       settle c few alone idle = sym idle ∙ core .committed claims .agrees c h p w few word alone
-          ∙ laid-none (32 * p + w) _
+          ∙ applied-none (32 * p + w) _
 
       by-namer : (c : ℕ) → c < 8 → names (pricesIn (b .release c)) (32 * p + w) ≡ true → (R : Opened)
           → b .release c ≡ R
@@ -125,8 +125,8 @@ module _ (d : Directory) (backup : ℕ → ℕ) (old : ℕ → ℕ → ℕ) (T C
           (rw (
             is,
             committed-early d backup c r list s (rw is at (core .eights c))
-                (quiet c r list s w is (word .word) (rw is at named)),
-          ) (over-none h _ _))
+                (not-in-motion c r list s w is (word .word) (rw is at named)),
+          ) (word-after-none h _ _))
 
       go : ((c : ℕ) × (c < 8) × (names (pricesIn (b .release c)) (32 * p + w) ≡ true))
           ⊎ ((c : ℕ) → c < 8 → names (pricesIn (b .release c)) (32 * p + w) ≡ false)

@@ -5,21 +5,21 @@ use Rattle.memory.specs.Layout.{pageStart, tentativeHalf, committedHalf}
 use Rattle.memory.specs.Area.{AreaIn, load}
 use Rattle.directory.specs.declared.Directory.{Directory}
 use Rattle.directory.specs.Directory.{isLive}
-use Rattle.diff.specs.Prices.{names, laidAt}
+use Rattle.diff.specs.Prices.{names, appliedAt}
 use Rattle.diff.specs.OnlyDiff.{Allowed}
-use Rattle.diff.proofs.Prices.{names-none, laid-none}
+use Rattle.diff.proofs.Prices.{names-none, applied-none}
 use Rattle.protocol.specs.Release.{Release, sizeOf, ownRelease, stepsOf}
 use Rattle.protocol.specs.Opening.{openMemory}
 use Rattle.protocol.specs.Book.{Opened, none, opened, listPrices, Book, update, setOpen}
 use Rattle.protocol.proofs.release.Shape.{SameOwn, shape-kept, area-of-live, own-kept, own-words-kept}
 use Rattle.protocol.proofs.release.Shape.{same-own-release}
-use Rattle.protocol.proofs.release.WordAfter.{over-none}
+use Rattle.protocol.proofs.release.WordAfter.{word-after-none}
 use Rattle.protocol.proofs.book.Changes.{pricesIn, EightWords, uncounted-early, uncounted-none, update-same}
 use Rattle.protocol.proofs.book.Changes.{update-other, update-each}
-use Rattle.protocol.proofs.claims.Claim.{Apart, HomeWord, Claim, claim-moves}
+use Rattle.protocol.proofs.claims.Claim.{Disjoint, HomeWord, Claim, claim-moves}
 use Rattle.protocol.proofs.claims.Halves.{tentatives, committeds, pending-none, committed-none, committed-early}
 use Rattle.protocol.proofs.claims.Halves.{tentative-first}
-use Rattle.protocol.proofs.records.Matching.{Numbers, Own, Held, held-kept}
+use Rattle.protocol.proofs.records.Recorded.{Numbers, Own, Recorded, recorded-kept}
 use Rattle.protocol.proofs.invariant.Core.{Core, Standing, Under, standing-kept}
 use Rattle.protocol.proofs.release.Opening.{stored-prices, stored-reads, length-open, load-open, opened-release}
 use Rattle.protocol.proofs.release.Opening.{opened-list, open-word}
@@ -85,19 +85,20 @@ module _ (d : Directory) (backup : ℕ → ℕ) (old : ℕ → ℕ → ℕ) (T C
         reads = rw (stored .1) (stored-reads (d .pages) list (stored .0) pages few allowed);
       }
 
-  apart-opened : Apart (update (b .release) c R′)
-  apart-opened x y label other named =
+  disjoint-opened : Disjoint (update (b .release) c R′)
+  disjoint-opened x y label other named =
       elim (ℕ-discrete x c) [
         | yes same ↦
-            let away : y ≢ c = λ e. other (e ∙ sym same) in
-            rw (update-other (b .release) c R′ y away)
-            (free y label away (rw (same, update-same (b .release) c R′) at named))
+            let elsewhere : y ≢ c = λ e. other (e ∙ sym same) in
+            rw (update-other (b .release) c R′ y elsewhere)
+            (free y label elsewhere (rw (same, update-same (b .release) c R′) at named))
         | no far ↦
             let named-before : names (pricesIn (b .release x)) label ≡ true = rw (update-other (b .release) c R′ x far)
             at named in
             elim (ℕ-discrete y c) [
               | yes here ↦ rw (here, update-same (b .release) c R′) (unnamed x label far named-before)
-              | no away ↦ rw (update-other (b .release) c R′ y away) (core .apart x y label other named-before)
+              | no elsewhere ↦ rw (update-other (b .release) c R′ y elsewhere)
+                  (core .apart x y label other named-before)
             ]
       ]
     where
@@ -121,11 +122,11 @@ module _ (d : Directory) (backup : ℕ → ℕ) (old : ℕ → ℕ → ℕ) (T C
         same-price = λ label _. refl;
         same-word = λ h p w word _. page-word h p w tentativeHalf word (omega arith);
         own = λ h p w word agrees.
-            let was = sym (over-none h _ _) ∙ (rw (idle, pending-none d backup c, uncounted-none) at agrees)
-            ∙ laid-none (32 * p + w) _ in
+            let was = sym (word-after-none h _ _) ∙ (rw (idle, pending-none d backup c, uncounted-none) at agrees)
+            ∙ applied-none (32 * p + w) _ in
             rw (page-word h p w tentativeHalf word (omega arith), uncounted-early r list 0 (omega arith))
             (tentative-first d backup c r list 0 eight little refl h p w _ (word .word) (word .home)
-            ∙ ap (laidAt (listPrices list) (32 * p + w)) was);
+            ∙ ap (appliedAt (listPrices list) (32 * p + w)) was);
       })
 
   open-committed : Claim d (committeds d backup) (b .release) (b .price) m
@@ -157,7 +158,7 @@ module _ (d : Directory) (backup : ℕ → ℕ) (old : ℕ → ℕ → ℕ) (T C
         under = update-each (b .release) c R′ (λ x R. Under R) (omega arith) (λ x other. core .under x);
         eights = update-each (b .release) c R′ (λ x R. EightWords R) eight (λ x other. core .eights x);
         last-eight = core .last-eight;
-        apart = apart-opened;
+        apart = disjoint-opened;
         numbers = update-each (b .release) c R′ (λ x R. Numbers R (b .last x))
             ((λ _. next), (λ late. absurd (omega arith))) (λ x other. core .numbers x);
         owns = update-each (b .release) c R′
@@ -167,24 +168,24 @@ module _ (d : Directory) (backup : ℕ → ℕ) (old : ℕ → ℕ → ℕ) (T C
             (core .owns x up));
         tentative = λ t. open-tentative (core .tentative t);
         committed = λ t. open-committed (core .committed t);
-        held = update-each (b .release) c R′
+        recorded = update-each (b .release) c R′
             (λ x R. isLive d x ≡ true → isLive d (backup x) ≡ true
-            → Held x R (b .last x) (load (sizeOf d) m′ (backup x)))
-            (λ _ up. held-opened (core .held c live up))
-            (λ x other lives up. held-kept x (b .release x) (b .last x) _ _
+            → Recorded x R (b .last x) (load (sizeOf d) m′ (backup x)))
+            (λ _ up. opened-recorded (core .recorded c live up))
+            (λ x other lives up. recorded-kept x (b .release x) (b .last x) _ _
             (λ o above below. record-word x (backup x) o
             (omega (arith, core .shape .below x lives, core .shape .few-cards)) above below)
-            (core .held x lives up));
+            (core .recorded x lives up));
         dead = λ g h o gone small up above below.
             record-word g h o (omega (arith, core .shape .few-cards)) above below
             ∙ core .dead g h o gone small up above below;
       }
     where
-      held-opened : Held c (b .release c) (b .last c) (load (sizeOf d) m (backup c))
-          → Held c R′ (b .last c) (load (sizeOf d) m′ (backup c))
-      held-opened held =
-          let before = rw idle at held in
-          held-kept c R′ (b .last c) _ _ (λ o above below. record-word c (backup c) o little above below)
+      opened-recorded : Recorded c (b .release c) (b .last c) (load (sizeOf d) m (backup c))
+          → Recorded c R′ (b .last c) (load (sizeOf d) m′ (backup c))
+      opened-recorded recorded =
+          let before = rw idle at recorded in
+          recorded-kept c R′ (b .last c) _ _ (λ o above below. record-word c (backup c) o little above below)
           (record {
             stamped = before .stamped;
             desked = before .desked;

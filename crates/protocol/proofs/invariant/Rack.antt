@@ -11,7 +11,7 @@ use Rattle.directory.proofs.Live.{next-live-is-live, next-live-other}
 use Rattle.protocol.specs.Release.{sizeOf}
 use Rattle.protocol.specs.Recovery.{backupBefore}
 use Rattle.protocol.specs.Book.{none, Book}
-use Rattle.protocol.proofs.records.Matching.{Held}
+use Rattle.protocol.proofs.records.Recorded.{Recorded}
 use Rattle.protocol.proofs.invariant.Core.{Core}
 
 -- ---- two live cards
@@ -33,7 +33,7 @@ pub another : (d : Directory) → TwoLive d → (c : ℕ) → Another d c
 another d pair c =
     elim (ℕ-discrete (pair .one) c) [
       | yes same ↦ record { card = pair .two; other = λ e. pair .differ (same ∙ sym e); live = pair .second }
-      | no away ↦ record { card = pair .one; other = away; live = pair .first }
+      | no elsewhere ↦ record { card = pair .one; other = elsewhere; live = pair .first }
     ]
 
 -- ---- a directory of its arrays' lengths, within its limits
@@ -53,7 +53,7 @@ pub record RunningRack (d : Directory) (m : List ℕ) (b : Book) : Type 0 where
   pub core : Core d (backupOf d) (load (sizeOf d) m) (Unit {0}) (Unit {0}) m b
   -- the record of each dead card is settled on every live card
   pub records : (g h : ℕ) → isLive d g ≡ false → g < d .cards → isLive d h ≡ true
-      → Held g none (b .last g) (load (sizeOf d) m h)
+      → Recorded g none (b .last g) (load (sizeOf d) m h)
   pub two : TwoLive d
   pub primary-live : (p : ℕ) → p < d .pages → isLive d (primaryOf d p) ≡ true
   pub secondary-live : (p : ℕ) → p < d .pages → isLive d (secondaryOf d p) ≡ true
@@ -78,7 +78,7 @@ pub record AwaitingRack (d : Directory) (f : ℕ) (m : List ℕ) (b : Book) : Ty
   pub core : Core d (backupBefore d f) (load (sizeOf d) m) (stampOf d f m ≢ doneOf d f m)
       (stampOf d f m ≡ doneOf d f m) m b
   pub records : (g h : ℕ) → isLive d g ≡ false → g ≢ f → g < d .cards → isLive d h ≡ true
-      → Held g none (b .last g) (load (sizeOf d) m h)
+      → Recorded g none (b .last g) (load (sizeOf d) m h)
   pub stamped : stampOf d f m ≡ b .last f .number
   pub desked : (j : ℕ) → j < 8
       → load (sizeOf d) m (nextLiveOf d f) (recordDesk f (b .last f .number) + j) ≡ getD (b .last f .desk) j 0

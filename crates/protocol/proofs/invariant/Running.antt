@@ -5,7 +5,7 @@ use Rattle.directory.specs.declared.Directory.{Directory}
 use Rattle.directory.specs.Directory.{isLive, backupOf}
 use Rattle.protocol.specs.Release.{Release, sizeOf, ownRelease, isOpen}
 use Rattle.protocol.specs.Book.{Opened, none, opened, Book}
-use Rattle.protocol.proofs.records.Matching.{Own, held-kept}
+use Rattle.protocol.proofs.records.Recorded.{Own, recorded-kept}
 use Rattle.protocol.proofs.invariant.Core.{Core, OpenStands, Standing}
 use Rattle.protocol.proofs.invariant.Rack.{RunningRack}
 use Rattle.protocol.proofs.invariant.Found.{core-now}
@@ -56,7 +56,7 @@ module _ (d : Directory) (m : List ℕ) (b : Book) (rack : RunningRack d m b) wh
         core = core-now core;
         records = λ g h dead real live.
             rw (lasts g dead)
-            (held-kept g none _ _ _ (λ o above below. core .dead g h o dead real live above below)
+            (recorded-kept g none _ _ _ (λ o above below. core .dead g h o dead real live above below)
             (rack .records g h dead real live));
         two = rack .two;
         primary-live = rack .primary-live;

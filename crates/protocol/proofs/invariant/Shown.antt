@@ -17,9 +17,9 @@ use Rattle.memory.proofs.Runs.{load-run-is}
 use Rattle.directory.proofs.Table.{table-length, table-read}
 use Rattle.diff.proofs.Stored.{OnPages, prices-on-pages}
 use Rattle.protocol.specs.Fetch.{namesPage, inMotion, committedPage}
-use Rattle.protocol.specs.Demand3.{pageIn, away}
+use Rattle.protocol.specs.Demand3.{pageIn, offlineAfter}
 use Rattle.protocol.proofs.release.Shape.{area-of-live}
-use Rattle.protocol.proofs.invariant.Kept.{Quiet, shown-price}
+use Rattle.protocol.proofs.invariant.Kept.{NotInMotion, shown-price}
 use Rattle.protocol.proofs.checks.Passed.{FetchPassed}
 use Rattle.protocol.proofs.invariant.Running.{stands-open, is-open}
 
@@ -37,7 +37,7 @@ page-named pages (p ∷ ps) page word on small named =
         → cond (eqb (p .page) page) true (namesPage ps page) ≡ true
     go true here named rest =
         rw (eq-eqb (p .page) page (omega (arith, on .1, small, eqb-true (labelOf p) (32 * page + word) here)))
-    go false away named rest = either (eqb (p .page) page) (rest named)
+    go false offlineAfter named rest = either (eqb (p .page) page) (rest named)
       where
         either : (same : Bool) → namesPage ps page ≡ true → cond same true (namesPage ps page) ≡ true
         either true e = refl
@@ -52,9 +52,9 @@ module _ (d : Directory) (m : List ℕ) (b : Book) (rack : RunningRack d m b) wh
       go false dead = rack .core .gone c dead
 
   module _ (page room : ℕ) (passed : FetchPassed d m page room) where
-    quiet : Quiet b page
+    not-in-motion : NotInMotion b page
     unfolding inMotion
-    quiet c r list s w is small named =
+    not-in-motion c r list s w is small named =
         elim (decLt s (countsAt (length (listPrices list)))) [
           | yes early ↦ early
           | no late ↦ absurd (true≢false
@@ -89,7 +89,7 @@ module _ (d : Directory) (m : List ℕ) (b : Book) (rack : RunningRack d m b) wh
           page = passed .page-below;
           word = small;
         })
-        quiet in
+        not-in-motion in
         (rw add-assoc shown) ∙ sym (table-read (λ word. b .price (32 * page + word)) pageSize w 0 small)
 
     pub fetched : committedPage d m page ≡ pageIn b page

@@ -12,19 +12,19 @@ use Rattle.protocol.proofs.release.Step.{step-closes}
 use Rattle.protocol.proofs.release.Close.{length-close, load-close, close-own, close-word-9}
 use Rattle.protocol.proofs.book.Changes.{EightWords, update-same, update-other, update-each, step-book-plain}
 use Rattle.protocol.proofs.book.Changes.{step-book-counts, step-book-closes}
-use Rattle.protocol.proofs.claims.Claim.{Apart}
+use Rattle.protocol.proofs.claims.Claim.{Disjoint}
 use Rattle.protocol.proofs.claims.Step.{close-tentatives, close-committeds}
-use Rattle.protocol.proofs.records.Matching.{Numbers, Own, Held, held-kept, close-held}
+use Rattle.protocol.proofs.records.Recorded.{Numbers, Own, Recorded, recorded-kept, close-recorded}
 use Rattle.protocol.proofs.invariant.Core.{Core, OpenStands, Standing, Under, standing-kept, write-core}
 
 -- releases that stay apart when one is struck out
-pub apart-struck : (release : ℕ → Opened) (c : ℕ) → Apart release → Apart (update release c none)
-apart-struck release c apart x y label other named =
+pub disjoint-cleared : (release : ℕ → Opened) (c : ℕ) → Disjoint release → Disjoint (update release c none)
+disjoint-cleared release c apart x y label other named =
     elim (ℕ-discrete y c) [
       | yes same ↦ rw (same, update-same release c none) (names-none label)
-      | no away ↦ elim (ℕ-discrete x c) [
+      | no elsewhere ↦ elim (ℕ-discrete x c) [
         | yes same ↦ absurd (false≢true (sym (names-none label) ∙ (rw (same, update-same release c none) at named)))
-        | no far ↦ rw (update-other release c none y away)
+        | no far ↦ rw (update-other release c none y elsewhere)
             (apart x y label other (rw (update-other release c none x far) at named))
       ]
     ]
@@ -89,7 +89,7 @@ module _ (d : Directory) (backup : ℕ → ℕ) (old : ℕ → ℕ → ℕ) (T C
           under = update-each (b .release) c none (λ x R. Under R) tt (λ x other. core .under x);
           eights = update-each (b .release) c none (λ x R. EightWords R) tt (λ x other. core .eights x);
           last-eight = core .last-eight;
-          apart = apart-struck (b .release) c (core .apart);
+          apart = disjoint-cleared (b .release) c (core .apart);
           numbers = update-each (b .release) c none (λ x R. Numbers R (b .last x)) tt (λ x other. core .numbers x);
           owns = update-each (b .release) c none
               (λ x R. isLive d x ≡ true → Own R (ownRelease (sizeOf d) m′ x) (b .last x))
@@ -104,13 +104,13 @@ module _ (d : Directory) (backup : ℕ → ℕ) (old : ℕ → ℕ → ℕ) (T C
               close-committeds d backup (b .release) (b .price) m m′ c few (core .eights) (core .apart) r list s is
               (omega arith)
               (λ h p w word. kept-page h _ (omega arith) (omega (arith, word .page, word .word))) (core .committed t);
-          held = update-each (b .release) c none
+          recorded = update-each (b .release) c none
               (λ x R. isLive d x ≡ true → isLive d (backup x) ≡ true
-              → Held x R (b .last x) (load (sizeOf d) m′ (backup x)))
-              (λ _ up. close-held c r list s (b .last c) _ _ (omega arith)
-              (λ o above below. kept-record c (backup c) o few above below) (rw is at (core .held c live up)))
-              (λ x other lives up. held-kept x (b .release x) (b .last x) _ _
-              (λ o above below. kept-record x (backup x) o (small x lives) above below) (core .held x lives up));
+              → Recorded x R (b .last x) (load (sizeOf d) m′ (backup x)))
+              (λ _ up. close-recorded c r list s (b .last c) _ _ (omega arith)
+              (λ o above below. kept-record c (backup c) o few above below) (rw is at (core .recorded c live up)))
+              (λ x other lives up. recorded-kept x (b .release x) (b .last x) _ _
+              (λ o above below. kept-record x (backup x) o (small x lives) above below) (core .recorded x lives up));
           dead = λ g h o gone little up above below.
               kept-record g h o (omega (arith, core .shape .few-cards)) above below
               ∙ core .dead g h o gone little up above below;

@@ -23,7 +23,7 @@ highest test k (suc n) many = go (test n) refl many (highest test k n)
     go : (here : Bool) → test n ≡ here → suc k ≤ countBelow test n + cond here 1 0
         → (suc k ≤ countBelow test n → Highest test k n) → Highest test k (suc n)
     go true here many rest = record { index = n; below = omega arith; passes = here; others = omega arith }
-    go false away many rest =
+    go false elsewhere many rest =
         let h = rest (omega arith) in
         record { index = h .index; below = omega (arith, h .below); passes = h .passes; others = h .others }
 

@@ -99,7 +99,7 @@ module _ (d : Directory) (x : ℕ) (m : List ℕ) (shape : Shape d m) (real : x 
       outside h o inside (inr (inl under)) =
           load-copy-run-outside (sizeOf d) m′ _ _ x (recordStamp n) recordSize h o
           (outside-below (omega arith) (omega (arith, few)))
-      outside h o inside (inr (inr over)) =
+      outside h o inside (inr (inr wordAfter)) =
           load-copy-run-outside (sizeOf d) m′ _ _ x (recordStamp n) recordSize h o (outside-above (omega arith) inside)
 
       go : (copies : Bool) → not (isLive d n) && not (eqb n x) ≡ copies

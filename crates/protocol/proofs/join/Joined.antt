@@ -14,7 +14,7 @@ use Rattle.protocol.proofs.release.Shape.{Shape, SameOwn, own-words-kep
 use Rattle.protocol.proofs.release.WordAfter.{HomeOf}
 use Rattle.protocol.proofs.claims.Claim.{Half, Claim, claim-idle, idle-words}
 use Rattle.protocol.proofs.claims.Halves.{tentatives, committeds}
-use Rattle.protocol.proofs.records.Matching.{Held, Own, held-kept}
+use Rattle.protocol.proofs.records.Recorded.{Recorded, Own, recorded-kept}
 use Rattle.protocol.proofs.invariant.Core.{Core, Standing, standing-kept}
 use Rattle.protocol.proofs.invariant.Rack.{RunningRack, TwoLive, next-is-live, next-is-other, unmarked}
 use Rattle.protocol.proofs.join.Memory.{Joined, joined}
@@ -106,30 +106,30 @@ module _ (d : Directory) (x : ℕ) (m : List ℕ) (b : Book) (rack : RunningRack
       ]
 
   -- a record on another card than x
-  kept-held : (c h : ℕ) (R : Opened) → c < 8 → h ≢ x → Held c R (b .last c) (load (sizeOf d) m h)
-      → Held c R (b .last c) (load (sizeOf d) m′ h)
-  kept-held c h R little other held =
-      held-kept c R (b .last c) _ _ (λ o above under. after .others h o other (omega arith)) held
+  kept-recorded : (c h : ℕ) (R : Opened) → c < 8 → h ≢ x → Recorded c R (b .last c) (load (sizeOf d) m h)
+      → Recorded c R (b .last c) (load (sizeOf d) m′ h)
+  kept-recorded c h R little other recorded =
+      recorded-kept c R (b .last c) _ _ (λ o above under. after .others h o other (omega arith)) recorded
 
-  live-held : (c : ℕ) → isLive d′ c ≡ true → Held c none (b .last c) (load (sizeOf d) m′ (backupOf d′ c))
-  live-held c live =
+  live-recorded : (c : ℕ) → isLive d′ c ≡ true → Recorded c none (b .last c) (load (sizeOf d) m′ (backupOf d′ c))
+  live-recorded c live =
       elim (ℕ-discrete c x) [
         | yes same ↦ rw same joined
         | no other ↦ elim (ℕ-discrete (backupOf d′ c) x) [
-          | yes its ↦ rw its (after .backed-held c (live-before c other live) its)
-          | no away ↦
+          | yes its ↦ rw its (after .backed-recorded c (live-before c other live) its)
+          | no elsewhere ↦
               let was = live-before c other live in
-              rw (← (same-backup c away))
-              (kept-held c (backupOf d c) none (small c was) (not-x (backupOf d c) (nexts c))
-              (rw (idle c) at (rack .core .held c was (nexts c))))
+              rw (← (same-backup c elsewhere))
+              (kept-recorded c (backupOf d c) none (small c was) (not-x (backupOf d c) (nexts c))
+              (rw (idle c) at (rack .core .recorded c was (nexts c))))
         ]
       ]
     where
-      joined : Held x none (b .last x) (load (sizeOf d) m′ (backupOf d′ x))
+      joined : Recorded x none (b .last x) (load (sizeOf d) m′ (backupOf d′ x))
       joined =
-          let away = next-is-other d′ two below x in
-          let up = live-before (backupOf d′ x) away (next-is-live d′ two below x) in
-          kept-held x (backupOf d′ x) none few away (rack .records x (backupOf d′ x) dead real up)
+          let elsewhere = next-is-other d′ two below x in
+          let up = live-before (backupOf d′ x) elsewhere (next-is-live d′ two below x) in
+          kept-recorded x (backupOf d′ x) none few elsewhere (rack .records x (backupOf d′ x) dead real up)
 
   kept-own : (c : ℕ) → c ≢ x → SameOwn (sizeOf d) m m′ c
   kept-own c other =
@@ -179,17 +179,17 @@ module _ (d : Directory) (x : ℕ) (m : List ℕ) (b : Book) (rack : RunningRack
             (core .tentative tt);
         committed = λ _. page-claim (committeds d (backupOf d)) (committeds d′ (backupOf d′)) refl (omega arith)
             (core .committed tt);
-        held = λ c live up. rw (idle c) (live-held c live);
+        recorded = λ c live up. rw (idle c) (live-recorded c live);
         dead = λ g h o gone less up above under. refl;
       }
 
   records : (g h : ℕ) → isLive d′ g ≡ false → g < d .cards → isLive d′ h ≡ true
-      → Held g none (b .last g) (load (sizeOf d) m′ h)
+      → Recorded g none (b .last g) (load (sizeOf d) m′ h)
   records g h gone less live =
       let was = dead-before g gone in
       elim (ℕ-discrete h x) [
-        | yes same ↦ rw same (after .dead-held g (was .0) (was .1) less)
-        | no other ↦ kept-held g h none (omega (arith, shape .few-cards)) other
+        | yes same ↦ rw same (after .dead-recorded g (was .0) (was .1) less)
+        | no other ↦ kept-recorded g h none (omega (arith, shape .few-cards)) other
             (rack .records g h (was .0) less (live-before h other live))
       ]
 

@@ -11,13 +11,13 @@ use Rattle.protocol.specs.Recovery.{restorePages, copyToNewHome, copyToN
 use Rattle.protocol.specs.Recovery.{writeRecords, failedRelease, restoredMemory, recoveredMemory}
 use Rattle.protocol.specs.PastLimits.{belowLimits}
 use Rattle.laws.proofs.Search.{in-turn-agree}
-use Rattle.protocol.proofs.checks.Fit.{Fitting}
+use Rattle.protocol.proofs.checks.ValidDirectory.{ValidDirectory}
 use Rattle.protocol.proofs.past_limits.Directory.{live-below, open-below, next-below, primary-below}
 use Rattle.protocol.proofs.past_limits.Directory.{secondary-below, backup-below}
 use Rattle.protocol.proofs.past_limits.Writes.{step-memory-below}
 use Rattle.protocol.proofs.past_limits.Changes.{lost-below, kept-below, new-below}
 
-module _ (d : Directory) (fit : Fitting d) (f : ℕ) (dead : isLive d f ≡ false) where
+module _ (d : Directory) (fit : ValidDirectory d) (f : ℕ) (dead : isLive d f ≡ false) where
   -- ---- the open releases run to their close
 
   -- the backup before the failure is a card that the rack has

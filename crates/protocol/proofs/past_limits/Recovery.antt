@@ -9,7 +9,7 @@ use Rattle.protocol.specs.Checks.{awaitsRecovery}
 use Rattle.protocol.specs.Recovery.{awaitedCard, recoveryChecks, recovery, failedRelease}
 use Rattle.protocol.specs.PastLimits.{belowLimits}
 use Rattle.protocol.proofs.checks.Order.{Passed, SameChecks, none, more}
-use Rattle.protocol.proofs.checks.Fit.{fitting}
+use Rattle.protocol.proofs.checks.ValidDirectory.{valid-directory}
 use Rattle.protocol.proofs.past_limits.Changes.{recovered-same, recovered-kept}
 use Rattle.protocol.proofs.past_limits.Checks.{fitting-then}
 use Rattle.protocol.proofs.past_limits.Call.{CallBelow, by-checks}
@@ -23,10 +23,10 @@ module _ (d : Directory) (m : List ℕ) where
   f = awaitedCard (d .status)
 
   dead : Passed (recoveryChecks d m) → isLive d f ≡ false
-  dead p = fitting d m (p .1 .0) .awaited (not-false (awaitsRecovery (d .status)) (p .1 .1 .0)) .1
+  dead p = valid-directory d m (p .1 .0) .awaited (not-false (awaitsRecovery (d .status)) (p .1 .1 .0)) .1
 
   same-release : Passed (recoveryChecks d m) → failedRelease (belowLimits d) f m ≡ failedRelease d f m
-  same-release p = release-below d (fitting d m (p .1 .0)) f (dead p) m
+  same-release p = release-below d (valid-directory d m (p .1 .0)) f (dead p) m
 
   pub recovery-below : CallBelow d (recovery (belowLimits d) m) (recovery d m)
   unfolding recovery
@@ -36,7 +36,7 @@ module _ (d : Directory) (m : List ℕ) where
       (λ p.
       record {
         directory = recovered-same d f;
-        memory = recovered-below d (fitting d m (p .1 .0)) f (dead p) m;
+        memory = recovered-below d (valid-directory d m (p .1 .0)) f (dead p) m;
         words = ap (λ (r : Release). r .desk) (same-release p);
         kept = recovered-kept d f;
       })

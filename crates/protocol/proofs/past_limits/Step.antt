@@ -9,7 +9,7 @@ use Rattle.protocol.specs.Checks.{check}
 use Rattle.protocol.specs.Step.{stepChecks, step}
 use Rattle.protocol.specs.PastLimits.{belowLimits}
 use Rattle.protocol.proofs.checks.Order.{SameChecks, none, more}
-use Rattle.protocol.proofs.checks.Fit.{Fitting, fitting}
+use Rattle.protocol.proofs.checks.ValidDirectory.{ValidDirectory, valid-directory}
 use Rattle.protocol.proofs.past_limits.Directory.{open-below, next-below}
 use Rattle.protocol.proofs.past_limits.Checks.{running-then, live-then}
 use Rattle.protocol.proofs.past_limits.Writes.{step-memory-below}
@@ -22,7 +22,7 @@ module _ (d : Directory) (m : List ℕ) (c : ℕ) where
       (live-then d m c (λ real.
       more (ap (λ (taken : Bool). check (not taken) noneOpen) (open-below d (sizeOf d) m c real)) (λ _. none)))
 
-  memory-below : Fitting d
+  memory-below : ValidDirectory d
       → stepMemory (belowLimits d) (backupOf (belowLimits d) c) m c ≡ stepMemory d (backupOf d c) m c
   memory-below fit =
       rw (next-below d c)
@@ -33,4 +33,4 @@ module _ (d : Directory) (m : List ℕ) (c : ℕ) where
   unfolding step
   step-below =
       by-checks d m _ _ [] checks-below refl refl refl (λ _. refl)
-      (λ p. same-directory refl refl (memory-below (fitting d m (p .1 .0))) refl)
+      (λ p. same-directory refl refl (memory-below (valid-directory d m (p .1 .0))) refl)

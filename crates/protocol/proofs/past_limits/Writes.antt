@@ -8,7 +8,7 @@ use Rattle.diff.proofs.Stored.{OnPages, prices-on-pages}
 use Rattle.protocol.specs.Release.{Release, sizeOf, openRelease, openList, openPrices, stepsOf, Write, noWrite}
 use Rattle.protocol.specs.Release.{priceWrites, runWrites, releaseWrites, makeWrite, stepMemory}
 use Rattle.protocol.specs.PastLimits.{belowLimits}
-use Rattle.protocol.proofs.checks.Fit.{Fitting}
+use Rattle.protocol.proofs.checks.ValidDirectory.{ValidDirectory}
 use Rattle.protocol.proofs.past_limits.Directory.{marksBelow, live-below, primary-below, secondary-below}
 
 -- ---- writes to cards that the rack has
@@ -31,7 +31,7 @@ write-on zero some (on-more real on) = real
 write-on (suc i) some (on-more real on) = write-on i some on
 
 module _ (d : Directory) where
-  prices-on : Fitting d → (half : ℕ) (ps : List Price) → OnPages (d .pages) ps
+  prices-on : ValidDirectory d → (half : ℕ) (ps : List Price) → OnPages (d .pages) ps
       → OnCards (d .cards) (priceWrites d half ps)
   prices-on fit half [] on = on-none
   prices-on fit half (p ∷ ps) on =
@@ -49,7 +49,7 @@ module _ (d : Directory) where
     unfolding releaseWrites
     writes-below = rw (prices-below tentativeHalf ps on, prices-below committedHalf ps on)
 
-    writes-on : Fitting d → backup < d .cards → OnCards (d .cards) (releaseWrites d backup c r ps)
+    writes-on : ValidDirectory d → backup < d .cards → OnCards (d .cards) (releaseWrites d backup c r ps)
     unfolding releaseWrites
     writes-on fit real =
         on-both (prices-on fit tentativeHalf ps on)
@@ -64,7 +64,7 @@ module _ (d : Directory) where
   unfolding makeWrite
   make-below m w real = rw (live-below d (w .card) real)
 
-  pub step-memory-below : Fitting d → (backup : ℕ) → backup < d .cards → (m : List ℕ) (c : ℕ)
+  pub step-memory-below : ValidDirectory d → (backup : ℕ) → backup < d .cards → (m : List ℕ) (c : ℕ)
       → stepMemory (belowLimits d) backup m c ≡ stepMemory d backup m c
   unfolding stepMemory
   step-memory-below fit backup real m c =

@@ -10,8 +10,8 @@ use Rattle.protocol.specs.Record.{writeRecord}
 use Rattle.protocol.specs.Recovery.{writeFailed}
 use Rattle.protocol.specs.Book.{none}
 use Rattle.protocol.proofs.release.Shape.{Shape, area-of-live, shape-kept}
-use Rattle.protocol.proofs.records.Matching.{Held, held-kept}
-use Rattle.protocol.proofs.records.Settled.{length-record, load-record, record-held}
+use Rattle.protocol.proofs.records.Recorded.{Recorded, recorded-kept}
+use Rattle.protocol.proofs.records.Settled.{length-record, load-record, settled-recorded}
 
 -- ---- the failed card's record
 
@@ -20,7 +20,7 @@ pub record FailedBelow (d : Directory) (f : ℕ) (r : Release) (n : ℕ) (m m′
   pub same-length : length m′ ≡ length m
   pub same : (h o : ℕ) → o < sizeOf d → (o < 20 + 18 * f) ⊎ (38 + 18 * f ≤ o)
       → load (sizeOf d) m′ h o ≡ load (sizeOf d) m h o
-  pub held : (h : ℕ) → h < n → isLive d h ≡ true → Held f none r (load (sizeOf d) m′ h)
+  pub recorded : (h : ℕ) → h < n → isLive d h ≡ true → Recorded f none r (load (sizeOf d) m′ h)
 
 module _ (d : Directory) (f : ℕ) (r : Release) (few : f < 8) (eight : length (r .desk) ≡ 8) (m : List ℕ)
     (shape : Shape d m) where
@@ -32,35 +32,35 @@ module _ (d : Directory) (f : ℕ) (r : Release) (few : f < 8) (eight : length (
       go true live =
           record {
             same-length = length-record (sizeOf d) m′ n f r (omega arith) few eight ∙ below .same-length;
-            same = λ h o inside away.
-                load-record (sizeOf d) m′ n f r (omega arith) few eight h o inside (inr away)
-                ∙ below .same h o inside away;
-            held = λ h small up. at h small up (ℕ-discrete h n);
+            same = λ h o inside elsewhere.
+                load-record (sizeOf d) m′ n f r (omega arith) few eight h o inside (inr elsewhere)
+                ∙ below .same h o inside elsewhere;
+            recorded = λ h small up. at h small up (ℕ-discrete h n);
           }
         where
           at : (h : ℕ) → h < suc n → isLive d h ≡ true → Dec (h ≡ n)
-              → Held f none r (load (sizeOf d) (writeRecord (sizeOf d) m′ n f r) h)
+              → Recorded f none r (load (sizeOf d) (writeRecord (sizeOf d) m′ n f r) h)
           at h small up (yes same) =
               rw same
-              (record-held (sizeOf d) m′ n f r (omega arith) few eight
+              (settled-recorded (sizeOf d) m′ n f r (omega arith) few eight
               (area-of-live (shape-kept shape m′ (below .same-length)) n live))
           at h small up (no other) =
-              held-kept f none r _ _
+              recorded-kept f none r _ _
               (λ o above under. load-record (sizeOf d) m′ n f r (omega arith) few eight h o (omega arith) (inl other))
-              (below .held h (omega arith) up)
+              (below .recorded h (omega arith) up)
       go false dead =
           record {
             same-length = below .same-length;
             same = below .same;
-            held = λ h small up.
+            recorded = λ h small up.
                 elim (ℕ-discrete h n) [
                   | yes same ↦ absurd (true≢false (sym up ∙ rw same dead))
-                  | no other ↦ below .held h (omega arith) up
+                  | no other ↦ below .recorded h (omega arith) up
                 ];
           }
 
   pub failed-below : (n : ℕ) → FailedBelow d f r n m (inTurn (writeFailed d f r) n m)
   unfolding inTurn
   failed-below zero =
-      record { same-length = refl; same = λ h o inside away. refl; held = λ h small up. absurd (omega arith) }
+      record { same-length = refl; same = λ h o inside elsewhere. refl; recorded = λ h small up. absurd (omega arith) }
   failed-below (suc n) = failed-more n _ (failed-below n)

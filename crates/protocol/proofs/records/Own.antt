@@ -7,8 +7,8 @@ use Rattle.protocol.specs.Release.{ownRelease}
 use Rattle.protocol.specs.Record.{writeRecord, writeOwnRecord}
 use Rattle.protocol.specs.Book.{none}
 use Rattle.protocol.proofs.release.Shape.{own-words-kept}
-use Rattle.protocol.proofs.records.Matching.{Held, held-kept}
-use Rattle.protocol.proofs.records.Settled.{length-record, load-record, record-held}
+use Rattle.protocol.proofs.records.Recorded.{Recorded, recorded-kept}
+use Rattle.protocol.proofs.records.Settled.{length-record, load-record, settled-recorded}
 
 -- after the cards below n
 pub record OwnBelow (size : ℕ) (due : ℕ → Bool) (holder : ℕ → ℕ) (n : ℕ) (m m′ : List ℕ) : Type 0 where
@@ -19,8 +19,8 @@ pub record OwnBelow (size : ℕ) (due : ℕ → Bool) (holder : ℕ → ℕ) (n 
   pub records : (g h o : ℕ) → g < 8 → due g ≡ false → 20 + 18 * g ≤ o → o < 38 + 18 * g
       → load size m′ h o ≡ load size m h o
   -- every word of a card that is to hold none
-  pub away : (h o : ℕ) → o < size → ((c : ℕ) → due c ≡ true → h ≢ holder c) → load size m′ h o ≡ load size m h o
-  pub held : (c : ℕ) → c < n → due c ≡ true → Held c none (ownRelease size m c) (load size m′ (holder c))
+  pub elsewhere : (h o : ℕ) → o < size → ((c : ℕ) → due c ≡ true → h ≢ holder c) → load size m′ h o ≡ load size m h o
+  pub recorded : (c : ℕ) → c < n → due c ≡ true → Recorded c none (ownRelease size m c) (load size m′ (holder c))
 
 module _ (size : ℕ) (long : 676 ≤ size) (due : ℕ → Bool) (holder : ℕ → ℕ) (m : List ℕ)
     (small : (c : ℕ) → due c ≡ true → c < 8)
@@ -57,8 +57,9 @@ module _ (size : ℕ) (long : 676 ≤ size) (due : ℕ → Bool) (holder : ℕ �
                 other h o (omega arith)
                 (inr (apart g n o (λ e. true≢false (sym is ∙ ap due (sym e) ∙ not-due)) above under))
                 ∙ below .records g h o little not-due above under;
-            away = λ h o inside none-here. other h o inside (inl (none-here n is)) ∙ below .away h o inside none-here;
-            held = λ c less is-due. at c less is-due (ℕ-discrete c n);
+            elsewhere = λ h o inside none-here. other h o inside (inl (none-here n is))
+                ∙ below .elsewhere h o inside none-here;
+            recorded = λ c less is-due. at c less is-due (ℕ-discrete c n);
           })
         where
           other : (h o : ℕ) → o < size → (h ≢ holder n) ⊎ ((o < 20 + 18 * n) ⊎ (38 + 18 * n ≤ o))
@@ -66,28 +67,28 @@ module _ (size : ℕ) (long : 676 ≤ size) (due : ℕ → Bool) (holder : ℕ �
           other = load-record size m′ (holder n) n (ownRelease size m n) long (small n is) (eights n is)
 
           at : (c : ℕ) → c < suc n → due c ≡ true → Dec (c ≡ n)
-              → Held c none (ownRelease size m c)
+              → Recorded c none (ownRelease size m c)
               (load size (writeRecord size m′ (holder n) n (ownRelease size m n)) (holder c))
           at c less is-due (yes same) =
               rw same
-              (record-held size m′ (holder n) n (ownRelease size m n) long (small n is) (eights n is)
+              (settled-recorded size m′ (holder n) n (ownRelease size m n) long (small n is) (eights n is)
               (rw (below .same-length) (areas n is)))
           at c less is-due (no differs) =
-              held-kept c none (ownRelease size m c) _ _
+              recorded-kept c none (ownRelease size m c) _ _
               (λ o above under. other (holder c) o (omega (arith, small c is-due))
               (inr (apart c n o differs above under)))
-              (below .held c (omega arith) is-due)
+              (below .recorded c (omega arith) is-due)
       go false is-not =
           record {
             same-length = below .same-length;
             low = below .low;
             high = below .high;
             records = below .records;
-            away = below .away;
-            held = λ c less is-due.
+            elsewhere = below .elsewhere;
+            recorded = λ c less is-due.
                 elim (ℕ-discrete c n) [
                   | yes same ↦ absurd (true≢false (sym is-due ∙ rw same is-not))
-                  | no differs ↦ below .held c (omega arith) is-due
+                  | no differs ↦ below .recorded c (omega arith) is-due
                 ];
           }
 
@@ -99,7 +100,7 @@ module _ (size : ℕ) (long : 676 ≤ size) (due : ℕ → Bool) (holder : ℕ �
         low = λ h o less. refl;
         high = λ h o more inside. refl;
         records = λ g h o little not-due above under. refl;
-        away = λ h o inside none-here. refl;
-        held = λ c less is-due. absurd (omega arith);
+        elsewhere = λ h o inside none-here. refl;
+        recorded = λ c less is-due. absurd (omega arith);
       }
   own-below (suc n) = own-more n _ (own-below n)

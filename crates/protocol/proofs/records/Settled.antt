@@ -10,7 +10,7 @@ use Rattle.memory.proofs.Runs.{length-zeros, length-store-run, load-store-run-o
 use Rattle.protocol.specs.Release.{Release}
 use Rattle.protocol.specs.Record.{settledRecord, writeRecord}
 use Rattle.protocol.specs.Book.{none}
-use Rattle.protocol.proofs.records.Matching.{Held}
+use Rattle.protocol.proofs.records.Recorded.{Recorded}
 
 -- ---- the words of a settled record
 
@@ -78,8 +78,8 @@ module _ (size : ℕ) (m : List ℕ) (holder c : ℕ) (r : Release) (long : 676 
     unfolding settledRecord
     first-words = (refl, refl)
 
-    pub record-held : Held c none r (load size (writeRecord size m holder c r) holder)
-    record-held =
+    pub settled-recorded : Recorded c none r (load size (writeRecord size m holder c r) holder)
+    settled-recorded =
         record {
           stamped = let at : recordStamp c ≡ recordStamp c + 0 = omega arith in rw at
               (record-word 0 (omega arith) ∙ first-words .0);

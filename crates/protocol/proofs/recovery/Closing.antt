@@ -3,13 +3,13 @@
 use Rattle.laws.proofs.Prelude.{ℕ, zero, suc, _+_, _-_, _≤_, _<_, _≡_, refl, sym, _∙_, subst, List, Bool, true, false}
 use Rattle.laws.proofs.Prelude.{_&&_, true≢false, arith, length, eqb}
 use Rattle.laws.specs.Search.{inTurn}
-use Rattle.memory.specs.Layout.{releaseOpen}
+use Rattle.memory.specs.Layout.{openFlag}
 use Rattle.memory.specs.Area.{load}
 use Rattle.directory.specs.declared.Directory.{Directory}
 use Rattle.directory.specs.Directory.{isLive}
 use Rattle.protocol.specs.Release.{Release, sizeOf, isOpen, stepMemory, stepsIn}
 use Rattle.protocol.specs.Recovery.{backupBefore, stepTimes, runToClose, closeReleases}
-use Rattle.protocol.specs.Book.{Opened, none, opened, listPrices, Book, stepBook, countOpen, strikeOpen}
+use Rattle.protocol.specs.Book.{Opened, none, opened, listPrices, Book, stepBook, countOpen, clearOpen}
 use Rattle.protocol.proofs.invariant.Core.{Core, OpenStands, Standing}
 use Rattle.protocol.proofs.invariant.Step.{step-core}
 use Rattle.protocol.proofs.book.Closing.{closedBook, closed-step, closed-last, still-open, closed-none}
@@ -49,12 +49,12 @@ module _ (d : Directory) (f : ℕ) (old : ℕ → ℕ → ℕ) (T C : Type 0) wh
   unfolding runToClose
   idle-core c m b is shut core = rw (shut, is) (subst (KeptBefore m) (sym (closed-none b c is)) core)
 
-  not-open : (c : ℕ) (m : List ℕ) → (isLive d c ≡ true → load (sizeOf d) m c releaseOpen ≡ 0)
+  not-open : (c : ℕ) (m : List ℕ) → (isLive d c ≡ true → load (sizeOf d) m c openFlag ≡ 0)
       → isOpen (d .live) (sizeOf d) m c ≡ false
   unfolding isOpen
   not-open c m zero-word = go (isLive d c) refl
     where
-      go : (up : Bool) → isLive d c ≡ up → up && eqb (load (sizeOf d) m c releaseOpen) 1 ≡ false
+      go : (up : Bool) → isLive d c ≡ up → up && eqb (load (sizeOf d) m c openFlag) 1 ≡ false
       go true up = rw (zero-word up)
       go false down = refl
 
@@ -105,7 +105,7 @@ close-below d f old T C (suc n) m b core =
 pub close-core-all : (d : Directory) (f : ℕ) (old : ℕ → ℕ → ℕ) (T C : Type 0) (m : List ℕ) (b : Book)
     → ((x : ℕ) → d .cards ≤ x → isLive d x ≡ false)
     → Core d (backupBefore d f) old T C m b
-    → Core d (backupBefore d f) old T C (closeReleases d f m) (strikeOpen (countOpen b))
+    → Core d (backupBefore d f) old T C (closeReleases d f m) (clearOpen (countOpen b))
 unfolding closeReleases
 close-core-all d f old T C m b past core =
     subst (Core d (backupBefore d f) old T C (inTurn (runToClose d f) (d .cards) m))

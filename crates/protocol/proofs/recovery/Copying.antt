@@ -13,15 +13,16 @@ use Rattle.protocol.specs.Recovery.{lostHome, keptHome, newHome, copyToN
 use Rattle.protocol.proofs.release.Shape.{Shape, area-of-live, shape-kept}
 
 -- both halves of a page at a card are the book's
-pub record Right (size : ℕ) (price : ℕ → ℕ) (m : List ℕ) (h p : ℕ) : Type 0 where
+pub record BothHalves (size : ℕ) (price : ℕ → ℕ) (m : List ℕ) (h p : ℕ) : Type 0 where
   pub tentatives : (w : ℕ) → w < 32 → load size m h (pageStart p + (tentativeHalf + w)) ≡ price (32 * p + w)
   pub committeds : (w : ℕ) → w < 32 → load size m h (pageStart p + (committedHalf + w)) ≡ price (32 * p + w)
 
 -- a page whose words are those of a page that is right
-pub right-same : {size : ℕ} {price : ℕ → ℕ} {m m′ : List ℕ} {h h′ p : ℕ}
-    → ((o : ℕ) → o < 64 → load size m′ h′ (pageStart p + o) ≡ load size m h (pageStart p + o)) → Right size price m h p
-    → Right size price m′ h′ p
-right-same same right =
+pub both-halves-same : {size : ℕ} {price : ℕ → ℕ} {m m′ : List ℕ} {h h′ p : ℕ}
+    → ((o : ℕ) → o < 64 → load size m′ h′ (pageStart p + o) ≡ load size m h (pageStart p + o))
+    → BothHalves size price m h p
+    → BothHalves size price m′ h′ p
+both-halves-same same right =
     record {
       tentatives = λ w within. same (tentativeHalf + w) (omega arith) ∙ right .tentatives w within;
       committeds = λ w within. same (committedHalf + w) (omega arith) ∙ right .committeds w within;
@@ -44,7 +45,8 @@ module _ (d : Directory) (f page : ℕ) (m : List ℕ) where
   module _ (lost : lostHome d f page ≡ true) (fits : page < d .pages) where
     outside : (h o : ℕ) → Outside (sizeOf d) (newHome d f page) (tentative page) (pageSize + pageSize) h o
         → load (sizeOf d) (copyToNewHome d f page m) h o ≡ load (sizeOf d) m h o
-    outside h o away = rw (copies lost) (load-copy-run-outside (sizeOf d) m _ _ _ _ (pageSize + pageSize) h o away)
+    outside h o elsewhere =
+        rw (copies lost) (load-copy-run-outside (sizeOf d) m _ _ _ _ (pageSize + pageSize) h o elsewhere)
 
     copied-low : (h o : ℕ) → o < 676 → load (sizeOf d) (copyToNewHome d f page m) h o ≡ load (sizeOf d) m h o
     copied-low h o low = outside h o (outside-below (omega arith) (omega arith))
@@ -71,12 +73,13 @@ module _ (d : Directory) (f page : ℕ) (m : List ℕ) where
 pub record RehomedBelow (d : Directory) (f : ℕ) (price : ℕ → ℕ) (n : ℕ) (m m′ : List ℕ) : Type 0 where
   pub same-length : length m′ ≡ length m
   pub low : (h o : ℕ) → o < 676 → load (sizeOf d) m′ h o ≡ load (sizeOf d) m h o
-  pub stays : (h p : ℕ) → p < d .pages → Right (sizeOf d) price m h p → Right (sizeOf d) price m′ h p
-  pub new : (p : ℕ) → p < n → p < d .pages → lostHome d f p ≡ true → Right (sizeOf d) price m′ (newHome d f p) p
+  pub stays : (h p : ℕ) → p < d .pages → BothHalves (sizeOf d) price m h p → BothHalves (sizeOf d) price m′ h p
+  pub new : (p : ℕ) → p < n → p < d .pages → lostHome d f p ≡ true → BothHalves (sizeOf d) price m′ (newHome d f p) p
 
 module _ (d : Directory) (f : ℕ) (price : ℕ → ℕ) (m : List ℕ) (shape : Shape d m)
     (kept-live : (p : ℕ) → p < d .pages → lostHome d f p ≡ true → isLive d (keptHome d f p) ≡ true)
-    (kept-right : (p : ℕ) → p < d .pages → lostHome d f p ≡ true → Right (sizeOf d) price m (keptHome d f p) p)
+    (kept-both-halves : (p : ℕ) → p < d .pages → lostHome d f p ≡ true
+    → BothHalves (sizeOf d) price m (keptHome d f p) p)
     (new-live : (p : ℕ) → p < d .pages → lostHome d f p ≡ true → isLive d (newHome d f p) ≡ true) where
   one-page : (n : ℕ) (m′ : List ℕ) → n < d .pages → RehomedBelow d f price n m m′
       → RehomedBelow d f price (suc n) m (copyToNewHome d f n m′)
@@ -107,23 +110,23 @@ module _ (d : Directory) (f : ℕ) (price : ℕ → ℕ) (m : List ℕ) (shape :
                 ];
           }
         where
-          there : Right (sizeOf d) price (copyToNewHome d f n m′) (newHome d f n) n
+          there : BothHalves (sizeOf d) price (copyToNewHome d f n m′) (newHome d f n) n
           there =
-              right-same
+              both-halves-same
               (copied-there d f n m′ lost fits (shape-kept shape m′ (below .same-length)) (kept-live n fits lost)
               (new-live n fits lost))
-              (below .stays (keptHome d f n) n fits (kept-right n fits lost))
+              (below .stays (keptHome d f n) n fits (kept-both-halves n fits lost))
 
-          still : (h p : ℕ) → p < d .pages → Right (sizeOf d) price m′ h p
-              → Right (sizeOf d) price (copyToNewHome d f n m′) h p
+          still : (h p : ℕ) → p < d .pages → BothHalves (sizeOf d) price m′ h p
+              → BothHalves (sizeOf d) price (copyToNewHome d f n m′) h p
           still h p inside right =
               elim (ℕ-discrete p n) [
                 | yes same ↦ elim (ℕ-discrete h (newHome d f n)) [
                   | yes here ↦ rw (same, here) there
-                  | no other ↦ right-same
+                  | no other ↦ both-halves-same
                       (λ o within. copied-elsewhere d f n m′ lost fits h p o inside within (inl other)) right
                 ]
-                | no other ↦ right-same
+                | no other ↦ both-halves-same
                     (λ o within. copied-elsewhere d f n m′ lost fits h p o inside within (inr other)) right
               ]
 

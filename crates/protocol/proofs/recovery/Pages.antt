@@ -1,4 +1,5 @@
--- Recovery takes a rack that awaits it to one that runs, and answers the failed card's last number and desk.
+-- A recovery up to its records: the open releases are closed, the failed card's last number and desk are answered, and
+-- the pages are restored and copied to new homes.
 use Rattle.laws.proofs.Prelude.{ℕ, _+_, _*_, _≤_, _<_, _≡_, refl, sym, _∙_, _≢_, _⊎_, inl, inr, List, Bool, true, false}
 use Rattle.laws.proofs.Prelude.{arith, ℕ-discrete, length}
 use Rattle.memory.specs.Layout.{recordStamp, recordDone}
@@ -9,7 +10,7 @@ use Rattle.protocol.specs.Release.{sizeOf}
 use Rattle.protocol.specs.Record.{underWay}
 use Rattle.protocol.specs.Recovery.{backupBefore, closeReleases, restoredMemory, keptHome, newHome}
 use Rattle.protocol.specs.Recovery.{copyToNewHomes, failedRelease}
-use Rattle.protocol.specs.Book.{Book, countOpen, strikeOpen}
+use Rattle.protocol.specs.Book.{Book, countOpen, clearOpen}
 use Rattle.protocol.proofs.release.Shape.{area-of-live, shape-kept}
 use Rattle.protocol.proofs.release.WordAfter.{HomeOf}
 use Rattle.protocol.proofs.claims.Claim.{HomeWord, idle-words}
@@ -17,7 +18,7 @@ use Rattle.protocol.proofs.claims.Halves.{tentatives, committeds}
 use Rattle.protocol.proofs.invariant.Core.{Core}
 use Rattle.protocol.proofs.recovery.Closing.{close-core-all}
 use Rattle.protocol.proofs.recovery.Restoring.{source, halfWord, RestoredBelow, restored}
-use Rattle.protocol.proofs.recovery.Copying.{Right, RehomedBelow, rehomed}
+use Rattle.protocol.proofs.recovery.Copying.{BothHalves, RehomedBelow, rehomed}
 use Rattle.protocol.proofs.recovery.Homes.{kept-primary, kept-secondary}
 use Rattle.protocol.proofs.records.Reading.{recorded-is, under-way-yes, under-way-no}
 use Rattle.protocol.proofs.invariant.Rack.{AwaitingRack, stampOf, doneOf, next-is-live, next-is-other}
@@ -26,11 +27,11 @@ use Rattle.protocol.proofs.book.Counting.{count-open-last}
 -- ---- the releases closed, the pages restored and copied
 
 module _ (d : Directory) (f : ℕ) (m : List ℕ) (b : Book) (rack : AwaitingRack d f m b) where
-  abbrev b₁ : Book
-  b₁ = strikeOpen (countOpen b)
+  abbrev bookAfter : Book
+  bookAfter = clearOpen (countOpen b)
 
-  abbrev m₁ : List ℕ
-  m₁ = closeReleases d f m
+  abbrev closedMemory : List ℕ
+  closedMemory = closeReleases d f m
 
   pub few : f < 8
   few = omega (arith, rack .real, rack .core .shape .few-cards)
@@ -43,7 +44,7 @@ module _ (d : Directory) (f : ℕ) (m : List ℕ) (b : Book) (rack : AwaitingRac
       go false dead = dead
 
   pub closed : Core d (backupBefore d f) (load (sizeOf d) m) (stampOf d f m ≢ doneOf d f m)
-      (stampOf d f m ≡ doneOf d f m) m₁ b₁
+      (stampOf d f m ≡ doneOf d f m) closedMemory bookAfter
   closed = close-core-all d f _ _ _ m b past-dead (rack .core)
 
   up : isLive d (nextLiveOf d f) ≡ true
@@ -51,69 +52,72 @@ module _ (d : Directory) (f : ℕ) (m : List ℕ) (b : Book) (rack : AwaitingRac
 
   -- f's record is not touched
   record-kept : (o : ℕ) → 20 + 18 * f ≤ o → o < 38 + 18 * f
-      → load (sizeOf d) m₁ (nextLiveOf d f) o ≡ load (sizeOf d) m (nextLiveOf d f) o
+      → load (sizeOf d) closedMemory (nextLiveOf d f) o ≡ load (sizeOf d) m (nextLiveOf d f) o
   record-kept o above below = closed .dead f (nextLiveOf d f) o (rack .lost) (rack .real) up above below
 
-  pub last-same : (g : ℕ) → isLive d g ≡ false → b₁ .last g ≡ b .last g
+  pub last-same : (g : ℕ) → isLive d g ≡ false → bookAfter .last g ≡ b .last g
   last-same g dead = count-open-last b g (rack .core .gone g dead)
 
   -- the answer
   pub answers : failedRelease d f m ≡ b .last f
   unfolding failedRelease
   answers =
-      recorded-is (sizeOf d) m₁ (nextLiveOf d f) f (b .last f) (area-of-live (closed .shape) (nextLiveOf d f) up)
+      recorded-is (sizeOf d) closedMemory (nextLiveOf d f) f (b .last f)
+      (area-of-live (closed .shape) (nextLiveOf d f) up)
       (omega arith)
       few (rack .core .last-eight f) (record-kept (recordStamp f) (omega arith) (omega arith) ∙ rack .stamped)
       (λ j within. record-kept _ (omega arith) (omega arith) ∙ rack .desked j within)
 
   abbrev forward : Bool
-  forward = underWay (sizeOf d) m₁ (nextLiveOf d f) f
+  forward = underWay (sizeOf d) closedMemory (nextLiveOf d f) f
 
-  abbrev m₂ : List ℕ
-  m₂ = restoredMemory d f m
+  abbrev restoredPages : List ℕ
+  restoredPages = restoredMemory d f m
 
   -- the pages are restored from what stands once the releases are closed
-  m₂-restored : RestoredBelow d forward (d .pages) m₁ m₂
+  pages-restored : RestoredBelow d forward (d .pages) closedMemory restoredPages
   unfolding restoredMemory
-  m₂-restored = restored d forward m₁ (closed .shape)
+  pages-restored = restored d forward closedMemory (closed .shape)
 
   -- the half that is copied from is the book's, at live homes
-  source-right : (way : Bool) → forward ≡ way → (h p w : ℕ) → HomeWord d h p w
-      → halfWord (sizeOf d) m₁ h p (source way) w ≡ b₁ .price (32 * p + w)
-  source-right true is h p w word =
+  source-is-price : (way : Bool) → forward ≡ way → (h p w : ℕ) → HomeWord d h p w
+      → halfWord (sizeOf d) closedMemory h p (source way) w ≡ bookAfter .price (32 * p + w)
+  source-is-price true is h p w word =
       let differ : stampOf d f m ≢ doneOf d f m = λ same.
-      under-way-yes (sizeOf d) m₁ (nextLiveOf d f) f is
+      under-way-yes (sizeOf d) closedMemory (nextLiveOf d f) f is
       (record-kept (recordStamp f) (omega arith) (omega arith) ∙ same
       ∙ sym (record-kept (recordDone f) (omega arith) (omega arith))) in
-      idle-words d (tentatives d (backupBefore d f)) (b₁ .release) (b₁ .price) m₁ (λ c. refl)
+      idle-words d (tentatives d (backupBefore d f)) (bookAfter .release) (bookAfter .price) closedMemory (λ c. refl)
       (closed .tentative differ) h p w word
-  source-right false is h p w word =
+  source-is-price false is h p w word =
       let same : stampOf d f m ≡ doneOf d f m =
       sym (record-kept (recordStamp f) (omega arith) (omega arith))
-      ∙ under-way-no (sizeOf d) m₁ (nextLiveOf d f) f is ∙ record-kept (recordDone f) (omega arith) (omega arith) in
-      idle-words d (committeds d (backupBefore d f)) (b₁ .release) (b₁ .price) m₁ (λ c. refl)
+      ∙ under-way-no (sizeOf d) closedMemory (nextLiveOf d f) f is ∙ record-kept (recordDone f) (omega arith)
+      (omega arith) in
+      idle-words d (committeds d (backupBefore d f)) (bookAfter .release) (bookAfter .price) closedMemory (λ c. refl)
       (closed .committed same) h p w word
 
   -- so both halves are, once restored
-  pub restored-right : (h p : ℕ) → isLive d h ≡ true → HomeOf d h p → p < d .pages
-      → Right (sizeOf d) (b₁ .price) m₂ h p
-  restored-right h p live home page = go forward refl m₂-restored
+  pub restored-both-halves : (h p : ℕ) → isLive d h ≡ true → HomeOf d h p → p < d .pages
+      → BothHalves (sizeOf d) (bookAfter .price) restoredPages h p
+  restored-both-halves h p live home page = go forward refl pages-restored
     where
       word : (w : ℕ) → w < 32 → HomeWord d h p w
       word w within = record { live = live; home = home; page = page; word = within }
 
-      go : (way : Bool) → forward ≡ way → RestoredBelow d way (d .pages) m₁ m₂ → Right (sizeOf d) (b₁ .price) m₂ h p
+      go : (way : Bool) → forward ≡ way → RestoredBelow d way (d .pages) closedMemory restoredPages
+          → BothHalves (sizeOf d) (bookAfter .price) restoredPages h p
       go true is below =
           record {
-            tentatives = λ w within. below .kept h p w page within ∙ source-right true is h p w (word w within);
+            tentatives = λ w within. below .kept h p w page within ∙ source-is-price true is h p w (word w within);
             committeds = λ w within.
-                below .copied h p w page page within live home ∙ source-right true is h p w (word w within);
+                below .copied h p w page page within live home ∙ source-is-price true is h p w (word w within);
           }
       go false is below =
           record {
             tentatives = λ w within.
-                below .copied h p w page page within live home ∙ source-right false is h p w (word w within);
-            committeds = λ w within. below .kept h p w page within ∙ source-right false is h p w (word w within);
+                below .copied h p w page page within live home ∙ source-is-price false is h p w (word w within);
+            committeds = λ w within. below .kept h p w page within ∙ source-is-price false is h p w (word w within);
           }
 
   -- ---- the homes
@@ -140,20 +144,22 @@ module _ (d : Directory) (f : ℕ) (m : List ℕ) (b : Book) (rack : AwaitingRac
   unfolding newHome
   new-is-other p = next-is-other d (rack .two) (rack .core .shape .below) (keptHome d f p)
 
-  pub kept-right : (p : ℕ) → p < d .pages → Right (sizeOf d) (b₁ .price) m₂ (keptHome d f p) p
-  kept-right p page = restored-right (keptHome d f p) p (kept-home p page .0) (kept-home p page .1) page
+  pub kept-both-halves : (p : ℕ) → p < d .pages
+      → BothHalves (sizeOf d) (bookAfter .price) restoredPages (keptHome d f p) p
+  kept-both-halves p page = restored-both-halves (keptHome d f p) p (kept-home p page .0) (kept-home p page .1) page
 
-  abbrev m₃ : List ℕ
-  m₃ = copyToNewHomes d f m₂
+  abbrev copiedPages : List ℕ
+  copiedPages = copyToNewHomes d f restoredPages
 
-  pub m₃-rehomed : RehomedBelow d f (b₁ .price) (d .pages) m₂ m₃
-  m₃-rehomed =
-      rehomed d f (b₁ .price) m₂ (shape-kept (closed .shape) m₂ (m₂-restored .same-length))
-      (λ p page lost. kept-home p page .0) (λ p page lost. kept-right p page) (λ p page lost. new-home p)
+  pub pages-rehomed : RehomedBelow d f (bookAfter .price) (d .pages) restoredPages copiedPages
+  pages-rehomed =
+      rehomed d f (bookAfter .price) restoredPages
+      (shape-kept (closed .shape) restoredPages (pages-restored .same-length))
+      (λ p page lost. kept-home p page .0) (λ p page lost. kept-both-halves p page) (λ p page lost. new-home p)
 
   -- every word below the pages is as it was when the releases were closed
-  pub low-kept : (h o : ℕ) → o < 676 → load (sizeOf d) m₃ h o ≡ load (sizeOf d) m₁ h o
-  low-kept h o small = m₃-rehomed .low h o small ∙ m₂-restored .low h o small
+  pub low-kept : (h o : ℕ) → o < 676 → load (sizeOf d) copiedPages h o ≡ load (sizeOf d) closedMemory h o
+  low-kept h o small = pages-rehomed .low h o small ∙ pages-restored .low h o small
 
-  pub m₃-length : length m₃ ≡ length m₁
-  m₃-length = m₃-rehomed .same-length ∙ m₂-restored .same-length
+  pub pages-length : length copiedPages ≡ length closedMemory
+  pages-length = pages-rehomed .same-length ∙ pages-restored .same-length

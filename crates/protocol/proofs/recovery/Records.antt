@@ -13,65 +13,68 @@ use Rattle.protocol.specs.Release.{Release, sizeOf, ownRelease}
 use Rattle.protocol.specs.Record.{writeOwnRecord}
 use Rattle.protocol.specs.Recovery.{backupBefore, closeReleases, restoredMemory, copyToNewHomes, failedRelease}
 use Rattle.protocol.specs.Recovery.{writeFailed, backupWas, writeRecords}
-use Rattle.protocol.specs.Book.{none, Book, countOpen, strikeOpen}
+use Rattle.protocol.specs.Book.{none, Book, countOpen, clearOpen}
 use Rattle.protocol.proofs.release.Shape.{Shape, area-of-live, shape-kept, own-words-kept}
-use Rattle.protocol.proofs.records.Matching.{Held, held-kept}
+use Rattle.protocol.proofs.records.Recorded.{Recorded, recorded-kept}
 use Rattle.protocol.proofs.records.Failed.{FailedBelow, failed-below}
 use Rattle.protocol.proofs.records.Own.{OwnBelow, own-below}
 use Rattle.protocol.proofs.invariant.Rack.{AwaitingRack, next-is-live, unmarked}
 use Rattle.protocol.proofs.recovery.Pages as recovering
 
--- the memory m₅ with the records written, beside the memory m₁ with the releases closed and m₃ with the pages copied
-pub record RecordsWritten (d : Directory) (b : Book) (m₁ m₃ m₅ : List ℕ) : Type 0 where
-  pub same-length : length m₅ ≡ length m₁
-  pub own-word : (c o : ℕ) → o < 20 → load (sizeOf d) m₅ c o ≡ load (sizeOf d) m₁ c o
+-- the memory with the records written, beside that with the releases closed and that with the pages copied
+pub record RecordsWritten (d : Directory) (b : Book) (closedMemory copiedPages recordedMemory : List ℕ) : Type 0 where
+  pub same-length : length recordedMemory ≡ length closedMemory
+  pub own-word : (c o : ℕ) → o < 20 → load (sizeOf d) recordedMemory c o ≡ load (sizeOf d) closedMemory c o
   pub page-word : (h p o : ℕ) → p < d .pages → o < 64
-      → load (sizeOf d) m₅ h (pageStart p + o) ≡ load (sizeOf d) m₃ h (pageStart p + o)
+      → load (sizeOf d) recordedMemory h (pageStart p + o) ≡ load (sizeOf d) copiedPages h (pageStart p + o)
   -- a live card's record stands on its backup, a dead card's on every live card
-  pub live-held : (c : ℕ) → isLive d c ≡ true → Held c none (b .last c) (load (sizeOf d) m₅ (backupOf d c))
-  pub dead-held : (g h : ℕ) → isLive d g ≡ false → g < d .cards → isLive d h ≡ true
-      → Held g none (b .last g) (load (sizeOf d) m₅ h)
+  pub live-recorded : (c : ℕ) → isLive d c ≡ true
+      → Recorded c none (b .last c) (load (sizeOf d) recordedMemory (backupOf d c))
+  pub dead-recorded : (g h : ℕ) → isLive d g ≡ false → g < d .cards → isLive d h ≡ true
+      → Recorded g none (b .last g) (load (sizeOf d) recordedMemory h)
 
 module _ (d : Directory) (f : ℕ) (m : List ℕ) (b : Book) (rack : AwaitingRack d f m b) where
-  abbrev b₁ : Book
-  b₁ = strikeOpen (countOpen b)
+  abbrev bookAfter : Book
+  bookAfter = clearOpen (countOpen b)
 
-  abbrev m₁ : List ℕ
-  m₁ = closeReleases d f m
+  abbrev closedMemory : List ℕ
+  closedMemory = closeReleases d f m
 
-  abbrev m₃ : List ℕ
-  m₃ = copyToNewHomes d f (restoredMemory d f m)
+  abbrev copiedPages : List ℕ
+  copiedPages = copyToNewHomes d f (restoredMemory d f m)
 
   abbrev r : Release
   r = failedRelease d f m
 
-  abbrev m₄ : List ℕ
-  m₄ = inTurn (writeFailed d f r) (d .cards) m₃
+  abbrev failedWritten : List ℕ
+  failedWritten = inTurn (writeFailed d f r) (d .cards) copiedPages
 
-  abbrev m₅ : List ℕ
-  m₅ = inTurn (writeOwnRecord (sizeOf d) (backupWas d f) (backupOf d)) (d .cards) m₄
+  abbrev recordedMemory : List ℕ
+  recordedMemory = inTurn (writeOwnRecord (sizeOf d) (backupWas d f) (backupOf d)) (d .cards) failedWritten
 
   few : f < 8
   few = recovering.few d f m b rack
 
-  shape₃ : Shape d m₃
-  shape₃ = shape-kept (recovering.closed d f m b rack .shape) m₃ (recovering.m₃-length d f m b rack)
+  copied-shape : Shape d copiedPages
+  copied-shape = shape-kept (recovering.closed d f m b rack .shape) copiedPages (recovering.pages-length d f m b rack)
 
-  failed : FailedBelow d f r (d .cards) m₃ m₄
+  failed : FailedBelow d f r (d .cards) copiedPages failedWritten
   failed =
-      failed-below d f r few (rw (recovering.answers d f m b rack) (rack .core .last-eight f)) m₃ shape₃ (d .cards)
+      failed-below d f r few (rw (recovering.answers d f m b rack) (rack .core .last-eight f)) copiedPages copied-shape
+      (d .cards)
 
   backups : (c : ℕ) → isLive d (backupOf d c) ≡ true
   backups c = next-is-live d (rack .two) (rack .core .shape .below) c
 
   -- own stamp and desk are as they were when the releases were closed
-  own₄ : (c : ℕ) → ownRelease (sizeOf d) m₄ c ≡ ownRelease (sizeOf d) m₁ c
-  own₄ c =
-      own-words-kept (sizeOf d) m₁ m₄ c (failed .same-length ∙ recovering.m₃-length d f m b rack)
+  own-still : (c : ℕ) → ownRelease (sizeOf d) failedWritten c ≡ ownRelease (sizeOf d) closedMemory c
+  own-still c =
+      own-words-kept (sizeOf d) closedMemory failedWritten c
+      (failed .same-length ∙ recovering.pages-length d f m b rack)
       (λ o small. failed .same c o (omega arith) (inl (omega arith))
       ∙ recovering.low-kept d f m b rack c o (omega arith))
 
-  own-last : (c : ℕ) → isLive d c ≡ true → ownRelease (sizeOf d) m₁ c ≡ b₁ .last c
+  own-last : (c : ℕ) → isLive d c ≡ true → ownRelease (sizeOf d) closedMemory c ≡ bookAfter .last c
   own-last c live = recovering.closed d f m b rack .owns c live
 
   -- the cards whose records are due
@@ -94,26 +97,26 @@ module _ (d : Directory) (f : ℕ) (m : List ℕ) (b : Book) (rack : AwaitingRac
   small : (c : ℕ) → isLive d c ≡ true → c < 8
   small c live = omega (arith, rack .core .shape .below c live, rack .core .shape .few-cards)
 
-  backed : OwnBelow (sizeOf d) (backupWas d f) (backupOf d) (d .cards) m₄ m₅
+  backed : OwnBelow (sizeOf d) (backupWas d f) (backupOf d) (d .cards) failedWritten recordedMemory
   backed =
-      own-below (sizeOf d) (omega arith) (backupWas d f) (backupOf d) m₄ (λ c due. small c (due-live c due))
-      (λ c due. area-of-live (shape-kept shape₃ m₄ (failed .same-length)) (backupOf d c) (backups c))
-      (λ c due. rw (own₄ c, own-last c (due-live c due)) (recovering.closed d f m b rack .last-eight c)) (d .cards)
+      own-below (sizeOf d) (omega arith) (backupWas d f) (backupOf d) failedWritten (λ c due. small c (due-live c due))
+      (λ c due. area-of-live (shape-kept copied-shape failedWritten (failed .same-length)) (backupOf d c) (backups c))
+      (λ c due. rw (own-still c, own-last c (due-live c due)) (recovering.closed d f m b rack .last-eight c)) (d .cards)
 
-  own-word : (c o : ℕ) → o < 20 → load (sizeOf d) m₅ c o ≡ load (sizeOf d) m₁ c o
+  own-word : (c o : ℕ) → o < 20 → load (sizeOf d) recordedMemory c o ≡ load (sizeOf d) closedMemory c o
   own-word c o low =
       backed .low c o low ∙ failed .same c o (omega arith) (inl (omega arith))
       ∙ recovering.low-kept d f m b rack c o (omega arith)
 
   page-word : (h p o : ℕ) → p < d .pages → o < 64
-      → load (sizeOf d) m₅ h (pageStart p + o) ≡ load (sizeOf d) m₃ h (pageStart p + o)
+      → load (sizeOf d) recordedMemory h (pageStart p + o) ≡ load (sizeOf d) copiedPages h (pageStart p + o)
   page-word h p o page within =
       backed .high h _ (omega arith) (omega arith) ∙ failed .same h _ (omega arith) (inr (omega (arith, few)))
 
   -- a record that is not written
   other-record : (g h o : ℕ) → g < 8 → g ≢ f → (isLive d g ≡ true → backupBefore d f g ≢ f) → 20 + 18 * g ≤ o
       → o < 38 + 18 * g
-      → load (sizeOf d) m₅ h o ≡ load (sizeOf d) m₁ h o
+      → load (sizeOf d) recordedMemory h o ≡ load (sizeOf d) closedMemory h o
   other-record g h o little other not-his above below =
       backed .records g h o little (not-due g not-his) above below
       ∙ failed .same h o (omega arith) (apart (decLt g f)) ∙ recovering.low-kept d f m b rack h o (omega arith)
@@ -129,35 +132,36 @@ module _ (d : Directory) (f : ℕ) (m : List ℕ) (b : Book) (rack : AwaitingRac
       (rw marks at (next-live-kept (markedLive d f .live) (d .cards) c f other))
 
   -- a live card's record stands on its backup
-  live-held : (c : ℕ) → isLive d c ≡ true → Held c none (b₁ .last c) (load (sizeOf d) m₅ (backupOf d c))
-  live-held c live =
+  live-recorded : (c : ℕ) → isLive d c ≡ true
+      → Recorded c none (bookAfter .last c) (load (sizeOf d) recordedMemory (backupOf d c))
+  live-recorded c live =
       elim (ℕ-discrete (backupBefore d f c) f) [
-        | yes his ↦ rw (← (own-last c live), ← (own₄ c))
-            (backed .held c (rack .core .shape .below c live) (is-due c live his))
+        | yes his ↦ rw (← (own-last c live), ← (own-still c))
+            (backed .recorded c (rack .core .shape .below c live) (is-due c live his))
         | no other ↦
             rw (same-backup c other)
-            (held-kept c none (b₁ .last c) _ _
+            (recorded-kept c none (bookAfter .last c) _ _
             (λ o above below. other-record c _ o (small c live) (not-failed c live) (λ _. other) above below)
-            (recovering.closed d f m b rack .held c live (rw (← (same-backup c other)) (backups c))))
+            (recovering.closed d f m b rack .recorded c live (rw (← (same-backup c other)) (backups c))))
       ]
     where
       not-failed : (c : ℕ) → isLive d c ≡ true → c ≢ f
       not-failed c live same = true≢false (sym live ∙ rw same (rack .lost))
 
   -- a dead card's record stands on every live card
-  dead-held : (g h : ℕ) → isLive d g ≡ false → g < d .cards → isLive d h ≡ true
-      → Held g none (b₁ .last g) (load (sizeOf d) m₅ h)
-  dead-held g h dead less live =
+  dead-recorded : (g h : ℕ) → isLive d g ≡ false → g < d .cards → isLive d h ≡ true
+      → Recorded g none (bookAfter .last g) (load (sizeOf d) recordedMemory h)
+  dead-recorded g h dead less live =
       elim (ℕ-discrete g f) [
         | yes same ↦
             rw (same, recovering.last-same d f m b rack f (rack .lost), ← (recovering.answers d f m b rack))
-            (held-kept f none r _ _
+            (recorded-kept f none r _ _
             (λ o above below. backed .records f h o few (not-due f (λ up. absurd (true≢false (sym up ∙ rack .lost))))
             above below)
-            (failed .held h (rack .core .shape .below h live) live))
+            (failed .recorded h (rack .core .shape .below h live) live))
         | no other ↦
             rw (recovering.last-same d f m b rack g dead)
-            (held-kept g none (b .last g) _ _
+            (recorded-kept g none (b .last g) _ _
             (λ o above below.
             other-record g h o (omega (arith, rack .core .shape .few-cards)) other
             (λ up. absurd (true≢false (sym up ∙ dead)))
@@ -166,13 +170,13 @@ module _ (d : Directory) (f : ℕ) (m : List ℕ) (b : Book) (rack : AwaitingRac
             (rack .records g h dead other less live))
       ]
 
-  pub records-written : RecordsWritten d b₁ m₁ m₃ (writeRecords d f r m₃)
+  pub records-written : RecordsWritten d bookAfter closedMemory copiedPages (writeRecords d f r copiedPages)
   unfolding writeRecords
   records-written =
       record {
-        same-length = backed .same-length ∙ failed .same-length ∙ recovering.m₃-length d f m b rack;
+        same-length = backed .same-length ∙ failed .same-length ∙ recovering.pages-length d f m b rack;
         own-word = own-word;
         page-word = page-word;
-        live-held = live-held;
-        dead-held = dead-held;
+        live-recorded = live-recorded;
+        dead-recorded = dead-recorded;
       }

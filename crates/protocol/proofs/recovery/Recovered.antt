@@ -1,6 +1,6 @@
 -- The rack after a recovery: it runs, beside the book that counted and struck out.
 use Rattle.laws.proofs.Prelude.{ℕ, _<_, _≡_, refl, sym, _∙_, _≢_, _⊎_, inl, inr, List, Bool, true, false, arith}
-use Rattle.memory.specs.Layout.{releaseOpen}
+use Rattle.memory.specs.Layout.{openFlag}
 use Rattle.memory.specs.Area.{load}
 use Rattle.directory.specs.declared.Directory.{Directory}
 use Rattle.directory.specs.declared.Status.the-variants.{Running}
@@ -9,13 +9,13 @@ use Rattle.diff.proofs.Prices.{names-none}
 use Rattle.protocol.specs.Release.{sizeOf}
 use Rattle.protocol.specs.Recovery.{closeReleases, restoredMemory, lostHome, keptHome, newHome, copyToNewHomes}
 use Rattle.protocol.specs.Recovery.{failedRelease, writeRecords, recoveredDirectory, recoveredMemory}
-use Rattle.protocol.specs.Book.{Book, countOpen, strikeOpen}
+use Rattle.protocol.specs.Book.{Book, countOpen, clearOpen}
 use Rattle.protocol.proofs.release.Shape.{own-words-kept}
 use Rattle.protocol.proofs.release.WordAfter.{HomeOf}
 use Rattle.protocol.proofs.claims.Claim.{claim-idle}
 use Rattle.protocol.proofs.claims.Halves.{tentatives, committeds}
 use Rattle.protocol.proofs.invariant.Core.{Core}
-use Rattle.protocol.proofs.recovery.Copying.{Right, right-same}
+use Rattle.protocol.proofs.recovery.Copying.{BothHalves, both-halves-same}
 use Rattle.protocol.proofs.recovery.Homes.{MovedBelow, movedHomes, moved, recovered-parts, whole-primary}
 use Rattle.protocol.proofs.recovery.Homes.{whole-secondary, kept-primary}
 use Rattle.protocol.proofs.invariant.Rack.{RunningRack, AwaitingRack}
@@ -23,23 +23,24 @@ use Rattle.protocol.proofs.recovery.Pages as recovering
 use Rattle.protocol.proofs.recovery.Records.{RecordsWritten, records-written}
 
 module _ (d : Directory) (f : ℕ) (m : List ℕ) (b : Book) (rack : AwaitingRack d f m b) where
-  abbrev b₁ : Book
-  b₁ = strikeOpen (countOpen b)
+  abbrev bookAfter : Book
+  bookAfter = clearOpen (countOpen b)
 
-  abbrev m₁ : List ℕ
-  m₁ = closeReleases d f m
+  abbrev closedMemory : List ℕ
+  closedMemory = closeReleases d f m
 
-  abbrev m₃ : List ℕ
-  m₃ = copyToNewHomes d f (restoredMemory d f m)
+  abbrev copiedPages : List ℕ
+  copiedPages = copyToNewHomes d f (restoredMemory d f m)
 
-  abbrev m₅ : List ℕ
-  m₅ = writeRecords d f (failedRelease d f m) m₃
+  abbrev recordedMemory : List ℕ
+  recordedMemory = writeRecords d f (failedRelease d f m) copiedPages
 
-  written : RecordsWritten d b₁ m₁ m₃ m₅
+  written : RecordsWritten d bookAfter closedMemory copiedPages recordedMemory
   written = records-written d f m b rack
 
-  page-right : (h p : ℕ) → p < d .pages → Right (sizeOf d) (b₁ .price) m₃ h p → Right (sizeOf d) (b₁ .price) m₅ h p
-  page-right h p page right = right-same (λ o within. written .page-word h p o page within) right
+  page-both-halves : (h p : ℕ) → p < d .pages → BothHalves (sizeOf d) (bookAfter .price) copiedPages h p
+      → BothHalves (sizeOf d) (bookAfter .price) recordedMemory h p
+  page-both-halves h p page right = both-halves-same (λ o within. written .page-word h p o page within) right
 
   -- ---- the directory with its homes moved
 
@@ -76,27 +77,30 @@ module _ (d : Directory) (f : ℕ) (m : List ℕ) (b : Book) (rack : AwaitingRac
       go (inl live) = live
       go (inr lost) = absurd (whole-secondary d f p whole lost)
 
-  right-home : (h p : ℕ) → HomeOf d′ h p → p < d .pages → Right (sizeOf d) (b₁ .price) m₅ h p
-  right-home h p (inr home) page =
+  home-both-halves : (h p : ℕ) → HomeOf d′ h p → p < d .pages
+      → BothHalves (sizeOf d) (bookAfter .price) recordedMemory h p
+  home-both-halves h p (inr home) page =
       rw (home, first p page)
-      (page-right (keptHome d f p) p page
-      (recovering.m₃-rehomed d f m b rack .stays (keptHome d f p) p page (recovering.kept-right d f m b rack p page)))
-  right-home h p (inl home) page = go (second p page)
+      (page-both-halves (keptHome d f p) p page
+      (recovering.pages-rehomed d f m b rack .stays (keptHome d f p) p page
+      (recovering.kept-both-halves d f m b rack p page)))
+  home-both-halves h p (inl home) page = go (second p page)
     where
-      go : SecondHome p → Right (sizeOf d) (b₁ .price) m₅ h p
+      go : SecondHome p → BothHalves (sizeOf d) (bookAfter .price) recordedMemory h p
       go (inl new) =
           rw (home, new .1)
-          (page-right (newHome d f p) p page (recovering.m₃-rehomed d f m b rack .new p page page (new .0)))
+          (page-both-halves (newHome d f p) p page (recovering.pages-rehomed d f m b rack .new p page page (new .0)))
       go (inr old) =
           rw (home, old .1)
-          (page-right (secondaryOf d p) p page
-          (recovering.m₃-rehomed d f m b rack .stays (secondaryOf d p) p page
-          (recovering.restored-right d f m b rack (secondaryOf d p) p (whole-live p page (old .0)) (inl refl) page)))
+          (page-both-halves (secondaryOf d p) p page
+          (recovering.pages-rehomed d f m b rack .stays (secondaryOf d p) p page
+          (recovering.restored-both-halves d f m b rack (secondaryOf d p) p (whole-live p page (old .0))
+          (inl refl) page)))
 
   -- ---- the rack that runs
 
-  core₅ : Core d′ (backupOf d) (load (sizeOf d) m₅) (Unit {0}) (Unit {0}) m₅ b₁
-  core₅ =
+  recovered-core : Core d′ (backupOf d) (load (sizeOf d) recordedMemory) (Unit {0}) (Unit {0}) recordedMemory bookAfter
+  recovered-core =
       let closed = recovering.closed d f m b rack in
       record {
         shape = record {
@@ -105,7 +109,7 @@ module _ (d : Directory) (f : ℕ) (m : List ℕ) (b : Book) (rack : AwaitingRac
           whole = written .same-length ∙ closed .shape .whole;
           below = closed .shape .below;
         };
-        standing = λ c live. written .own-word c releaseOpen (omega arith) ∙ closed .standing c live;
+        standing = λ c live. written .own-word c openFlag (omega arith) ∙ closed .standing c live;
         gone = λ c dead. refl;
         under = λ c. tt;
         eights = λ c. tt;
@@ -113,17 +117,20 @@ module _ (d : Directory) (f : ℕ) (m : List ℕ) (b : Book) (rack : AwaitingRac
         apart = λ c x label other named. names-none label;
         numbers = λ c. tt;
         owns = λ c live.
-            own-words-kept (sizeOf d) m₁ m₅ c (written .same-length) (λ o less. written .own-word c o (omega arith))
+            own-words-kept (sizeOf d) closedMemory recordedMemory c (written .same-length)
+            (λ o less. written .own-word c o (omega arith))
             ∙ closed .owns c live;
-        tentative = λ _. claim-idle d′ (tentatives d′ (backupOf d)) (b₁ .release) (b₁ .price) m₅ (λ c. refl)
-            (λ h p w word. right-home h p (word .home) (word .page) .tentatives w (word .word));
-        committed = λ _. claim-idle d′ (committeds d′ (backupOf d)) (b₁ .release) (b₁ .price) m₅ (λ c. refl)
-            (λ h p w word. right-home h p (word .home) (word .page) .committeds w (word .word));
-        held = λ c live up. written .live-held c live;
+        tentative = λ _. claim-idle d′ (tentatives d′ (backupOf d)) (bookAfter .release)
+            (bookAfter .price) recordedMemory (λ c. refl)
+            (λ h p w word. home-both-halves h p (word .home) (word .page) .tentatives w (word .word));
+        committed = λ _. claim-idle d′ (committeds d′ (backupOf d)) (bookAfter .release)
+            (bookAfter .price) recordedMemory (λ c. refl)
+            (λ h p w word. home-both-halves h p (word .home) (word .page) .committeds w (word .word));
+        recorded = λ c live up. written .live-recorded c live;
         dead = λ g h o gone less live above below. refl;
       }
 
-  runs : RunningRack d′ m₅ b₁
+  runs : RunningRack d′ recordedMemory bookAfter
   runs =
       record {
         running = refl;
@@ -134,8 +141,8 @@ module _ (d : Directory) (f : ℕ) (m : List ℕ) (b : Book) (rack : AwaitingRac
           primaries = moves .primaries ∙ rack .arrays .primaries;
           secondaries = moves .secondaries ∙ rack .arrays .secondaries;
         };
-        core = core₅;
-        records = written .dead-held;
+        core = recovered-core;
+        records = written .dead-recorded;
         two = record {
           one = rack .two .one;
           two = rack .two .two;
@@ -158,7 +165,7 @@ module _ (d : Directory) (f : ℕ) (m : List ℕ) (b : Book) (rack : AwaitingRac
           rack .homes-differ p page
           (sym (kept-primary d f p (whole-primary d f p (old .0))) ∙ sym (first p page) ∙ same ∙ old .1)
 
-  pub recovers : RunningRack (recoveredDirectory d f) (recoveredMemory d f m) b₁
+  pub recovers : RunningRack (recoveredDirectory d f) (recoveredMemory d f m) bookAfter
   unfolding recoveredMemory
   recovers =
       rw (recovered-parts d f (rack .core .shape .few-pages) (rack .arrays .primaries) (rack .arrays .secondaries))

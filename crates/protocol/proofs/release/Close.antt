@@ -2,7 +2,7 @@
 use Rattle.laws.proofs.Prelude.{ℕ, suc, _+_, _≤_, _<_, _≡_, _∙_, _≢_, _⊎_, inl, inr, List, _∷_, Bool, false, arith}
 use Rattle.laws.proofs.Prelude.{length, getD}
 use native.Mathlib.Nat.{zero-add}
-use Rattle.memory.specs.Layout.{deskSize, ownStamp, ownDesk, releaseOpen, releaseSize, listStart, listSize}
+use Rattle.memory.specs.Layout.{deskSize, ownStamp, ownDesk, openFlag, releaseSize, listStart, listSize}
 use Rattle.memory.specs.Area.{AreaIn, load, storeRun}
 use Rattle.memory.proofs.Index.{outside-other-card, outside-below, outside-above}
 use Rattle.memory.proofs.Runs.{load-run-is, length-store-run, length-clear-run, load-store-run-outside}
@@ -15,7 +15,7 @@ module _ (size : ℕ) (m : List ℕ) (c : ℕ) (long : 676 ≤ size) where
   pub length-close : length (close size m c) ≡ length m
   unfolding close
   length-close =
-      length-clear-run size _ c listStart listSize ∙ length-clear-run size _ c releaseOpen releaseSize
+      length-clear-run size _ c listStart listSize ∙ length-clear-run size _ c openFlag releaseSize
       ∙ length-store-run size m c ownStamp _
 
   module _ (eight : length (openRelease size m c .desk) ≡ 8) where
@@ -25,15 +25,15 @@ module _ (size : ℕ) (m : List ℕ) (c : ℕ) (long : 676 ≤ size) where
     unfolding close
     load-close h o inside (inl other) =
         load-clear-run-outside size _ c listStart listSize h o (outside-other-card other (omega arith) inside)
-        ∙ load-clear-run-outside size _ c releaseOpen releaseSize h o (outside-other-card other (omega arith) inside)
+        ∙ load-clear-run-outside size _ c openFlag releaseSize h o (outside-other-card other (omega arith) inside)
         ∙ load-store-run-outside size m c ownStamp _ h o (outside-other-card other (omega arith) inside)
     load-close h o inside (inr (inl records)) =
         load-clear-run-outside size _ c listStart listSize h o (outside-below (omega arith) (omega arith))
-        ∙ load-clear-run-outside size _ c releaseOpen releaseSize h o (outside-above (omega arith) inside)
+        ∙ load-clear-run-outside size _ c openFlag releaseSize h o (outside-above (omega arith) inside)
         ∙ load-store-run-outside size m c ownStamp _ h o (outside-above (omega arith) inside)
     load-close h o inside (inr (inr page)) =
         load-clear-run-outside size _ c listStart listSize h o (outside-above (omega arith) inside)
-        ∙ load-clear-run-outside size _ c releaseOpen releaseSize h o (outside-above (omega arith) inside)
+        ∙ load-clear-run-outside size _ c openFlag releaseSize h o (outside-above (omega arith) inside)
         ∙ load-store-run-outside size m c ownStamp _ h o (outside-above (omega arith) inside)
 
     module _ (area : AreaIn (length m) size c) where
@@ -45,7 +45,7 @@ module _ (size : ℕ) (m : List ℕ) (c : ℕ) (long : 676 ≤ size) where
       unfolding close own-words
       close-word o small =
           load-clear-run-outside size _ c listStart listSize c o (outside-below (omega arith) (omega arith))
-          ∙ load-clear-run-outside size _ c releaseOpen releaseSize c o (outside-below (omega arith) (omega arith))
+          ∙ load-clear-run-outside size _ c openFlag releaseSize c o (outside-below (omega arith) (omega arith))
           ∙ (rw (zero-add o) at (load-store-run-inside size m c ownStamp own-words area (omega arith) o (omega arith)))
 
       -- the card's own stamp and desk are those of the release that was open
@@ -58,12 +58,12 @@ module _ (size : ℕ) (m : List ℕ) (c : ℕ) (long : 676 ≤ size) where
           (λ j within. let at : 1 + j ≡ suc j = omega arith in close-word (1 + j) (omega arith) ∙ rw at) in
           rw (close-word ownStamp (omega arith), desk)
 
-      pub close-word-9 : load size (close size m c) c releaseOpen ≡ 0
+      pub close-word-9 : load size (close size m c) c openFlag ≡ 0
       unfolding close own-words
       close-word-9 =
-          let m₁ = storeRun size m c ownStamp own-words in
-          load-clear-run-outside size _ c listStart listSize c releaseOpen (outside-below (omega arith) (omega arith))
-          ∙ load-clear-run-inside size m₁ c releaseOpen releaseSize (rw length-store-run area) (omega arith) 0
+          let withOwn = storeRun size m c ownStamp own-words in
+          load-clear-run-outside size _ c listStart listSize c openFlag (outside-below (omega arith) (omega arith))
+          ∙ load-clear-run-inside size withOwn c openFlag releaseSize (rw length-store-run area) (omega arith) 0
           (omega arith)
 
       pub close-not-open : (marks : List Bool) → isOpen marks size (close size m c) c ≡ false

@@ -2,7 +2,7 @@
 use Rattle.laws.proofs.Prelude.{ℕ, suc, _+_, _-_, _≤_, _<_, _≡_, refl, sym, ap, _∙_, _≢_, _⊎_, inl, inr, List, _∷_}
 use Rattle.laws.proofs.Prelude.{_++_, arith, length, getD}
 use native.Mathlib.Nat.{zero-add}
-use Rattle.memory.specs.Layout.{deskSize, releaseOpen, releaseDesk, listStart, listSize}
+use Rattle.memory.specs.Layout.{deskSize, openFlag, releaseDesk, listStart, listSize}
 use Rattle.memory.specs.Area.{AreaIn, load, loadRun, storeRun}
 use Rattle.memory.proofs.Index.{outside-other-card, outside-below, outside-above}
 use Rattle.memory.proofs.Runs.{length-store-run, load-store-run-outside, load-store-run-inside, load-run-store-run}
@@ -49,7 +49,7 @@ module _ (size : ℕ) (m : List ℕ) (c : ℕ) (r : Release) (list : List ℕ) (
 
   pub length-open : length (openMemory size m c r list) ≡ length m
   unfolding openMemory
-  length-open = length-store-run size _ c listStart list ∙ length-store-run size m c releaseOpen head
+  length-open = length-store-run size _ c listStart list ∙ length-store-run size m c openFlag head
 
   -- another card's words; the own stamp and desk, the records and the pages
   pub load-open : (h o : ℕ) → o < size → (h ≢ c) ⊎ ((o < 9) ⊎ (((20 ≤ o) × (o < 164)) ⊎ (676 ≤ o)))
@@ -57,24 +57,24 @@ module _ (size : ℕ) (m : List ℕ) (c : ℕ) (r : Release) (list : List ℕ) (
   unfolding openMemory
   load-open h o inside (inl other) =
       load-store-run-outside size _ c listStart list h o (outside-other-card other (omega arith) inside)
-      ∙ load-store-run-outside size m c releaseOpen head h o (outside-other-card other (omega arith) inside)
+      ∙ load-store-run-outside size m c openFlag head h o (outside-other-card other (omega arith) inside)
   load-open h o inside (inr (inl own)) =
       load-store-run-outside size _ c listStart list h o (outside-below (omega arith) (omega arith))
-      ∙ load-store-run-outside size m c releaseOpen head h o (outside-below (omega arith) (omega arith))
+      ∙ load-store-run-outside size m c openFlag head h o (outside-below (omega arith) (omega arith))
   load-open h o inside (inr (inr (inl records))) =
       load-store-run-outside size _ c listStart list h o (outside-below (omega arith) (omega arith))
-      ∙ load-store-run-outside size m c releaseOpen head h o (outside-above (omega arith) inside)
+      ∙ load-store-run-outside size m c openFlag head h o (outside-above (omega arith) inside)
   load-open h o inside (inr (inr (inr page))) =
       load-store-run-outside size _ c listStart list h o (outside-above (omega arith) inside)
-      ∙ load-store-run-outside size m c releaseOpen head h o (outside-above (omega arith) inside)
+      ∙ load-store-run-outside size m c openFlag head h o (outside-above (omega arith) inside)
 
   module _ (area : AreaIn (length m) size c) where
     -- words 9 to 19
-    pub open-word : (j : ℕ) → j < 11 → load size (openMemory size m c r list) c (releaseOpen + j) ≡ getD head j 0
+    pub open-word : (j : ℕ) → j < 11 → load size (openMemory size m c r list) c (openFlag + j) ≡ getD head j 0
     unfolding openMemory
     open-word j small =
-        load-store-run-outside size _ c listStart list c (releaseOpen + j) (outside-below (omega arith) (omega arith))
-        ∙ load-store-run-inside size m c releaseOpen head area (omega arith) j (omega arith)
+        load-store-run-outside size _ c listStart list c (openFlag + j) (outside-below (omega arith) (omega arith))
+        ∙ load-store-run-inside size m c openFlag head area (omega arith) j (omega arith)
 
     pub opened-release : openRelease size (openMemory size m c r list) c ≡ r
     unfolding openRelease
@@ -83,7 +83,7 @@ module _ (size : ℕ) (m : List ℕ) (c : ℕ) (r : Release) (list : List ℕ) (
         load-run-is size (openMemory size m c r list) c releaseDesk deskSize (r .desk) eight (rw length-open area)
         (omega arith)
         (λ j within.
-        let at : releaseDesk + j ≡ releaseOpen + (3 + j) = omega arith in
+        let at : releaseDesk + j ≡ openFlag + (3 + j) = omega arith in
         let on : 3 + j ≡ suc (suc (suc j)) = omega arith in
         rw at (open-word (3 + j) (omega arith) ∙ rw on)) in
         rw (open-word 2 (omega arith), desk)
@@ -91,12 +91,13 @@ module _ (size : ℕ) (m : List ℕ) (c : ℕ) (r : Release) (list : List ℕ) (
     pub opened-list : (rest : List ℕ) × (openList size (openMemory size m c r list) c ≡ list ++ rest)
     unfolding openList openMemory
     opened-list =
-        let m₁ : List ℕ = storeRun size m c releaseOpen head in
-        let m₂ : List ℕ = storeRun size m₁ c listStart list in
+        let withRelease : List ℕ = storeRun size m c openFlag head in
+        let withList : List ℕ = storeRun size withRelease c listStart list in
         let all : listSize ≡ length list + (listSize - length list) = omega arith in
-        let front = load-run-store-run size m₁ c listStart list (rw length-store-run area) (omega arith) (length list)
+        let front = load-run-store-run size withRelease c listStart list (rw length-store-run area) (omega arith)
+        (length list)
         refl in (
-          loadRun size m₂ c (listStart + length list) (listSize - length list),
-          ap (loadRun size m₂ c listStart) all
-              ∙ load-run-append size m₂ c listStart (length list) (listSize - length list) ∙ rw front,
+          loadRun size withList c (listStart + length list) (listSize - length list),
+          ap (loadRun size withList c listStart) all
+              ∙ load-run-append size withList c listStart (length list) (listSize - length list) ∙ rw front,
         )

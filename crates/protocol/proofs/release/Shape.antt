@@ -1,6 +1,6 @@
 -- A memory of its stated length, and what a card's own words say when they are kept.
 use Rattle.laws.proofs.Prelude.{ℕ, _+_, _*_, _≤_, _<_, _≡_, _∙_, List, Bool, true, arith, length}
-use Rattle.memory.specs.Layout.{deskSize, ownStamp, ownDesk, releaseOpen, stepsMade, releaseNumber, releaseDesk}
+use Rattle.memory.specs.Layout.{deskSize, ownStamp, ownDesk, openFlag, stepsMade, releaseNumber, releaseDesk}
 use Rattle.memory.specs.Layout.{listStart, listSize}
 use Rattle.memory.specs.Area.{AreaIn, load, loadRun}
 use Rattle.memory.proofs.Index.{area-in}
@@ -88,7 +88,7 @@ module _ (size : ℕ) (m m′ : List ℕ) (c : ℕ) where
 
     pub is-open-kept : (marks : List Bool) → isOpen marks size m′ c ≡ isOpen marks size m c
     unfolding isOpen
-    is-open-kept marks = rw (same .low releaseOpen (omega arith) (omega arith))
+    is-open-kept marks = rw (same .low openFlag (omega arith) (omega arith))
 
   pub steps-kept : SameOwn size m m′ c → stepsOf size m′ c ≡ stepsOf size m c
   unfolding stepsOf

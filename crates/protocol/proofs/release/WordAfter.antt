@@ -7,8 +7,8 @@ use Rattle.memory.specs.Layout.{pageStart}
 use Rattle.directory.specs.declared.Directory.{Directory}
 use Rattle.directory.specs.Directory.{primaryOf, secondaryOf}
 use Rattle.diff.specs.declared.Price.{Price}
-use Rattle.diff.specs.Prices.{labelOf, names, laidAt}
-use Rattle.diff.proofs.Prices.{names-first, names-later, laid-first, laid-later, laid-none}
+use Rattle.diff.specs.Prices.{labelOf, names, appliedAt}
+use Rattle.diff.proofs.Prices.{names-first, names-later, applied-first, applied-later, applied-none}
 use Rattle.diff.proofs.Stored.{OnPages}
 use Rattle.protocol.specs.Release.{Write, noWrite, priceWrite, priceWrites, runWrites}
 
@@ -49,25 +49,26 @@ written-again w card offset = go (hits w card offset)
 
 -- ---- writes in order
 
-unfoldable pub over : List Write → ℕ → ℕ → ℕ → ℕ
-over [] card offset v = v
-over (w ∷ ws) card offset v = over ws card offset (written w card offset v)
+unfoldable pub wordAfter : List Write → ℕ → ℕ → ℕ → ℕ
+wordAfter [] card offset v = v
+wordAfter (w ∷ ws) card offset v = wordAfter ws card offset (written w card offset v)
 
-pub over-none : (card offset v : ℕ) → over [] card offset v ≡ v
-unfolding over
-over-none card offset v = refl
+pub word-after-none : (card offset v : ℕ) → wordAfter [] card offset v ≡ v
+unfolding wordAfter
+word-after-none card offset v = refl
 
 -- the writes from step s on: the first of them, and the rest
-pub over-first : (ws : List Write) (s card offset v : ℕ) → s < length ws
-    → over (drop s ws) card offset v ≡ over (drop (suc s) ws) card offset (written (getD ws s noWrite) card offset v)
-unfolding over
-over-first ws s card offset v within = rw (drop-cons ws s noWrite within)
+pub word-after-first : (ws : List Write) (s card offset v : ℕ) → s < length ws
+    → wordAfter (drop s ws) card offset v
+    ≡ wordAfter (drop (suc s) ws) card offset (written (getD ws s noWrite) card offset v)
+unfolding wordAfter
+word-after-first ws s card offset v within = rw (drop-cons ws s noWrite within)
 
-pub over-append : (us ws : List Write) (card offset v : ℕ)
-    → over (us ++ ws) card offset v ≡ over ws card offset (over us card offset v)
-unfolding over
-over-append [] ws card offset v = refl
-over-append (u ∷ us) ws card offset v = over-append us ws card offset (written u card offset v)
+pub word-after-append : (us ws : List Write) (card offset v : ℕ)
+    → wordAfter (us ++ ws) card offset v ≡ wordAfter ws card offset (wordAfter us card offset v)
+unfolding wordAfter
+word-after-append [] ws card offset v = refl
+word-after-append (u ∷ us) ws card offset v = word-after-append us ws card offset (written u card offset v)
 
 -- ---- writes that are not to a word
 
@@ -82,14 +83,15 @@ pub written-miss : (w : Write) (card offset v : ℕ) → (w .card ≡ card → w
 written-miss w card offset v other =
     elim (ℕ-discrete (w .card) card) [
       | yes same ↦ written-other-offset w card offset v (other same)
-      | no away ↦ written-other-card w card offset v away
+      | no elsewhere ↦ written-other-card w card offset v elsewhere
     ]
 
-pub over-miss : {ws : List Write} {card offset : ℕ} (v : ℕ) → Misses card offset ws → over ws card offset v ≡ v
-unfolding over
-over-miss v misses-none = refl
-over-miss {card = card} {offset = offset} v (misses-more {w = w} other rest) =
-    rw (written-miss w card offset v other) (over-miss v rest)
+pub word-after-miss : {ws : List Write} {card offset : ℕ} (v : ℕ) → Misses card offset ws
+    → wordAfter ws card offset v ≡ v
+unfolding wordAfter
+word-after-miss v misses-none = refl
+word-after-miss {card = card} {offset = offset} v (misses-more {w = w} other rest) =
+    rw (written-miss w card offset v other) (word-after-miss v rest)
 
 pub misses-append : {us ws : List Write} {card offset : ℕ} → Misses card offset us → Misses card offset ws
     → Misses card offset (us ++ ws)
@@ -149,14 +151,14 @@ module _ (d : Directory) (half : ℕ) where
           misses-more (λ _. apart)
           (misses-more (λ _. apart) (rest (sym (names-later q qs (32 * p + w) there) ∙ none)))
 
-  -- at a home of the label's page: all of them leave what the prices lay there
-  pub prices-over : (ps : List Price) (h p w v : ℕ) → w < 32 → half ≤ 32 → HomeOf d h p → (pages : ℕ)
+  -- at a home of the label's page: all of them leave what applying the prices does
+  pub word-after-prices : (ps : List Price) (h p w v : ℕ) → w < 32 → half ≤ 32 → HomeOf d h p → (pages : ℕ)
       → OnPages pages ps
-      → over (priceWrites d half ps) h (pageStart p + (half + w)) v ≡ laidAt ps (32 * p + w) v
-  unfolding over
-  prices-over [] h p w v within small home pages on = sym (laid-none (32 * p + w) v)
-  prices-over (q ∷ qs) h p w v within small home pages on =
-      go (ℕ-discrete (labelOf q) (32 * p + w)) (λ v. prices-over qs h p w v within small home pages (on .2))
+      → wordAfter (priceWrites d half ps) h (pageStart p + (half + w)) v ≡ appliedAt ps (32 * p + w) v
+  unfolding wordAfter
+  word-after-prices [] h p w v within small home pages on = sym (applied-none (32 * p + w) v)
+  word-after-prices (q ∷ qs) h p w v within small home pages on =
+      go (ℕ-discrete (labelOf q) (32 * p + w)) (λ v. word-after-prices qs h p w v within small home pages (on .2))
     where
       offset : ℕ
       offset = pageStart p + (half + w)
@@ -175,14 +177,14 @@ module _ (d : Directory) (half : ℕ) where
       reached page at (inr home) = written-here first h offset _ (rw page (sym home)) at
 
       go : Dec (labelOf q ≡ 32 * p + w)
-          → ((v : ℕ) → over (priceWrites d half qs) h offset v ≡ laidAt qs (32 * p + w) v)
-          → over (priceWrites d half qs) h offset (written first h offset (written second h offset v))
-          ≡ laidAt (q ∷ qs) (32 * p + w) v
+          → ((v : ℕ) → wordAfter (priceWrites d half qs) h offset v ≡ appliedAt qs (32 * p + w) v)
+          → wordAfter (priceWrites d half qs) h offset (written first h offset (written second h offset v))
+          ≡ appliedAt (q ∷ qs) (32 * p + w) v
       go (yes here) rest =
           let page : q .page ≡ p = omega (arith, on .1, within) in
           let at : pageStart (q .page) + (half + q .word) ≡ offset = omega (arith, on .1, within) in
-          rest _ ∙ ap (laidAt qs (32 * p + w)) (reached page at home) ∙ sym (laid-first q qs (32 * p + w) v here)
+          rest _ ∙ ap (appliedAt qs (32 * p + w)) (reached page at home) ∙ sym (applied-first q qs (32 * p + w) v here)
       go (no there) rest =
           let apart : pageStart (q .page) + (half + q .word) ≢ offset = omega (arith, on .1, within) in
           rw (written-other-offset second h offset v apart, written-other-offset first h offset v apart)
-          (rest v ∙ sym (laid-later q qs (32 * p + w) v there))
+          (rest v ∙ sym (applied-later q qs (32 * p + w) v there))

@@ -30,15 +30,15 @@ module _ (marks : List Bool) (size : ℕ) (m : List ℕ) (w : Write) where
       stored (yes same) (no other) =
           load-store-other-offset size m (w .card) (w .offset) (w .value) h o fits inside (λ e. other (sym e))
           ∙ sym (written-other-offset w h o (load size m h o) other)
-      stored (no away) at =
-          load-store-other-card size m (w .card) (w .offset) (w .value) h o fits inside (λ e. away (sym e))
-          ∙ sym (written-other-card w h o (load size m h o) away)
+      stored (no elsewhere) at =
+          load-store-other-card size m (w .card) (w .offset) (w .value) h o fits inside (λ e. elsewhere (sym e))
+          ∙ sym (written-other-card w h o (load size m h o) elsewhere)
 
       go : (up : Bool) → liveAt marks (w .card) ≡ up → Dec (w .card ≡ h)
           → load size (cond up (store size m (w .card) (w .offset) (w .value)) m) h o ≡ written w h o (load size m h o)
       go true up same = stored same (ℕ-discrete (w .offset) o)
       go false dead (yes same) = absurd (true≢false (sym live ∙ ap (liveAt marks) (sym same) ∙ dead))
-      go false dead (no away) = sym (written-other-card w h o (load size m h o) away)
+      go false dead (no elsewhere) = sym (written-other-card w h o (load size m h o) elsewhere)
 
   -- a word of any card at another offset
   pub make-write-other : (x o : ℕ) → w .offset < size → o < size → w .offset ≢ o

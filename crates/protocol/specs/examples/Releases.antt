@@ -28,7 +28,7 @@ twoPrices = record { page = 0; word = 4; price = 250 } ∷ record { page = 0; wo
 abbrev pub twoPriceList : List ℕ
 twoPriceList = 0x10000000 ∷ 0x20040002 ∷ 250 ∷ 199 ∷ 0xF0000004 ∷ []
 
--- ---- opened on card 1, which has closed release 4 with the desk words 30 to 37, and whose area holds a number of steps
+-- ---- opened on card 1, which has closed release 4 with the desk words 30 to 37, and whose area holds some steps
 -- and words past the list
 
 unfoldable pub beforeOpening : List ℕ

@@ -5,7 +5,7 @@ use borrow.Author.Needs.{needs, length-unmapped}
 use lib.ListN.{length}
 use Rattle.memory.specs.Area.{zeros}
 use Rattle.protocol.specs.DeskQuestion.{deskOf}
-use Rattle.rack.proofs.Fitting.{fitting}
+use Rattle.rack.proofs.ValidRack.{valid-rack}
 use Rattle.rack.proofs.Results.{desk-facts, desk-refused, desk-accepted}
 use Rattle.rack.proofs.ask_desk.Statement.{statement}
 use Rattle.rack.proofs.ask_desk.Tie as tie
@@ -21,7 +21,7 @@ load-desk-requires c κs =
     let arrays = start .good .1 .0 .1 .1 .1 .1 in
     let marks : length (d .live) ≡ 8 = length-unmapped _ (d .live) 8 (arrays .0 .1 .0 .1) in
     let passed = desk-facts d m (a .card) (first .desk-question .ensures) (test .if1 .taken) in
-    let fit = fitting (passed .0 .fits) in
+    let fit = valid-rack (passed .0 .fits) in
     let within = fit .within in
     let next = fit .next-below (a .card) in
     ((within .pages-most, within .whole), ((within .cards-most, omega arith, search needs), (passed .1, next)))

@@ -4,7 +4,7 @@ use native.Mathlib.Omega.{arith}
 use borrow.Author.Needs.{needs}
 use Rattle.memory.proofs.Index.{area-in}
 use Rattle.protocol.specs.Fetch.{committedPage}
-use Rattle.rack.proofs.Fitting.{fitting}
+use Rattle.rack.proofs.ValidRack.{valid-rack}
 use Rattle.rack.proofs.Results.{fetch-facts, fetch-refused, fetch-accepted}
 use Rattle.rack.proofs.fetch_page.Statement.{statement}
 use Rattle.rack.proofs.fetch_page.Tie as tie
@@ -28,7 +28,7 @@ area-size-requires c κs =
     let d = a .directory in
     let m = a .memory .now in
     let passed = fetch-facts d m (a .page) (a .buffer .now) (first .fetch .ensures) (c .if1 .left) in
-    omega (arith, fitting (passed .runs .fits) .within .pages-most)
+    omega (arith, valid-rack (passed .runs .fits) .within .pages-most)
 
 array-read-home : tie.Need-array-read-home
 array-read-home c =
@@ -39,7 +39,7 @@ array-read-home c =
     let d = a .directory in
     let m = a .memory .now in
     let passed = fetch-facts d m (a .page) (a .buffer .now) (first .fetch .ensures) (test .if1 .left) in
-    let fit = fitting (passed .runs .fits) in
+    let fit = valid-rack (passed .runs .fits) in
     search needs
 
 cast-home : tie.Need-cast-home
@@ -51,7 +51,7 @@ cast-home c =
     let d = a .directory in
     let m = a .memory .now in
     let passed = fetch-facts d m (a .page) (a .buffer .now) (first .fetch .ensures) (test .if1 .left) in
-    let fit = fitting (passed .runs .fits) in
+    let fit = valid-rack (passed .runs .fits) in
     omega (arith, fit .primary-below (a .page) (passed .page-below), fit .within .cards-most)
 
 load-run-requires : tie.Need-load-run-requires
@@ -64,7 +64,7 @@ load-run-requires c κs =
     let d = a .directory in
     let m = a .memory .now in
     let passed = fetch-facts d m (a .page) (a .buffer .now) (first .fetch .ensures) (test .if1 .left) in
-    let fit = fitting (passed .runs .fits) in
+    let fit = valid-rack (passed .runs .fits) in
     let primary = area-in _ (fit .primary-below (a .page) (passed .page-below)) (fit .within .whole) in
     let secondary = area-in _ (fit .secondary-below (a .page) (passed .page-below)) (fit .within .whole) in
     rw (sized .area-size .ensures) (omega arith, omega arith)

@@ -3,7 +3,7 @@ use mathlib.Core.Path.{_≡_, refl, _∙_}
 use borrow.Author.Needs.{needs, length-unmapped}
 use lib.ListN.{length}
 use Rattle.recovery.proofs.Marks.{same-joined}
-use Rattle.rack.proofs.Fitting.{fitting, rack-in}
+use Rattle.rack.proofs.ValidRack.{valid-rack, rack-in}
 use Rattle.rack.proofs.Results.{join-facts, join-refused, join-accepted}
 use Rattle.rack.proofs.join_card.Statement.{statement}
 use Rattle.rack.proofs.join_card.Tie as tie
@@ -28,7 +28,7 @@ join-memory-requires c κs =
     let arrays = start .good .1 .0 .1 .1 .1 .1 in
     let marks : length (d .live) ≡ 8 = length-unmapped _ (d .live) 8 (arrays .0 .1 .0 .1) in
     let passed = join-facts d m (a .card) (first .join .ensures) (c .before .if1 .left) in
-    let fit = fitting (passed .runs .fits) in
+    let fit = valid-rack (passed .runs .fits) in
     (rack-in d m fit marks, (fit .some, passed .below))
 
 returns-2 : tie.Need-returns-2

@@ -5,7 +5,7 @@ use borrow.Author.Needs.{needs, length-unmapped}
 use lib.ListN.{length}
 use Rattle.protocol.specs.Release.{sizeOf}
 use Rattle.release.proofs.Callers.{card-in, step-by-homes}
-use Rattle.rack.proofs.Fitting.{homes-in, fitting}
+use Rattle.rack.proofs.ValidRack.{homes-in, valid-rack}
 use Rattle.rack.proofs.Results.{step-facts, step-refused, step-accepted}
 use Rattle.rack.proofs.make_step.Statement.{statement}
 use Rattle.rack.proofs.make_step.Tie as tie
@@ -34,7 +34,7 @@ step-release-requires c κs =
     let primaries : length (d .primary) ≡ 64 = length-unmapped _ (d .primary) 64 (arrays .1 .0 .1 .0 .1) in
     let secondaries : length (d .secondary) ≡ 64 = length-unmapped _ (d .secondary) 64 (arrays .1 .1 .0 .1 .0 .1) in
     let passed = step-facts d m (a .card) (first .step .ensures) (test .if1 .left) in
-    let fit = fitting (passed .runs .fits) in
+    let fit = valid-rack (passed .runs .fits) in
     let within = fit .within in
     let next = next-at .backup in
     let below : next .result < d .cards = rw (next .ensures) (fit .next-below (a .card)) in

@@ -6,7 +6,7 @@ use lib.ListN.{length}
 use Rattle.memory.proofs.Index.{area-in}
 use Rattle.diff.proofs.OnlyDiff.{allowed-few}
 use Rattle.protocol.specs.Release.{releaseOf}
-use Rattle.rack.proofs.Fitting.{fitting}
+use Rattle.rack.proofs.ValidRack.{valid-rack}
 use Rattle.rack.proofs.Results.{opening-facts, opening-refused, opening-accepted}
 use Rattle.rack.proofs.open_release.Statement.{statement}
 use Rattle.rack.proofs.open_release.Tie as tie
@@ -32,7 +32,7 @@ area-size-requires c κs =
     let m = a .memory .now in
     let r = releaseOf (a .number) (a .t5) in
     let passed = opening-facts d m (a .card) r (a .list .now) (first .opening-refusal .ensures) (c .if1 .left) in
-    omega (arith, fitting (passed .runs .fits) .within .pages-most)
+    omega (arith, valid-rack (passed .runs .fits) .within .pages-most)
 
 open-release-requires : tie.Need-open-release-requires
 open-release-requires c κs =
@@ -45,7 +45,7 @@ open-release-requires c κs =
     let m = a .memory .now in
     let r = releaseOf (a .number) (a .t5) in
     let passed = opening-facts d m (a .card) r (a .list .now) (first .opening-refusal .ensures) (test .if1 .left) in
-    let area = area-in _ (passed .below) (fitting (passed .runs .fits) .within .whole) in
+    let area = area-in _ (passed .below) (valid-rack (passed .runs .fits) .within .whole) in
     let few = allowed-few (d .pages) (a .list .now) (passed .allowed) in
     let good = start .good .1 .1 .1 .1 .0 in
     let eight : length (a .t5) ≡ 8 = search (good, needs) in

@@ -6,7 +6,7 @@ use borrow.Author.Tests.{ne-eqb}
 use lib.ListN.{length}
 use Rattle.answer.specs.declared.Answer.the-variants.{Given}
 use Rattle.recovery.proofs.Recovering.{failed-by-rack, memory-by-rack, directory-by-rack}
-use Rattle.rack.proofs.Fitting.{fitting, rack-in, homes-in}
+use Rattle.rack.proofs.ValidRack.{valid-rack, rack-in, homes-in}
 use Rattle.rack.proofs.Results.{recovery-facts, recovery-refused, recovery-accepted}
 use Rattle.rack.proofs.recover_card.Statement.{statement}
 use Rattle.rack.proofs.recover_card.Tie as tie
@@ -35,7 +35,7 @@ recover-memory-requires c κs =
     let primaries : length (d .primary) ≡ 64 = length-unmapped _ (d .primary) 64 (arrays .1 .0 .1 .0 .1) in
     let secondaries : length (d .secondary) ≡ 64 = length-unmapped _ (d .secondary) 64 (arrays .1 .1 .0 .1 .0 .1) in
     let passed = recovery-facts d m (first .recovery .ensures) (test .if1 .left) in
-    let fit = fitting (passed .0) in
+    let fit = valid-rack (passed .0) in
     let below = rw (← awaiting .awaited-card .ensures) at (fit .awaited (passed .1)) in
     let eight = fit .within .cards-most in
     let homes = homes-in d m fit marks primaries secondaries in
@@ -51,11 +51,11 @@ returns-2 c =
     let d = a .directory in
     let m = a .memory .now in
     let done = rw (awaiting .awaited-card .ensures) at (recovering .recover-memory .ensures) in
-    let told = rw (failed-by-rack d _ m) at (done .0) in
+    let answer-outcome = rw (failed-by-rack d _ m) at (done .0) in
     let desk = rw (failed-by-rack d _ m) at (done .1 .0) in
     let recovered = c .rack-of .ensures ∙ done .1 .1 .1 ∙ directory-by-rack d _ in
     rw (recovery-accepted d m (first .recovery .ensures) (test .if1 .left))
-    (ap Given told, (recovered, (desk, done .1 .1 .0 ∙ memory-by-rack d _ m)))
+    (ap Given answer-outcome, (recovered, (desk, done .1 .1 .0 ∙ memory-by-rack d _ m)))
 
 pub recover-card-spec : {M : Type 1} → statement M
 recover-card-spec =

@@ -7,9 +7,9 @@ use lib.ListN.{length}
 use lib.Seq.{sets}
 use borrow.Author.Needs.{needs}
 use Rattle.diff.specs.Prices.{labelOf, pricesOf}
-use Rattle.reader.specs.Steady.{Steady}
+use Rattle.reader.specs.WellFormed.{WellFormed}
 use Rattle.reader.specs.Listed.{priceOf}
-use Rattle.reader.proofs.Keeping.{Idle, word-passed, passed-steady}
+use Rattle.reader.proofs.Keeping.{Idle, word-passed, passed-well-formed}
 use Rattle.reader.proofs.Listing.{listLeft, list-first, list-end, list-due, list-next, list-over}
 use Rattle.reader.proofs.Listing.{countLeft, count-first, count-end, count-due, count-next, count-over}
 use Rattle.reader.proofs.list_prices.Statement.{statement}
@@ -17,7 +17,7 @@ use Rattle.reader.proofs.list_prices.Tie as tie
 
 abbrev Inv-loop : tie.InvT-loop
 Inv-loop list pages labels₀ prices₀ s₀ index₀ labels prices s index =
-    (index ≤ length list) × Steady s × (s .prices ≤ index) × (s .next ≤ pages)
+    (index ≤ length list) × WellFormed s × (s .prices ≤ index) × (s .next ≤ pages)
     × (length labels ≡ length labels₀) × (length prices ≡ length prices₀)
     × (listLeft labelOf pages list index s labels ≡ sets labels₀ 0 (map labelOf (pricesOf pages list)))
     × (listLeft priceOf pages list index s prices ≡ sets prices₀ 0 (map priceOf (pricesOf pages list)))
@@ -55,7 +55,7 @@ loop-again-2 c =
     let free : Idle (at .s) = record { idle = omega arith; inside = omega arith; one = at .inv .1 .one } in
     let passed = word-passed _ _ _ _ free _ does in (
       search needs,
-      passed-steady _ _ passed (omega arith),
+      passed-well-formed _ _ passed (omega arith),
       omega arith,
       passed .on (at .inv .3),
       at .inv .4,

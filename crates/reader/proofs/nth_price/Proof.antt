@@ -7,7 +7,7 @@ use lib.ListN.{length, drop}
 use borrow.Author.Needs.{needs}
 use Rattle.diff.specs.Prices.{pricesFrom, pricesOf}
 use Rattle.reader.specs.Found.{nthPrice}
-use Rattle.reader.proofs.Keeping.{Idle, word-passed, passed-steady, passed-idle}
+use Rattle.reader.proofs.Keeping.{Idle, word-passed, passed-well-formed, passed-idle}
 use Rattle.reader.proofs.Turns.{prices-end, nth-none}
 use Rattle.reader.proofs.Runs.{nth-run, nth-in-run, nth-over}
 use Rattle.reader.proofs.nth_price.Statement.{statement}
@@ -33,7 +33,7 @@ nth-due-requires c κs =
     let at = arm .before .before .before .before .before .loop in
     let does = sym (arm .t .given .1) ∙ arm .before .before .read-word .ensures in
     let passed = word-passed _ _ _ _ (at .inv .0) _ does in (
-      passed-steady _ _ passed (omega arith),
+      passed-well-formed _ _ passed (omega arith),
       omega arith,
     )
 
@@ -51,7 +51,7 @@ run-read-requires c κs =
     let at = arm .before .before .before .before .before .loop in
     let does = sym (arm .t .given .1) ∙ arm .before .before .read-word .ensures in
     let passed = word-passed _ _ _ _ (at .inv .0) _ does in
-    passed-steady _ _ passed (omega arith)
+    passed-well-formed _ _ passed (omega arith)
 
 loop-again : tie.Need-loop-again Inv-loop μ-loop
 loop-again c =

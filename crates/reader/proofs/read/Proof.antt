@@ -6,7 +6,7 @@ use native.Mathlib.Omega.{arith}
 use lib.ListN.{length, drop}
 use borrow.Author.Needs.{needs}
 use Rattle.diff.specs.Reading.{readFrom, readDiff}
-use Rattle.reader.proofs.Keeping.{Idle, word-passed, passed-steady, passed-idle}
+use Rattle.reader.proofs.Keeping.{Idle, word-passed, passed-well-formed, passed-idle}
 use Rattle.reader.proofs.Turns.{read-turn}
 use Rattle.reader.proofs.Runs.{read-run, read-run-cut, read-over}
 use Rattle.reader.proofs.read.Statement.{statement}
@@ -36,7 +36,7 @@ run-read-requires c κs =
     let at = arm .before .before .before .before .before .loop in
     let does = sym (arm .t .given .1) ∙ arm .before .before .read-word .ensures in
     let passed = word-passed _ _ _ _ (at .inv .2) _ does in
-    passed-steady _ _ passed (omega arith)
+    passed-well-formed _ _ passed (omega arith)
 
 loop-again : tie.Need-loop-again Inv-loop μ-loop
 loop-again c =

@@ -8,11 +8,11 @@ use Rattle.directory.specs.Directory.{nextLive}
 use Rattle.directory.proofs.Live.{next-live-below}
 use Rattle.protocol.specs.Recovery.{keptHome}
 use Rattle.release.specs.Stepping.{CardIn, HomesIn}
-use Rattle.recovery.specs.Rack.{RackIn, SomeLive, pagesOf}
+use Rattle.recovery.specs.Rack.{RackIn, SomeLive, homesOnly}
 
 pub kept-in : {live : List Bool} {pages words : ℕ} {primary secondary : List ℕ} (failed : ℕ) {page : ℕ}
     → HomesIn live pages primary secondary words → page < pages
-    → CardIn live words (areaSize pages) (keptHome (pagesOf primary secondary) failed page)
+    → CardIn live words (areaSize pages) (keptHome (homesOnly primary secondary) failed page)
 unfolding keptHome
 kept-in {live} {pages} {words} {primary} failed {page} homes below =
     by-cond (CardIn live words (areaSize pages)) (eqb (getD primary page 0) failed) _ _

@@ -9,7 +9,7 @@ use Rattle.directory.specs.declared.Directory.{Directory}
 use Rattle.directory.specs.declared.Status.the-variants.{Running}
 use Rattle.directory.specs.Directory.{primaryOf, secondaryOf, withStatus}
 use Rattle.protocol.specs.Recovery.{lostHome, keptHome, newHome, copyToNewHome, moveHome, recoveredDirectory}
-use Rattle.recovery.specs.Rack.{pagesOf, rackOf}
+use Rattle.recovery.specs.Rack.{homesOnly, rackOf}
 use Rattle.recovery.proofs.Turns.{Turned, turn-none, turn-more}
 
 -- a directory as far as recovery looks at it, all but its status: with these homes, or its own
@@ -86,7 +86,7 @@ module _ {d : Directory} {f : ℕ} {before : List ℕ} {i : ℕ} {m primary seco
         ap (λ (e : Directory). secondaryOf e i) (far .homes) ∙ stand .1,
       )
 
-  pub same-kept : keptHome (pagesOf primary secondary) f i ≡ keptHome (pagesOf (d .primary) (d .secondary)) f i
+  pub same-kept : keptHome (homesOnly primary secondary) f i ≡ keptHome (homesOnly (d .primary) (d .secondary)) f i
   unfolding keptHome
   same-kept = rw (same-homes .0, same-homes .1)
 

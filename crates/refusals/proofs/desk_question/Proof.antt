@@ -6,7 +6,7 @@ use Rattle.refusals.proofs.desk_question.Statement.{statement}
 use Rattle.refusals.proofs.desk_question.Tie as tie
 
 returns : tie.Need-returns
-returns c = rw (by-number _ refl (c .before .card .ensures)) (c .refused .ensures)
+returns c = rw (by-number _ refl (c .before .card-refusal .ensures)) (c .refused .ensures)
 
 pub desk-question-spec : {M : Type 1} → statement M
 desk-question-spec = tie.close (tie.spec (λ c κs. search needs) (λ c κs. search needs) returns)

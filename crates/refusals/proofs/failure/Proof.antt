@@ -11,7 +11,7 @@ use Rattle.refusals.proofs.failure.Tie as tie
 returns : tie.Need-returns
 returns c =
     let test = c .before in
-    rw (refused-before _ _ _ refl (test .before .live-card .ensures) (test .if1 .taken)) (c .refused .ensures)
+    rw (refused-before _ _ _ refl (test .before .live-card-refusal .ensures) (test .if1 .taken)) (c .refused .ensures)
 
 count-live-requires : tie.Need-count-live-requires
 count-live-requires c κs =
@@ -19,13 +19,13 @@ count-live-requires c κs =
     let a = start .args in
     let d = directoryOf (a .cards) (a .pages) (a .live .now) (a .primary .now) (a .secondary .now) (a .status) in
     let arrays = start .pre in
-    let card = live-card-within d (a .memory .now) (a .card) (c .before .live-card .ensures) (c .if1 .left) in
+    let card = live-card-within d (a .memory .now) (a .card) (c .before .live-card-refusal .ensures) (c .if1 .left) in
     omega (arith, card .0 .cards-most)
 
 returns-2 : tie.Need-returns-2
 returns-2 c =
     let test = c .before .before in
-    rw (passed-before _ _ _ refl (test .before .live-card .ensures) (test .if1 .left))
+    rw (passed-before _ _ _ refl (test .before .live-card-refusal .ensures) (test .if1 .left))
     (rw (c .before .count-live .ensures) at (c .last-check .ensures))
 
 pub failure-spec : {M : Type 1} → statement M

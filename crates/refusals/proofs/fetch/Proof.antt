@@ -12,13 +12,13 @@ use Rattle.refusals.proofs.fetch.Tie as tie
 returns : tie.Need-returns
 returns c =
     let test = c .before in
-    rw (refused-before _ _ _ refl (test .before .running .ensures) (test .if1 .taken)) (c .refused .ensures)
+    rw (refused-before _ _ _ refl (test .before .running-refusal .ensures) (test .if1 .taken)) (c .refused .ensures)
 
 returns-2 : tie.Need-returns-2
 returns-2 c =
     let test = c .before .before in
     rw (
-      passed-before _ _ _ refl (test .before .running .ensures) (test .if1 .left),
+      passed-before _ _ _ refl (test .before .running-refusal .ensures) (test .if1 .left),
       first-refuses _ _ _ _ _ (le-leb _ _ (c .before .if2 .taken)),
     )
     (c .refused2 .ensures)
@@ -30,7 +30,7 @@ lowest-in-motion-requires c κs =
     let a = start .args in
     let d = directoryOf (a .cards) (a .pages) (a .live .now) (a .primary .now) (a .secondary .now) (a .status) in
     let arrays = start .pre in
-    let within = running-within d (a .memory .now) (test .before .running .ensures) (test .if1 .left) in
+    let within = running-within d (a .memory .now) (test .before .running-refusal .ensures) (test .if1 .left) in
     ((within .pages-most, within .whole), omega arith)
 
 returns-3 : tie.Need-returns-3
@@ -40,7 +40,7 @@ returns-3 c =
     let test = test-2 .before in
     let found = searched .lowest-in-motion .ensures in
     rw (
-      passed-before _ _ _ refl (test .before .running .ensures) (test .if1 .left),
+      passed-before _ _ _ refl (test .before .running-refusal .ensures) (test .if1 .left),
       first-passes _ _ _ _ _ (lt-leb _ _ (test-2 .if2 .left)),
       first-refuses _ _ _ _ _ (rw found at (lt-ltb _ _ (c .before .if3 .taken))),
     )
@@ -53,7 +53,7 @@ returns-4 c =
     let test-2 = searched .before in
     let test = test-2 .before in
     rw (
-      passed-before _ _ _ refl (test .before .running .ensures) (test .if1 .left),
+      passed-before _ _ _ refl (test .before .running-refusal .ensures) (test .if1 .left),
       first-passes _ _ _ _ _ (lt-leb _ _ (test-2 .if2 .left)),
       first-passes _ _ _ _ _ (rw (searched .lowest-in-motion .ensures) at (le-ltb _ _ (test-3 .if3 .left))),
     )

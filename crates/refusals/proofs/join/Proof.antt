@@ -11,7 +11,7 @@ use Rattle.refusals.proofs.join.Tie as tie
 returns : tie.Need-returns
 returns c =
     let test = c .before in
-    rw (refused-before _ _ _ refl (test .before .card .ensures) (test .if1 .taken)) (c .refused .ensures)
+    rw (refused-before _ _ _ refl (test .before .card-refusal .ensures) (test .if1 .taken)) (c .refused .ensures)
 
 mark-read : tie.Need-shared-slice-read-if2
 mark-read c =
@@ -20,14 +20,14 @@ mark-read c =
     let a = start .args in
     let d = directoryOf (a .cards) (a .pages) (a .live .now) (a .primary .now) (a .secondary .now) (a .status) in
     let arrays = start .pre in
-    let card = card-within d (a .memory .now) (a .card) (test .before .card .ensures) (test .if1 .left) in
+    let card = card-within d (a .memory .now) (a .card) (test .before .card-refusal .ensures) (test .if1 .left) in
     omega (arith, card .0 .cards-most, card .1)
 
 returns-2 : tie.Need-returns-2
 returns-2 c =
     let test = c .before .before .before in
     rw (
-      passed-before _ _ _ refl (test .before .card .ensures) (test .if1 .left),
+      passed-before _ _ _ refl (test .before .card-refusal .ensures) (test .if1 .left),
       first-refuses _ _ _ _ _ (c .before .if2 .taken),
     )
     (c .refused2 .ensures)
@@ -39,7 +39,7 @@ any-open-requires c κs =
     let a = start .args in
     let d = directoryOf (a .cards) (a .pages) (a .live .now) (a .primary .now) (a .secondary .now) (a .status) in
     let arrays = start .pre in
-    let within = card-within d (a .memory .now) (a .card) (test .before .card .ensures) (test .if1 .left) .0 in
+    let within = card-within d (a .memory .now) (a .card) (test .before .card-refusal .ensures) (test .if1 .left) .0 in
     ((within .pages-most, within .whole), omega arith)
 
 returns-3 : tie.Need-returns-3
@@ -47,7 +47,7 @@ returns-3 c =
     let test-2 = c .before .before in
     let test = test-2 .before .before in
     rw (
-      passed-before _ _ _ refl (test .before .card .ensures) (test .if1 .left),
+      passed-before _ _ _ refl (test .before .card-refusal .ensures) (test .if1 .left),
       first-passes _ _ _ _ _ (test-2 .if2 .left),
     )
     (rw (c .before .any-open .ensures) at (c .last-check .ensures))

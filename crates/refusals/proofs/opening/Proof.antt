@@ -11,7 +11,7 @@ use Rattle.refusals.proofs.opening.Tie as tie
 returns : tie.Need-returns
 returns c =
     let test = c .before in
-    rw (refused-before _ _ _ refl (test .before .live-card .ensures) (test .if1 .taken)) (c .refused .ensures)
+    rw (refused-before _ _ _ refl (test .before .live-card-refusal .ensures) (test .if1 .taken)) (c .refused .ensures)
 
 number-refusal-requires : tie.Need-number-refusal-requires
 number-refusal-requires c κs =
@@ -19,14 +19,15 @@ number-refusal-requires c κs =
     let a = start .args in
     let d = directoryOf (a .cards) (a .pages) (a .live .now) (a .primary .now) (a .secondary .now) (a .status) in
     let arrays = start .pre in
-    let card = live-card-within d (a .memory .now) (a .card) (c .before .live-card .ensures) (c .if1 .left) in
+    let card = live-card-within d (a .memory .now) (a .card) (c .before .live-card-refusal .ensures) (c .if1 .left) in
     let within = card .0 in
     ((within .pages-most, within .whole), (omega arith, card .1))
 
 returns-2 : tie.Need-returns-2
 returns-2 c =
     let test = c .before in
-    rw (passed-before _ _ _ refl (test .before .live-card .ensures) (test .if1 .left)) (c .number-refusal .ensures)
+    rw (passed-before _ _ _ refl (test .before .live-card-refusal .ensures) (test .if1 .left))
+    (c .number-refusal .ensures)
 
 pub opening-spec : {M : Type 1} → statement M
 opening-spec =

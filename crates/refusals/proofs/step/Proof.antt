@@ -12,14 +12,14 @@ use Rattle.refusals.proofs.step.Tie as tie
 returns : tie.Need-returns
 returns c =
     let test = c .before in
-    rw (refused-before _ _ _ refl (test .before .live-card .ensures) (test .if1 .taken)) (c .refused .ensures)
+    rw (refused-before _ _ _ refl (test .before .live-card-refusal .ensures) (test .if1 .taken)) (c .refused .ensures)
 
 area-size-requires : tie.Need-area-size-requires
 area-size-requires c κs =
     let start = c .before .before .before .before .before .before in
     let a = start .args in
     let d = directoryOf (a .cards) (a .pages) (a .live .now) (a .primary .now) (a .secondary .now) (a .status) in
-    let card = live-card-within d (a .memory .now) (a .card) (c .before .live-card .ensures) (c .if1 .left) in
+    let card = live-card-within d (a .memory .now) (a .card) (c .before .live-card-refusal .ensures) (c .if1 .left) in
     omega (arith, card .0 .pages-most)
 
 is-open-requires : tie.Need-is-open-requires
@@ -29,7 +29,8 @@ is-open-requires c κs =
     let a = start .args in
     let d = directoryOf (a .cards) (a .pages) (a .live .now) (a .primary .now) (a .secondary .now) (a .status) in
     let arrays = start .pre in
-    let card = live-card-within d (a .memory .now) (a .card) (test .before .live-card .ensures) (test .if1 .left) in
+    let card = live-card-within d (a .memory .now) (a .card) (test .before .live-card-refusal .ensures)
+    (test .if1 .left) in
     let within = card .0 in
     rw (c .area-size .ensures) ((omega arith, area-in _ (card .1) (within .whole)), omega (arith, card .1))
 
@@ -39,7 +40,7 @@ returns-2 c =
     let test = sized .before in
     let is = rw (sized .area-size .ensures) at (c .before .is-open .ensures) in
     let last = rw is at (c .last-check .ensures) in
-    rw (passed-before _ _ _ refl (test .before .live-card .ensures) (test .if1 .left)) last
+    rw (passed-before _ _ _ refl (test .before .live-card-refusal .ensures) (test .if1 .left)) last
 
 pub step-spec : {M : Type 1} → statement M
 step-spec =
