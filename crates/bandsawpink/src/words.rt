@@ -1,7 +1,6 @@
 // The directory as words, which is how it crosses to C: cards, pages, the awaited card, 8 marks, 64
 // primary homes, 64 secondary homes. Any words are a directory.
 ghost use Rattle.laws.specs.Prelude.{_≡_, _+_, _≤_, length, take, drop};
-ghost use lib.Seq.{sets};
 ghost use Rattle.bandsawpink.specs.Words.{statusIn, marksIn, directoryIn, awaitedWord};
 ghost use Rattle.bandsawpink.specs.Words.{headOf, wordsOf};
 use directory::Directory;
@@ -95,14 +94,6 @@ fn head_of(directory: Directory) -> [u32; 11]
     ]
 }
 
-fn store_part(words: &mut [u32], start: usize, part: &[u32])
-    requires { ⌜ start + length (now part) ≤ length (now words) ⌝ }
-    ensures { λ _. ⌜ now (words .exit) ≡ sets (now (words .entry)) start (now (part .entry)) ⌝ }
-{
-    let end = start + part.len();
-    memory::copy_words(part, &mut words[start..end]);
-}
-
 pub fn write_directory(words: &mut [u32], directory: Directory)
     requires { ⌜ length (now words) ≡ 139 ⌝ }
     ensures { λ _. ⌜ now (words .exit) ≡ wordsOf directory ⌝ }
@@ -110,7 +101,7 @@ pub fn write_directory(words: &mut [u32], directory: Directory)
     let head = head_of(directory);
     let primary = directory.primary;
     let secondary = directory.secondary;
-    store_part(words, 0, &head);
-    store_part(words, 11, &primary);
-    store_part(words, 75, &secondary);
+    memory::store_run_in(words, 0, &head);
+    memory::store_run_in(words, 11, &primary);
+    memory::store_run_in(words, 75, &secondary);
 }

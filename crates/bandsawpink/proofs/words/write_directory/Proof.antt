@@ -9,25 +9,25 @@ use Rattle.bandsawpink.proofs.Stored.{parts-stored, head-length}
 use Rattle.bandsawpink.proofs.words.write_directory.Statement.{statement}
 use Rattle.bandsawpink.proofs.words.write_directory.Tie as tie
 
-store-part-requires-2 : tie.Need-store-part-requires-2
-store-part-requires-2 c κs =
+store-run-in-requires-2 : tie.Need-store-run-in-requires-2
+store-run-in-requires-2 c κs =
     let start = c .before .before .before .before .before .before .before .before .before .before .before in
     let d = start .args .directory in
     let arrays = start .good .1 .0 .1 .1 .1 .1 in
     let homes : length (d .primary) ≡ 64 = length-unmapped _ (d .primary) 64 (arrays .1 .0 .1 .0 .1) in
-    let kept = simp length-sets at (ap length (c .before .before .before .before .store-part .ensures)) in
+    let kept = simp length-sets at (ap length (c .before .before .before .before .store-run-in .ensures)) in
     omega (arith, kept)
 
-store-part-requires-3 : tie.Need-store-part-requires-3
-store-part-requires-3 c κs =
+store-run-in-requires-3 : tie.Need-store-run-in-requires-3
+store-run-in-requires-3 c κs =
     let second = c .before .before .before .before in
     let first = second .before .before .before .before .before in
     let start = first .before .before .before .before .before .before .before in
     let d = start .args .directory in
     let arrays = start .good .1 .0 .1 .1 .1 .1 in
     let homes : length (d .secondary) ≡ 64 = length-unmapped _ (d .secondary) 64 (arrays .1 .1 .0 .1 .0 .1) in
-    let kept = simp length-sets at (ap length (first .store-part .ensures)) in
-    let kept-again = simp length-sets at (ap length (second .store-part2 .ensures)) in
+    let kept = simp length-sets at (ap length (first .store-run-in .ensures)) in
+    let kept-again = simp length-sets at (ap length (second .store-run-in2 .ensures)) in
     omega (arith, kept, kept-again)
 
 returns : tie.Need-returns
@@ -42,7 +42,7 @@ returns c =
     let arrays = start .good .1 .0 .1 .1 .1 .1 in
     let primaries : length (d .primary) ≡ 64 = length-unmapped _ (d .primary) 64 (arrays .1 .0 .1 .0 .1) in
     let secondaries : length (d .secondary) ≡ 64 = length-unmapped _ (d .secondary) 64 (arrays .1 .1 .0 .1 .0 .1) in
-    rw (third .store-part3 .ensures, second .store-part2 .ensures, first .store-part .ensures, made .head-of .ensures)
+    rw (third .store-run-in3 .ensures, second .store-run-in2 .ensures, first .store-run-in .ensures, made .head-of .ensures)
     (parts-stored (start .args .words .now) (headOf d) (d .primary) (d .secondary) (start .pre) (head-length d)
     primaries secondaries)
 
@@ -50,4 +50,4 @@ pub write-directory-spec : {M : Type 1} → statement M
 write-directory-spec =
     tie.close
     (tie.spec (λ c κs. search needs) (λ c. search needs) (λ c κs. search needs) (λ c. search needs)
-    store-part-requires-2 (λ c. search needs) store-part-requires-3 (λ c. search needs) returns)
+    store-run-in-requires-2 (λ c. search needs) store-run-in-requires-3 (λ c. search needs) returns)
