@@ -11,7 +11,7 @@ use Rattle.directory.specs.declared.Directory.{Directory}
 use Rattle.directory.specs.Directory.{liveAt, backupOf}
 use Rattle.protocol.specs.Release.{sizeOf, isOpen, openPrices, stepsOf, stepMemory}
 use Rattle.protocol.specs.Checks.{badRelease, badCard, unfitRack}
-use Rattle.protocol.proofs.checks.Passed.{Runs, StepPassed}
+use Rattle.protocol.proofs.checks.ByCall.{Runs, StepPassed}
 use Rattle.protocol.proofs.release.Shape.{SameOwn, SameRelease, same-own-release, list-kept, is-open-kept, steps-kept}
 use Rattle.protocol.proofs.release.Close.{close-word-9, close-not-open}
 use Rattle.release.specs.Stepping.{GoodRelease, leftOf}

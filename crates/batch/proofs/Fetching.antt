@@ -12,8 +12,8 @@ use Rattle.memory.specs.Layout.{pageSize}
 use Rattle.directory.specs.declared.Directory.{Directory}
 use Rattle.protocol.specs.Checks.{firstRefusal, awaitsRecovery}
 use Rattle.protocol.specs.Fetch.{inMotion, fetchChecks, committedPage}
-use Rattle.protocol.proofs.checks.Passed.{Runs, desk-passed}
-use Rattle.protocol.proofs.checks.Order.{all-passed}
+use Rattle.protocol.proofs.checks.ByCall.{Runs, desk-passed}
+use Rattle.protocol.proofs.checks.Outcome.{all-passed}
 use Rattle.protocol.proofs.checks.Limits.{within-limits}
 use Rattle.checks.proofs.Order.{by-number}
 use Rattle.conflict.proofs.InMotion.{motion-marked}

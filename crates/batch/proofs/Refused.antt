@@ -7,10 +7,9 @@ use Rattle.directory.specs.declared.Directory.{Directory}
 use Rattle.protocol.specs.Checks.{firstRefusal}
 use Rattle.protocol.specs.Result.{Result, accepted}
 use Rattle.protocol.specs.Step.{step, stepChecks}
-use Rattle.protocol.specs.Book.{make-step}
+use Rattle.protocol.specs.Calls.{make-step, perform}
 use Rattle.protocol.specs.Demand1.{isAmong}
-use Rattle.protocol.specs.Demand3.{perform}
-use Rattle.protocol.proofs.checks.Order.{among}
+use Rattle.protocol.proofs.checks.Outcome.{among}
 use Rattle.protocol.proofs.calls.Refused.{refused-unchanged}
 use Rattle.batch.specs.Steps.{Stepped, stepsFrom, steps, steppedTo}
 use Rattle.batch.specs.FetchAll.{fetchAllChecks, fetchAll}

@@ -11,7 +11,7 @@ use Rattle.protocol.specs.Release.{sizeOf, isOpen, stepMemory}
 use Rattle.protocol.specs.Checks.{firstRefusal, awaitsRecovery}
 use Rattle.protocol.specs.Step.{stepChecks}
 use Rattle.protocol.specs.Recovery.{stepTimes}
-use Rattle.protocol.proofs.checks.Passed.{Runs, StepPassed}
+use Rattle.protocol.proofs.checks.ByCall.{Runs, StepPassed}
 use Rattle.release.specs.Stepping.{leftOf}
 use Rattle.rack.proofs.Results.{step-refused, step-accepted}
 use Rattle.batch.specs.Steps.{stepsFrom, steps, steppedTo, stoppedAt}

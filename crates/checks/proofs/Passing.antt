@@ -3,7 +3,7 @@ use Rattle.laws.proofs.Prelude.{ℕ, _<_, _≡_, refl, sym, _∙_, List, true, 
 use Rattle.laws.proofs.Bools.{neither}
 use Rattle.directory.specs.declared.Directory.{Directory}
 use Rattle.protocol.specs.Checks.{Check, firstRefusal, runningChecks, cardChecks, liveCardChecks}
-use Rattle.protocol.proofs.checks.Order.{Passed, numbered, all-passed}
+use Rattle.protocol.proofs.checks.Outcome.{Passed, numbered, all-passed}
 use Rattle.protocol.proofs.checks.Limits.{Within, within-limits}
 
 -- checks that come to 0 have all passed

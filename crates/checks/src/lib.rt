@@ -289,7 +289,7 @@ fn unfit_rack(
 // ---- the checks in order
 
 // Refusal 1 or 2, or 0 where the two fit.
-pub fn fit_refusal(
+pub fn fitting_refusal(
     memory: &[u32],
     cards: u32,
     pages: u32,
@@ -335,7 +335,7 @@ pub fn running_refusal(
         (now (memory .entry)))
         0 .number ⌝ }
 {
-    let unfit = fit_refusal(memory, cards, pages, live, primary, secondary, status);
+    let unfit = fitting_refusal(memory, cards, pages, live, primary, secondary, status);
     if unfit != 0 {
         return unfit;
     }

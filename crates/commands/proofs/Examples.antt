@@ -13,16 +13,14 @@ use Rattle.protocol.specs.Release.{stepMemory}
 use Rattle.protocol.specs.Record.{recordedRelease, underWay, settledRecord, writeRecord, writeOwnRecord}
 use Rattle.protocol.specs.Checks.{firstRefusal, outsideLimits, fewLive, badHome, badPage, badStatus, badRelease}
 use Rattle.protocol.specs.Checks.{badCard, unfitRack, awaitsRecovery}
-use Rattle.protocol.specs.Formatting.{formatting}
-use Rattle.protocol.specs.Opening.{shareWord, sharesWith, openMemory, opening}
-use Rattle.protocol.specs.Step.{step}
-use Rattle.protocol.specs.Fetch.{namesPage, inMotion, committedPage, fetch}
-use Rattle.protocol.specs.Failure.{failure}
+use Rattle.protocol.specs.Calls.{formatting, opening, step, fetch, failure, recovery, join}
+use Rattle.protocol.specs.Opening.{shareWord, sharesWith, openMemory}
+use Rattle.protocol.specs.Fetch.{namesPage, inMotion, committedPage}
 use Rattle.protocol.specs.Recovery.{stepTimes, runToClose, closeReleases, restoreHome, restorePage, restorePages}
 use Rattle.protocol.specs.Recovery.{lostHome, keptHome, newHome, copyToNewHome, copyToNewHomes, moveHome}
 use Rattle.protocol.specs.Recovery.{recoveredDirectory, writeFailed, writeRecords, failedRelease, restoredMemory}
-use Rattle.protocol.specs.Recovery.{recoveredMemory, awaitedCard, recovery}
-use Rattle.protocol.specs.Join.{resetArea, copyDeadRecord, joinedMemory, join}
+use Rattle.protocol.specs.Recovery.{recoveredMemory, awaitedCard}
+use Rattle.protocol.specs.Join.{resetArea, copyDeadRecord, joinedMemory}
 use Rattle.batch.specs.Steps.{stepsFrom}
 use Rattle.commands.specs.Execute.{openOne, makeSteps, failAndRecover, fetchWord, execute}
 use Rattle.commands.specs.Examples.{newRack, next, shownBy, examples}

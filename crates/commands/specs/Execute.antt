@@ -10,11 +10,7 @@ use Rattle.directory.specs.declared.Directory.{Directory}
 use Rattle.diff.specs.Format.{pageWord, runWord, endWord}
 use Rattle.protocol.specs.Release.{releaseOf}
 use Rattle.protocol.specs.Result.{Result, accepted}
-use Rattle.protocol.specs.Opening.{opening}
-use Rattle.protocol.specs.Fetch.{fetch}
-use Rattle.protocol.specs.Failure.{failure}
-use Rattle.protocol.specs.Recovery.{recovery}
-use Rattle.protocol.specs.Join.{join}
+use Rattle.protocol.specs.Calls.{opening, fetch, failure, recovery, join}
 use Rattle.batch.specs.Steps.{Stepped, steps}
 use Rattle.lines.specs.declared.Command.{Command}
 use Rattle.lines.specs.declared.Command.the-variants.{Open, Step, Fail, Join, Fetch, Unreadable}

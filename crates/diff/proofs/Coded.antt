@@ -8,8 +8,7 @@ use Rattle.diff.specs.Making.{runLength, encodeFrom}
 use Rattle.diff.proofs.Derivation.{Reads, reads-end, reads-page, reads-run, reads-price}
 use Rattle.diff.proofs.Encoding.{Ascending, none, more, follows-yes, follows-no-page, follows-no-word}
 use Rattle.diff.proofs.Encoding.{run-goes-on, run-stops, run-last, run-header-page, run-header-run}
-use Rattle.diff.proofs.Encoding.{run-header-none}
-use Rattle.diff.proofs.Encoding.{encode-none, encode-price}
+use Rattle.diff.proofs.Encoding.{run-header-none, encode-none, encode-price}
 
 -- the words of prices after the label `next`, and the end word that names the index `last`
 abbrev pub coded : ℕ → ℕ → List Price → List ℕ

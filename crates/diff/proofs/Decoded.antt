@@ -8,8 +8,7 @@ use Rattle.diff.specs.Making.{follows, runLength, encodeFrom}
 use Rattle.diff.proofs.Derivation.{Reads, reads-end, reads-page, reads-run, reads-price}
 use Rattle.diff.proofs.Encoding.{Ascending, none, more, follows-yes, follows-page, follows-word, run-goes-on}
 use Rattle.diff.proofs.Encoding.{run-stops, run-last, run-header-page, run-header-run, run-header-none}
-use Rattle.diff.proofs.Encoding.{encode-none}
-use Rattle.diff.proofs.Encoding.{encode-price}
+use Rattle.diff.proofs.Encoding.{encode-none, encode-price}
 use Rattle.diff.proofs.Coded.{coded}
 
 -- a run is of one price or more, and ends within its page

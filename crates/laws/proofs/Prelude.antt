@@ -1,5 +1,4 @@
--- What nearly every proof is written in: the words of definitions, and beside them equations, cases, decisions, tests
--- and arithmetic.
+-- The prelude of proofs: that of definitions, and beside it equations, cases, decisions, tests and arithmetic.
 pub use Rattle.laws.specs.Prelude.{ℕ, zero, suc, _+_, _-_, _*_, _/_, _%_, _^_, _<_, _≤_, _≡_, _≢_, _⊎_, List, []}
 pub use Rattle.laws.specs.Prelude.{_∷_, _++_, Bool, true, false, cond, not, _&&_, _||_, length, getD, set, take}
 pub use Rattle.laws.specs.Prelude.{drop, replicate, eqb, ltb, leb}

@@ -1,5 +1,5 @@
--- What nearly every file is written in, passed on from the libraries so that one line brings it: numbers, equality,
--- lists and truth values.
+-- The prelude of definitions, passed on from the libraries so that one line brings it: numbers, equality, lists and
+-- truth values.
 pub use Prim.Native.Nat.{ℕ, zero, suc, _+_, _-_, _*_, _/_, _%_, _^_, _<_, _≤_}
 pub use mathlib.Core.Path.{_≡_}
 pub use mathlib.Core.Logic.{_≢_, _⊎_}

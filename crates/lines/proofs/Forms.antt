@@ -10,8 +10,8 @@ use Rattle.lines.specs.Command.{field, isLabel, openForm, stepForm, fail
 -- the page and the word of a label are small, where a test tells whether it is one
 pub label-small : (page word : ℕ) {is : Bool} → is ≡ isLabel page word → is ≡ true → (page ≤ 63) × (word ≤ 31)
 unfolding isLabel
-label-small page word told holds =
-    let label = sym told ∙ holds in (
+label-small page word says holds =
+    let label = sym says ∙ holds in (
       leb-true page 63 (and-first (leb page 63) (leb word 31) label),
       leb-true word 31 (and-second (leb page 63) (leb word 31) label),
     )

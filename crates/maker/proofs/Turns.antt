@@ -1,5 +1,5 @@
--- One turn of a loop over the labels: what one label brings to the differences and to a run, and a run to the words of the
--- diff.
+-- One turn of a loop over the labels: what one label brings to the differences and to a run, and a run to the words
+-- of the diff.
 use Rattle.laws.proofs.Prelude.{ℕ, zero, suc, _+_, _-_, _*_, _/_, _%_, _≤_, _<_, _≡_, refl, ap, _∙_, _≢_, List, [], _∷_}
 use Rattle.laws.proofs.Prelude.{_++_, Bool, true, false, arith, ℕ-discrete, decLt, length, set, take, drop, getD}
 use native.Mathlib.Nat.{zero-add}

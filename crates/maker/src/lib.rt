@@ -55,7 +55,8 @@ fn skip_same(working: &[u32], twins: &[u32], from: usize) -> usize
 fn next_difference(working: &[u32], twins: &[u32], from: usize) -> usize
     requires { ⌜ Lent (now working) (now twins) ⌝ }
     requires { ⌜ from ≤ length (now working) ⌝ }
-    ensures none_between { λ r. ⌜ NoDifference (now (working .entry)) (now (twins .entry)) from r ⌝ }
+    ensures none_between { λ r. ⌜ NoDifference (now (working .entry)) (now (twins .entry))
+        from r ⌝ }
     ensures differs { λ r. ⌜ (r < length (now (working .entry))
         → Differs (now (working .entry)) (now (twins .entry)) r) ⌝ }
 {
@@ -110,7 +111,8 @@ fn write_header(next: usize, label: usize, run: usize, list: &mut [u32], at: usi
     requires { ⌜ (label < 2048) × (label % 32 + run ≤ 32) ⌝ }
     requires { ⌜ at + 2 ≤ length (now list) ⌝ }
     ensures short { λ r. ⌜ r ≤ at + 2 ⌝ }
-    ensures stopped { λ r. ⌜ ((price : ℕ) → r ≡ at + length (runHeader next (priceAt label price) run)) ⌝ }
+    ensures stopped { λ r. ⌜ ((price : ℕ)
+        → r ≡ at + length (runHeader next (priceAt label price) run)) ⌝ }
     ensures written { λ _. ⌜ ((price : ℕ) → now (list .exit)
         ≡ sets (now (list .entry)) at (runHeader next (priceAt label price) run)) ⌝ }
 {

@@ -1,5 +1,5 @@
 -- Laws on the calls' definitions, and the proofs of the demands.
-pub mod examples
+pub mod Examples
 pub mod checks
 pub mod release
 pub mod records

@@ -1,5 +1,5 @@
 -- What the checks of calls tell: of an accepted call each that it passed, of a rack what checks 1 and 2 leave.
-pub mod Order
-pub mod Passed
+pub mod Outcome
+pub mod ByCall
 pub mod Limits
 pub mod ValidDirectory

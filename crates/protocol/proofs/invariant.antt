@@ -7,7 +7,8 @@ pub mod Running
 pub mod Formatted
 pub mod Opening
 pub mod Step
+pub mod ShownPrice
 pub mod Shown
 pub mod Failure
-pub mod TwoLive
+pub mod TwoStay
 pub mod Fits

@@ -1,4 +1,4 @@
 -- A join leaves a rack that runs.
 pub mod Area
 pub mod Memory
-pub mod Joined
+pub mod Rack

@@ -1,6 +1,5 @@
 -- What each call reads of a directory stands below its cards and pages.
 pub mod Changes
-pub mod PastLimits
 pub mod Directory
 pub mod Checks
 pub mod Call
@@ -13,3 +12,4 @@ pub mod Failure
 pub mod RecoveredMemory
 pub mod Recovery
 pub mod Join
+pub mod PastLimits

@@ -2,7 +2,7 @@
 pub mod Writes
 pub mod WordAfter
 pub mod Shape
-pub mod Write
+pub mod OneWrite
 pub mod Opening
 pub mod Step
 pub mod Close

@@ -8,17 +8,8 @@ use Rattle.memory.specs.Area.{zeros}
 use Rattle.diff.specs.declared.Price.{Price}
 use Rattle.diff.specs.Prices.{pricesOf, appliedAt}
 use Rattle.protocol.specs.Release.{Release, countsAt, stepsIn}
-
--- ---- the calls of demand 3
-
-pub data Call : Type 0 where
-  open-release : (card : ℕ) → Release → (list : List ℕ) → Call
-  make-step : (card : ℕ) → Call
-  fetch-page : (page : ℕ) → (buffer : List ℕ) → Call
-  fail-card : (card : ℕ) → Call
-  recover : Call
-  join-card : (card : ℕ) → Call
-  ask-desk : (card : ℕ) → Call
+use Rattle.protocol.specs.Calls.{Call, open-release, make-step, fetch-page, fail-card, recover, join-card}
+use Rattle.protocol.specs.Calls.{ask-desk}
 
 -- ---- what the book holds
 

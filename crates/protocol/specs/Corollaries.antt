@@ -6,8 +6,9 @@ use Rattle.directory.specs.declared.Directory.{Directory}
 use Rattle.directory.specs.declared.Status.the-variants.{Running}
 use Rattle.directory.specs.Directory.{isLive}
 use Rattle.protocol.specs.Result.{accepted}
-use Rattle.protocol.specs.Book.{Call, open-release, make-step, fetch-page, fail-card, recover, join-card}
-use Rattle.protocol.specs.Book.{ask-desk, Opened, none, opened, Book, transitionIf}
+use Rattle.protocol.specs.Calls.{Call, open-release, make-step, fetch-page, fail-card, recover, join-card}
+use Rattle.protocol.specs.Calls.{ask-desk}
+use Rattle.protocol.specs.Book.{Opened, none, opened, Book, transitionIf}
 use Rattle.protocol.specs.Demand1.{isAmong}
 use Rattle.protocol.specs.Demand3.{Event, answerTo, Everywhere}
 

@@ -10,9 +10,8 @@ use Rattle.directory.specs.Directory.{emptyDirectory}
 use Rattle.diff.specs.Making.{makeDiff, bufferAfter}
 use Rattle.protocol.specs.Result.{Result, accepted}
 use Rattle.protocol.specs.Formatting.{formatting}
-use Rattle.protocol.specs.Book.{Call, open-release, make-step, fetch-page, fail-card, recover, join-card}
-use Rattle.protocol.specs.Book.{ask-desk}
-use Rattle.protocol.specs.Demand3.{perform}
+use Rattle.protocol.specs.Calls.{Call, open-release, make-step, fetch-page, fail-card, recover, join-card}
+use Rattle.protocol.specs.Calls.{ask-desk, perform}
 
 -- document 01, "What the rack refuses": the numbers by which each call refuses, in the order of its checks
 abbrev pub refusalsOf : Call → List ℕ

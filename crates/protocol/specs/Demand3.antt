@@ -7,25 +7,9 @@ use Rattle.directory.specs.Directory.{table}
 use Rattle.protocol.specs.Release.{sizeOf}
 use Rattle.protocol.specs.Result.{Result, accepted}
 use Rattle.protocol.specs.Formatting.{formatting}
-use Rattle.protocol.specs.Opening.{opening}
-use Rattle.protocol.specs.Step.{step}
-use Rattle.protocol.specs.Fetch.{fetch}
-use Rattle.protocol.specs.Failure.{failure}
-use Rattle.protocol.specs.Recovery.{recovery}
-use Rattle.protocol.specs.Join.{join}
-use Rattle.protocol.specs.DeskQuestion.{deskQuestion}
-use Rattle.protocol.specs.Book.{Call, open-release, make-step, fetch-page, fail-card, recover, join-card}
-use Rattle.protocol.specs.Book.{ask-desk, none, Book, newBook, update, transitionIf}
-
--- each call by the definition that its contract cites
-unfoldable pub perform : Call → Directory → List ℕ → Result
-perform (open-release card r list) d m = opening d m card r list
-perform (make-step card) d m = step d m card
-perform (fetch-page page buffer) d m = fetch d m page buffer
-perform (fail-card card) d m = failure d m card
-perform recover d m = recovery d m
-perform (join-card card) d m = join d m card
-perform (ask-desk card) d m = deskQuestion d m card
+use Rattle.protocol.specs.Calls.{Call, open-release, make-step, fetch-page, fail-card, recover, join-card}
+use Rattle.protocol.specs.Calls.{ask-desk, perform, formatting}
+use Rattle.protocol.specs.Book.{none, Book, newBook, update, transitionIf}
 
 -- ---- what stands between two calls
 

@@ -11,9 +11,10 @@ pub mod Failure
 pub mod DeskQuestion
 pub mod Recovery
 pub mod Join
+pub mod Calls
 pub mod Book
 pub mod Demand3
 pub mod Demand1
 pub mod PastLimits
 pub mod Corollaries
-pub mod examples
+pub mod Examples

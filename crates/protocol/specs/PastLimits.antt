@@ -7,8 +7,7 @@ use Rattle.directory.specs.declared.Directory.{Directory}
 use Rattle.directory.specs.Directory.{directoryOf, isLive, primaryOf, secondaryOf}
 use Rattle.protocol.specs.Result.{Result}
 use Rattle.protocol.specs.Formatting.{formatting}
-use Rattle.protocol.specs.Book.{Call}
-use Rattle.protocol.specs.Demand3.{perform}
+use Rattle.protocol.specs.Calls.{Call, perform}
 
 -- what a directory says of the cards and pages that it has: the marks past its cards and the homes past its pages are
 -- cut off

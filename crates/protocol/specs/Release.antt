@@ -1,9 +1,9 @@
 -- A release and its 4k + 11 steps (document 01, "A release and its 4k + 11 steps").
 -- Assumes nothing: these are definitions.
 use Rattle.laws.specs.Prelude.{ℕ, suc, _+_, _*_, List, [], _∷_, _++_, Bool, cond, _&&_, length, getD, ltb, eqb}
-use Rattle.memory.specs.Layout.{areaSize, deskSize, ownStamp, ownDesk, openFlag, stepsMade, releaseNumber}
-use Rattle.memory.specs.Layout.{releaseDesk, releaseSize, recordStamp, recordDone, recordDesk, listStart, listSize}
-use Rattle.memory.specs.Layout.{pageStart, tentativeHalf, committedHalf}
+use Rattle.memory.specs.Layout.{areaSize, deskSize, ownStamp, ownDesk, openFlag, stepsMade, releaseNumber, releaseDesk}
+use Rattle.memory.specs.Layout.{releaseSize, recordStamp, recordDone, recordDesk, listStart, listSize, pageStart}
+use Rattle.memory.specs.Layout.{tentativeHalf, committedHalf}
 use Rattle.memory.specs.Area.{load, store, loadRun, storeRun, clearRun}
 use Rattle.directory.specs.declared.Directory.{Directory}
 use Rattle.directory.specs.Directory.{liveAt, primaryOf, secondaryOf}

@@ -5,10 +5,10 @@ ghost use Rattle.protocol.specs.Demand1.{Demand1};
 ghost use Rattle.protocol.specs.Demand3.{Demand3};
 ghost use Rattle.protocol.specs.PastLimits.{PastLimits};
 ghost use Rattle.protocol.specs.Corollaries.{AlwaysFits, ResendsRefused, CountsOnce};
-ghost use Rattle.protocol.specs.examples.Releases.{releaseExamples};
-ghost use Rattle.protocol.specs.examples.Refusals.{refusalExamples};
-ghost use Rattle.protocol.specs.examples.Recoveries.{recoveryExamples};
-ghost use Rattle.protocol.specs.examples.Joins.{joinExamples};
+ghost use Rattle.protocol.specs.Examples.Releases.{releaseExamples};
+ghost use Rattle.protocol.specs.Examples.Refusals.{refusalExamples};
+ghost use Rattle.protocol.specs.Examples.Recoveries.{recoveryExamples};
+ghost use Rattle.protocol.specs.Examples.Joins.{joinExamples};
 
 // Demand 1: a refused call leaves everything that was lent as it was.
 pub fn refused_changes_nothing()

@@ -9,17 +9,17 @@ use Rattle.directory.specs.Directory.{backupOf, markedLive}
 use Rattle.protocol.specs.Release.{Release, sizeOf, stepMemory}
 use Rattle.protocol.specs.Checks.{Check, firstRefusal, awaitsRecovery}
 use Rattle.protocol.specs.Result.{Result, resultOf}
-use Rattle.protocol.specs.Opening.{opening, openingChecks, openMemory}
-use Rattle.protocol.specs.Step.{step, stepChecks}
-use Rattle.protocol.specs.Fetch.{fetch, fetchChecks, committedPage}
-use Rattle.protocol.specs.Failure.{failure, failureChecks, failedDirectory}
-use Rattle.protocol.specs.Recovery.{recovery, recoveryChecks, recoveredDirectory, recoveredMemory, failedRelease}
-use Rattle.protocol.specs.Recovery.{awaitedCard}
-use Rattle.protocol.specs.Join.{join, joinChecks, joinedMemory}
-use Rattle.protocol.specs.DeskQuestion.{deskQuestion, deskChecks, deskOf}
-use Rattle.protocol.proofs.checks.Order.{Passed, numbered, all-passed}
-use Rattle.protocol.proofs.checks.Passed.{Runs, OpeningPassed, StepPassed, FetchPassed, Fits, JoinPassed, join-passed}
-use Rattle.protocol.proofs.checks.Passed.{opening-passed, step-passed, fetch-passed, desk-passed}
+use Rattle.protocol.specs.Calls.{opening, openingChecks, step, stepChecks, fetch, fetchChecks, failure, failureChecks}
+use Rattle.protocol.specs.Calls.{recovery, recoveryChecks, join, joinChecks, deskQuestion, deskChecks}
+use Rattle.protocol.specs.Opening.{openMemory}
+use Rattle.protocol.specs.Fetch.{committedPage}
+use Rattle.protocol.specs.Failure.{failedDirectory}
+use Rattle.protocol.specs.Recovery.{recoveredDirectory, recoveredMemory, failedRelease, awaitedCard}
+use Rattle.protocol.specs.Join.{joinedMemory}
+use Rattle.protocol.specs.DeskQuestion.{deskOf}
+use Rattle.protocol.proofs.checks.Outcome.{Passed, numbered, all-passed}
+use Rattle.protocol.proofs.checks.ByCall.{Runs, OpeningPassed, StepPassed, FetchPassed, Fits, JoinPassed, join-passed}
+use Rattle.protocol.proofs.checks.ByCall.{opening-passed, step-passed, fetch-passed, desk-passed}
 use Rattle.checks.proofs.Order.{refused-before, passed-before, no-check}
 
 -- ---- any call

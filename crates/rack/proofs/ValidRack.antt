@@ -11,7 +11,7 @@ use Rattle.directory.proofs.Live.{next-live-below}
 use Rattle.protocol.specs.Release.{sizeOf, isOpen}
 use Rattle.protocol.specs.Checks.{fewLive, badPage, badStatus, badCard, unfitRack, awaitsRecovery}
 use Rattle.protocol.specs.Recovery.{awaitedCard}
-use Rattle.protocol.proofs.checks.Passed.{Fits}
+use Rattle.protocol.proofs.checks.ByCall.{Fits}
 use Rattle.protocol.proofs.checks.ValidDirectory.{valid-directory}
 use Rattle.protocol.proofs.checks.Limits.{Within, within-limits}
 use Rattle.release.specs.Stepping.{CardIn, HomesIn, GoodRelease}

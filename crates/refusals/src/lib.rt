@@ -7,13 +7,8 @@ ghost use Rattle.memory.specs.Layout.{areaSize};
 ghost use Rattle.directory.specs.Directory.{directoryOf};
 ghost use Rattle.diff.specs.Reading.{checkDiff};
 ghost use Rattle.protocol.specs.Checks.{check, firstRefusal};
-ghost use Rattle.protocol.specs.Opening.{openingChecks};
-ghost use Rattle.protocol.specs.Step.{stepChecks};
-ghost use Rattle.protocol.specs.Fetch.{fetchChecks};
-ghost use Rattle.protocol.specs.Failure.{failureChecks};
-ghost use Rattle.protocol.specs.Recovery.{recoveryChecks};
-ghost use Rattle.protocol.specs.Join.{joinChecks};
-ghost use Rattle.protocol.specs.DeskQuestion.{deskChecks};
+ghost use Rattle.protocol.specs.Calls.{openingChecks, stepChecks, fetchChecks, failureChecks};
+ghost use Rattle.protocol.specs.Calls.{recoveryChecks, joinChecks, deskChecks};
 ghost use Rattle.refusals.specs.Parts.{listChecks, numberChecks};
 use answer::Outcome;
 use directory::Status;
@@ -299,7 +294,7 @@ pub fn recovery(
         (now (memory .entry)))
         0 .number ⌝ }
 {
-    let first = checks::fit_refusal(memory, cards, pages, live, primary, secondary, status);
+    let first = checks::fitting_refusal(memory, cards, pages, live, primary, secondary, status);
     if first != 0 {
         return first;
     }

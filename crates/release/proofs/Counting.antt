@@ -11,7 +11,7 @@ use Rattle.directory.specs.Directory.{liveAt}
 use Rattle.diff.specs.declared.Price.{Price}
 use Rattle.protocol.specs.Release.{sizeOf, openPrices, stepsOf, Write, makeWrite, stepMemory}
 use Rattle.protocol.specs.Recovery.{stepTimes}
-use Rattle.protocol.proofs.release.Write.{length-make-write}
+use Rattle.protocol.proofs.release.OneWrite.{length-make-write}
 use Rattle.release.specs.Stepping.{StepsLeft, homesOf, storeAfter, NumberedPrice}
 use Rattle.release.proofs.Halves.{HalfFrom, half-bounds}
 use Rattle.release.proofs.Prices.{price-at}

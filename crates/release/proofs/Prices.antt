@@ -1,6 +1,6 @@
 -- The prices of an open release: how many there are, the one that is found by its number, and a table of them.
-use Rattle.laws.proofs.Prelude.{ℕ, zero, suc, _-_, _/_, _%_, _<_, _≤_, _≡_, refl, sym, ap, _∙_, List, [], _∷_, Bool}
-use Rattle.laws.proofs.Prelude.{true, false, arith, ltb-true, ltb-false, length, getD, ltb}
+use Rattle.laws.proofs.Prelude.{ℕ, zero, suc, _/_, _%_, _<_, _≤_, _≡_, refl, sym, ap, _∙_, List, [], _∷_, Bool, true}
+use Rattle.laws.proofs.Prelude.{false, arith, ltb-true, ltb-false, length, getD, ltb}
 use mathlib.Core.List.{map}
 use lib.ListN.{List·getD-eq-default}
 use lib.Seq.{sets}

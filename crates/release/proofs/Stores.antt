@@ -13,8 +13,7 @@ use Rattle.diff.specs.declared.Price.{Price}
 use Rattle.protocol.specs.Release.{sizeOf, Release, openRelease, openPrices, stepsOf, Write, writeOf, noWrite}
 use Rattle.protocol.specs.Release.{priceWrites, makeWrite, close, stepMemory}
 use Rattle.protocol.proofs.release.Writes.{noPrice, price-write-at, write-tentative, write-desk, write-stamp}
-use Rattle.protocol.proofs.release.Writes.{write-committed}
-use Rattle.protocol.proofs.release.Writes.{write-done}
+use Rattle.protocol.proofs.release.Writes.{write-committed, write-done}
 use Rattle.protocol.proofs.release.Step.{StandsIn, step-writes, step-closes}
 use Rattle.release.specs.Stepping.{CardIn, HomesIn, homesOf, storeAfter, homeAt, recordWrite}
 use Rattle.release.proofs.Halves.{HalfFrom, tentative, committed}

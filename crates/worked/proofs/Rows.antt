@@ -18,16 +18,14 @@ use Rattle.protocol.specs.Record.{recordedRelease, underWay, settledRecord, wri
 use Rattle.protocol.specs.Checks.{firstRefusal, outsideLimits, fewLive, badHome, badPage, badStatus, badRelease}
 use Rattle.protocol.specs.Checks.{badCard, unfitRack, awaitsRecovery}
 use Rattle.protocol.specs.Result.{Result}
-use Rattle.protocol.specs.Formatting.{formatting}
-use Rattle.protocol.specs.Opening.{shareWord, sharesWith, openingChecks, openMemory, opening}
-use Rattle.protocol.specs.Step.{step}
-use Rattle.protocol.specs.Fetch.{namesPage, inMotion, committedPage, fetch}
-use Rattle.protocol.specs.Failure.{failure}
+use Rattle.protocol.specs.Calls.{formatting, openingChecks, opening, step, fetch, failure, recovery}
+use Rattle.protocol.specs.Opening.{shareWord, sharesWith, openMemory}
+use Rattle.protocol.specs.Fetch.{namesPage, inMotion, committedPage}
 use Rattle.protocol.specs.Recovery.{stepTimes, runToClose, closeReleases, restoreHome, restorePage, restorePages}
 use Rattle.protocol.specs.Recovery.{lostHome, keptHome, newHome, copyToNewHome, copyToNewHomes, moveHome}
 use Rattle.protocol.specs.Recovery.{recoveredDirectory, writeFailed, writeRecords, failedRelease, restoredMemory}
-use Rattle.protocol.specs.Recovery.{recoveredMemory, awaitedCard, recovery}
-use Rattle.protocol.proofs.checks.Order.{outcome-of}
+use Rattle.protocol.specs.Recovery.{recoveredMemory, awaitedCard}
+use Rattle.protocol.proofs.checks.Outcome.{outcome-of}
 use Rattle.worked.specs.Rows.{newRack, changedPages, twoPrices, noPrice, opened, stepped, recoveredFrom}
 use Rattle.worked.specs.Rows.{shownAfter, homesAfter, completed, Idle, rows, shown}
 

@@ -15,12 +15,7 @@ use Rattle.diff.specs.Making.{makeDiff, bufferAfter}
 use Rattle.protocol.specs.Release.{Release, releaseOf, sizeOf, ownRelease, isOpen}
 use Rattle.protocol.specs.Checks.{outsideLimits, unfitRack}
 use Rattle.protocol.specs.Result.{Result}
-use Rattle.protocol.specs.Formatting.{formatting}
-use Rattle.protocol.specs.Opening.{opening}
-use Rattle.protocol.specs.Step.{step}
-use Rattle.protocol.specs.Fetch.{fetch}
-use Rattle.protocol.specs.Failure.{failure}
-use Rattle.protocol.specs.Recovery.{recovery}
+use Rattle.protocol.specs.Calls.{formatting, opening, step, fetch, failure, recovery}
 
 -- ---- "that rack, newly formatted": 3 cards, 4 pages
 

@@ -7,14 +7,14 @@ use Rattle.checks.proofs.running_refusal.Statement.{statement}
 use Rattle.checks.proofs.running_refusal.Tie as tie
 
 returns : tie.Need-returns
-returns c = rw (refused-before _ _ _ refl (c .before .fit-refusal .ensures) (c .if1 .taken))
+returns c = rw (refused-before _ _ _ refl (c .before .fitting-refusal .ensures) (c .if1 .taken))
 
 returns-2 : tie.Need-returns-2
 unfolding awaitsRecovery
 returns-2 c =
     let test = c .before .before in
     rw (
-      passed-before _ _ _ refl (test .before .fit-refusal .ensures) (test .if1 .left),
+      passed-before _ _ _ refl (test .before .fitting-refusal .ensures) (test .if1 .left),
       last-passes _ _ _ _ (ap awaitsRecovery (c .enum-told .given .1)),
     )
 
@@ -23,7 +23,7 @@ unfolding awaitsRecovery
 returns-3 c =
     let test = c .before .before in
     rw (
-      passed-before _ _ _ refl (test .before .fit-refusal .ensures) (test .if1 .left),
+      passed-before _ _ _ refl (test .before .fitting-refusal .ensures) (test .if1 .left),
       first-refuses _ _ _ _ _ (ap awaitsRecovery (c .enum-told2 .given .1)),
     )
 

@@ -45,24 +45,24 @@ module _ (pages : ℕ) (list : List ℕ) (at : Walk) where
 -- ---- a card with no release open, and one with a list
 
 module _ (live : List Bool) (pages : ℕ) (m : List ℕ) {size : ℕ} (whole : size ≡ areaSize pages)
-    (c : ℕ) {is : Bool} (told : is ≡ isOpen live size m c) where
+    (c : ℕ) {is : Bool} (says : is ≡ isOpen live size m c) where
   pub motion-not : is ≡ false → (page : ℕ) → inMotion live pages m page c ≡ false
   unfolding inMotion
-  motion-not fails page = rw (← whole, ← told, fails)
+  motion-not fails page = rw (← whole, ← says, fails)
 
   pub motion-list : is ≡ true → {list : List ℕ} → list ≡ openList size m c → (page : ℕ) {tally : Tally}
       → tally ≡ tallyOf (pricesOf pages list) page → {due : Bool}
       → due ≡ leb (countsAt (tally .prices)) (stepsOf size m c) → inMotion live pages m page c ≡ (due && tally .named)
   unfolding inMotion
-  motion-list holds lent page counted due = rw (due, ← whole, ← told, holds, counted, lent)
+  motion-list holds lent page counted due = rw (due, ← whole, ← says, holds, counted, lent)
 
   pub mark-not : is ≡ false → (marks : List Bool) → markMotion live pages m c marks ≡ marks
   unfolding markMotion
-  mark-not fails marks = rw (← whole, ← told, fails)
+  mark-not fails marks = rw (← whole, ← says, fails)
 
   pub mark-list : is ≡ true → {list : List ℕ} → list ≡ openList size m c → {prices : ℕ}
       → prices ≡ length (pricesOf pages list) → {due : Bool} → due ≡ leb (countsAt prices) (stepsOf size m c)
       → (marks : List Bool)
       → markMotion live pages m c marks ≡ cond due (marked pageOf (pricesOf pages list) marks) marks
   unfolding markMotion
-  mark-list holds lent counted due marks = rw (due, ← whole, ← told, holds, counted, lent)
+  mark-list holds lent counted due marks = rw (due, ← whole, ← says, holds, counted, lent)

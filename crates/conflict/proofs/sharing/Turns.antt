@@ -36,12 +36,12 @@ module _ (pages : ℕ) (list : List ℕ) (at : Walk) where
 -- ---- a card that is not walked over, and one with a list
 
 module _ (live : List Bool) (pages : ℕ) (m : List ℕ) {size : ℕ} (whole : size ≡ areaSize pages)
-    (c : ℕ) (marks : List Bool) (other : ℕ) {is : Bool} (told : is ≡ isOther live size m c other) where
+    (c : ℕ) (marks : List Bool) (other : ℕ) {is : Bool} (says : is ≡ isOther live size m c other) where
   pub marks-not : is ≡ false → marksWith live pages m c marks other ≡ false
   unfolding marksWith
-  marks-not fails = rw (← whole, ← told, fails)
+  marks-not fails = rw (← whole, ← says, fails)
 
   pub marks-list : is ≡ true → {list : List ℕ} → list ≡ openList size m other
       → marksWith live pages m c marks other ≡ anyMarked (pricesOf pages list) marks
   unfolding marksWith
-  marks-list holds lent = rw (← whole, ← told, holds, lent)
+  marks-list holds lent = rw (← whole, ← says, holds, lent)

@@ -1,4 +1,4 @@
--- Rests on `feed` and `more-read`. The loop's invariant: the bytes passed have been read and answered.
+-- Rests on `process_line` and `more-read`. The loop's invariant: the bytes passed have been read and answered.
 use Prim.Native.Nat.{_-_, _≤_}
 use mathlib.Core.Path.{_≡_}
 use native.Mathlib.Omega.{arith}

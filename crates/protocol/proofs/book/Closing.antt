@@ -9,8 +9,7 @@ use Rattle.protocol.specs.Release.{Release, countsAt, stepsIn}
 use Rattle.protocol.specs.Book.{Opened, none, opened, listPrices, Book, count, setOpen, stepBook, countUncounted}
 use Rattle.protocol.specs.Book.{countOpen, clearOpen}
 use Rattle.protocol.proofs.book.Changes.{update-same, update-other, update-update, update-unchanged}
-use Rattle.protocol.proofs.book.Changes.{step-book-plain}
-use Rattle.protocol.proofs.book.Changes.{step-book-counts, step-book-closes}
+use Rattle.protocol.proofs.book.Changes.{step-book-plain, step-book-counts, step-book-closes}
 
 -- ---- books that are equal part by part
 

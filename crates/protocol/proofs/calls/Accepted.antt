@@ -4,12 +4,12 @@ use Rattle.directory.specs.declared.Directory.{Directory}
 use Rattle.directory.specs.declared.Status.the-variants.{Running}
 use Rattle.protocol.specs.Checks.{Check, firstRefusal, awaitsRecovery}
 use Rattle.protocol.specs.Result.{Result, accepted, resultOf}
-use Rattle.protocol.specs.Book.{Call, Book, transition}
+use Rattle.protocol.specs.Calls.{Call}
+use Rattle.protocol.specs.Book.{Book, transition}
 use Rattle.protocol.specs.Demand3.{offlineAfter, Conforms}
-use Rattle.protocol.proofs.invariant.Rack.{RunningRack, AwaitingRack}
-use Rattle.protocol.proofs.checks.Order.{numbered, Passed, all-passed, when-accepted}
-use Rattle.protocol.proofs.checks.Passed.{Runs}
-use Rattle.protocol.proofs.invariant.Found.{Rack, LiveOnline}
+use Rattle.protocol.proofs.invariant.Rack.{RunningRack, AwaitingRack, Rack, LiveOnline}
+use Rattle.protocol.proofs.checks.Outcome.{numbered, Passed, all-passed, when-accepted}
+use Rattle.protocol.proofs.checks.ByCall.{Runs}
 
 pub record AcceptedCall (call : Call) (offline : ℕ → Bool) (b : Book) (result : Result) : Type 0 where
   pub conforms : Conforms b call result
@@ -31,14 +31,14 @@ awaiting-rack (inr rack) awaits = rack
 module _ (d : Directory) (m : List ℕ) (b : Book) (offline : ℕ → Bool) (rack : Rack d m b)
     (online : LiveOnline d offline) where
   -- a call whose checks all pass
-  pub by-checks : (call : Call) (checks : List Check) (value : ℕ) (done : Result) (words : List ℕ)
+  pub accepted-by-checks : (call : Call) (checks : List Check) (value : ℕ) (done : Result) (words : List ℕ)
       → done .outcome ≡ firstRefusal checks value → numbered checks ≡ true
       → (Passed checks → AcceptedCall call offline b done)
       → accepted (resultOf (firstRefusal checks value) done d m words .outcome) ≡ true
       → AcceptedCall call offline b (resultOf (firstRefusal checks value) done d m words)
-  by-checks call checks value done words same real good ok =
+  accepted-by-checks call checks value done words same real good ok =
       let taken = when-accepted (firstRefusal checks value) done d m words same ok in
       subst (AcceptedCall call offline b) (sym (taken .1)) (good (all-passed checks value real (taken .0)))
 
-  pub running : Runs d m → RunningRack d m b
-  running runs = running-rack rack (runs .running)
+  pub running-if-passed : Runs d m → RunningRack d m b
+  running-if-passed runs = running-rack rack (runs .running)

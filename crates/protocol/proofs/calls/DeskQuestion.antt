@@ -3,8 +3,9 @@ use Rattle.laws.proofs.Prelude.{ℕ, _≡_, refl, ap, List, Bool, true, false, 
 use Rattle.directory.specs.declared.Directory.{Directory}
 use Rattle.directory.specs.Directory.{isLive, nextLiveOf}
 use Rattle.protocol.specs.Release.{Release, sizeOf, ownRelease}
-use Rattle.protocol.specs.Book.{none, Book, ask-desk, transition}
-use Rattle.protocol.proofs.invariant.Rack.{RunningRack, next-is-live}
+use Rattle.protocol.specs.Book.{none, Book, transition}
+use Rattle.protocol.specs.Calls.{ask-desk}
+use Rattle.protocol.proofs.invariant.Rack.{RunningRack, next-is-live, Rack, LiveOnline}
 use Rattle.protocol.specs.Record.{recordedRelease}
 use Rattle.protocol.specs.DeskQuestion.{deskOf, deskQuestion, deskChecks}
 use Rattle.protocol.proofs.release.Shape.{area-of-live}
@@ -12,9 +13,8 @@ use Rattle.protocol.proofs.records.Reading.{recorded-is}
 use Rattle.protocol.proofs.invariant.Running.{own-is-last}
 use Rattle.protocol.specs.Result.{accepted}
 use Rattle.protocol.specs.Demand3.{offlineAfter, Conforms}
-use Rattle.protocol.proofs.checks.Passed.{desk-passed}
-use Rattle.protocol.proofs.invariant.Found.{Rack, LiveOnline}
-use Rattle.protocol.proofs.calls.Accepted.{AcceptedCall, by-checks, running}
+use Rattle.protocol.proofs.checks.ByCall.{desk-passed}
+use Rattle.protocol.proofs.calls.Accepted.{AcceptedCall, accepted-by-checks, running-if-passed}
 
 module _ (d : Directory) (m : List ℕ) (b : Book) (rack : RunningRack d m b) where
   dead-release : (c : ℕ) → c < d .cards → isLive d c ≡ false
@@ -42,11 +42,11 @@ module _ (d : Directory) (m : List ℕ) (b : Book) (offline : ℕ → Bool) (rac
       → AcceptedCall (ask-desk c) offline b (deskQuestion d m c)
   unfolding deskQuestion Conforms transition offlineAfter
   desk-accepted c =
-      by-checks d m b offline rack online (ask-desk c) (deskChecks d m c) 0 _ _ refl refl
+      accepted-by-checks d m b offline rack online (ask-desk c) (deskChecks d m c) 0 _ _ refl refl
       (λ p.
       let runs = desk-passed d m c p in
       record {
-        conforms = desk-conforms d m b (running d m b offline rack online (runs .0)) c (runs .1);
+        conforms = desk-conforms d m b (running-if-passed d m b offline rack online (runs .0)) c (runs .1);
         rack = rack;
         online = online;
       })

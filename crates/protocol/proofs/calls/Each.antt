@@ -2,10 +2,11 @@
 use Rattle.laws.proofs.Prelude.{ℕ, _≡_, List, Bool, true}
 use Rattle.directory.specs.declared.Directory.{Directory}
 use Rattle.protocol.specs.Result.{accepted}
-use Rattle.protocol.specs.Book.{Call, open-release, make-step, fetch-page, fail-card, recover, join-card}
-use Rattle.protocol.specs.Book.{ask-desk, Book}
-use Rattle.protocol.specs.Demand3.{perform, Typed}
-use Rattle.protocol.proofs.invariant.Found.{Rack, LiveOnline}
+use Rattle.protocol.specs.Calls.{Call, open-release, make-step, fetch-page, fail-card, recover, join-card}
+use Rattle.protocol.specs.Calls.{ask-desk, perform}
+use Rattle.protocol.specs.Book.{Book}
+use Rattle.protocol.specs.Demand3.{Typed}
+use Rattle.protocol.proofs.invariant.Rack.{Rack, LiveOnline}
 use Rattle.protocol.proofs.calls.Opening.{opening-accepted}
 use Rattle.protocol.proofs.calls.Step.{step-accepted}
 use Rattle.protocol.proofs.calls.Fetch.{fetch-accepted}

@@ -5,14 +5,15 @@ use Rattle.directory.specs.Directory.{isLive}
 use Rattle.directory.proofs.Changes.{live-of-marked-dead, live-of-other}
 use Rattle.protocol.specs.Result.{accepted}
 use Rattle.protocol.specs.Failure.{failure, failureChecks, failedDirectory}
-use Rattle.protocol.specs.Book.{fail-card, Book, transition, update}
+use Rattle.protocol.specs.Calls.{fail-card}
+use Rattle.protocol.specs.Book.{Book, transition, update}
 use Rattle.protocol.specs.Demand3.{offlineAfter, Conforms}
 use Rattle.protocol.proofs.book.Changes.{update-other}
 use Rattle.protocol.proofs.invariant.Failure.{fails}
-use Rattle.protocol.proofs.invariant.TwoLive.{two-stay}
-use Rattle.protocol.proofs.checks.Passed.{failure-passed}
-use Rattle.protocol.proofs.invariant.Found.{Rack, LiveOnline}
-use Rattle.protocol.proofs.calls.Accepted.{AcceptedCall, by-checks, running}
+use Rattle.protocol.proofs.invariant.TwoStay.{two-stay}
+use Rattle.protocol.proofs.checks.ByCall.{failure-passed}
+use Rattle.protocol.proofs.invariant.Rack.{Rack, LiveOnline}
+use Rattle.protocol.proofs.calls.Accepted.{AcceptedCall, accepted-by-checks, running-if-passed}
 
 module _ (d : Directory) (m : List ℕ) (b : Book) (offline : ℕ → Bool) (rack : Rack d m b)
     (online : LiveOnline d offline) where
@@ -20,7 +21,7 @@ module _ (d : Directory) (m : List ℕ) (b : Book) (offline : ℕ → Bool) (rac
       → AcceptedCall (fail-card c) offline b (failure d m c)
   unfolding failure Conforms transition offlineAfter
   failure-accepted c =
-      by-checks d m b offline rack online (fail-card c) (failureChecks d m c) 0 _ [] refl refl
+      accepted-by-checks d m b offline rack online (fail-card c) (failureChecks d m c) 0 _ [] refl refl
       (λ p.
       let passed = failure-passed d m c p in
       record {
@@ -28,7 +29,7 @@ module _ (d : Directory) (m : List ℕ) (b : Book) (offline : ℕ → Bool) (rac
         rack =
             inr (
               c,
-              fails d c m b (running d m b offline rack online (passed .runs)) (passed .live)
+              fails d c m b (running-if-passed d m b offline rack online (passed .runs)) (passed .live)
                   (two-stay d c (passed .many)),
             );
         online = still-online;

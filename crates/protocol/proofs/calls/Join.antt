@@ -6,15 +6,15 @@ use Rattle.directory.proofs.Changes.{live-of-other}
 use Rattle.protocol.specs.Release.{sizeOf, isOpen}
 use Rattle.protocol.specs.Result.{accepted}
 use Rattle.protocol.specs.Join.{join, joinChecks}
-use Rattle.protocol.specs.Book.{join-card, Book, none, transition, update}
+use Rattle.protocol.specs.Calls.{join-card}
+use Rattle.protocol.specs.Book.{Book, none, transition, update}
 use Rattle.protocol.specs.Demand3.{offlineAfter, Conforms}
 use Rattle.protocol.proofs.book.Changes.{update-same, update-other}
-use Rattle.protocol.proofs.invariant.Rack.{RunningRack}
-use Rattle.protocol.proofs.join.Joined.{joins}
-use Rattle.protocol.proofs.checks.Passed.{join-passed}
-use Rattle.protocol.proofs.invariant.Found.{Rack, LiveOnline}
+use Rattle.protocol.proofs.invariant.Rack.{RunningRack, Rack, LiveOnline}
+use Rattle.protocol.proofs.join.Rack.{joins}
+use Rattle.protocol.proofs.checks.ByCall.{join-passed}
 use Rattle.protocol.proofs.invariant.Running.{none-if-idle}
-use Rattle.protocol.proofs.calls.Accepted.{AcceptedCall, by-checks, running}
+use Rattle.protocol.proofs.calls.Accepted.{AcceptedCall, accepted-by-checks, running-if-passed}
 
 module _ (d : Directory) (m : List ℕ) (b : Book) (offline : ℕ → Bool) (rack : Rack d m b)
     (online : LiveOnline d offline) where
@@ -22,10 +22,10 @@ module _ (d : Directory) (m : List ℕ) (b : Book) (offline : ℕ → Bool) (rac
       → AcceptedCall (join-card x) offline b (join d m x)
   unfolding join Conforms transition offlineAfter
   join-accepted x =
-      by-checks d m b offline rack online (join-card x) (joinChecks d m x) 0 _ [] refl refl
+      accepted-by-checks d m b offline rack online (join-card x) (joinChecks d m x) 0 _ [] refl refl
       (λ p.
       let passed = join-passed d m x p in
-      let runs = running d m b offline rack online (passed .runs) in
+      let runs = running-if-passed d m b offline rack online (passed .runs) in
       record {
         conforms = tt;
         rack = inl (joins d x m b runs (passed .dead) (passed .below) (idle runs (passed .none-open)));

@@ -11,18 +11,18 @@ use Rattle.diff.proofs.Prices.{names-none}
 use Rattle.diff.proofs.OnlyDiff.{allowed-few}
 use Rattle.protocol.specs.Release.{Release, sizeOf}
 use Rattle.protocol.specs.Opening.{shareWord, sharesWith, openMemory, opening, openingChecks}
-use Rattle.protocol.specs.Book.{Opened, none, opened, listPrices, Book, setOpen, open-release, transition}
+use Rattle.protocol.specs.Book.{Opened, none, opened, listPrices, Book, setOpen, transition}
+use Rattle.protocol.specs.Calls.{open-release}
 use Rattle.protocol.proofs.book.Changes.{pricesIn}
 use Rattle.protocol.proofs.invariant.Core.{OpenStands}
 use Rattle.protocol.proofs.release.Opening.{stored-prices}
 use Rattle.protocol.proofs.invariant.Opening.{open-core}
-use Rattle.protocol.proofs.invariant.Rack.{RunningRack}
-use Rattle.protocol.proofs.checks.Passed.{OpeningPassed, opening-passed}
+use Rattle.protocol.proofs.invariant.Rack.{RunningRack, Rack, LiveOnline}
+use Rattle.protocol.proofs.checks.ByCall.{OpeningPassed, opening-passed}
 use Rattle.protocol.proofs.invariant.Running.{stands-open, is-open, none-if-idle, own-is-last, runs-on}
 use Rattle.protocol.specs.Result.{accepted}
 use Rattle.protocol.specs.Demand3.{offlineAfter, Conforms}
-use Rattle.protocol.proofs.invariant.Found.{Rack, LiveOnline}
-use Rattle.protocol.proofs.calls.Accepted.{AcceptedCall, by-checks, running}
+use Rattle.protocol.proofs.calls.Accepted.{AcceptedCall, accepted-by-checks, running-if-passed}
 
 -- lists that share no word
 unshared-names : (ps others : List Price) (label : ℕ) → shareWord ps others ≡ false → names others label ≡ true
@@ -84,12 +84,13 @@ module _ (d : Directory) (m : List ℕ) (b : Book) (offline : ℕ → Bool) (rac
       → AcceptedCall (open-release c r list) offline b (opening d m c r list)
   unfolding opening Conforms transition offlineAfter
   opening-accepted c r list eight =
-      by-checks d m b offline rack online (open-release c r list) (openingChecks d m c (r .number) list) 0 _
+      accepted-by-checks d m b offline rack online (open-release c r list) (openingChecks d m c (r .number) list) 0 _
       [] refl refl
       (λ p.
       let passed = opening-passed d m c (r .number) list p in
       record {
         conforms = tt;
-        rack = inl (opening-runs d m b (running d m b offline rack online (passed .runs)) c r list eight passed);
+        rack =
+            inl (opening-runs d m b (running-if-passed d m b offline rack online (passed .runs)) c r list eight passed);
         online = online;
       })

@@ -9,22 +9,22 @@ use Rattle.protocol.specs.Checks.{firstRefusal, awaitsRecovery}
 use Rattle.protocol.specs.Result.{accepted}
 use Rattle.protocol.specs.Recovery.{recovery, recoveryChecks, failedRelease, awaitedCard, recoveredDirectory}
 use Rattle.protocol.specs.Recovery.{recoveredMemory}
-use Rattle.protocol.specs.Book.{recover, Book, transition}
+use Rattle.protocol.specs.Calls.{recover}
+use Rattle.protocol.specs.Book.{Book, transition}
 use Rattle.protocol.specs.Demand3.{offlineAfter, Conforms}
-use Rattle.protocol.proofs.invariant.Rack.{AwaitingRack}
-use Rattle.protocol.proofs.recovery.Pages.{answers}
+use Rattle.protocol.proofs.invariant.Rack.{AwaitingRack, Rack, LiveOnline}
+use Rattle.protocol.proofs.recovery.Restored.{answers}
 use Rattle.protocol.proofs.recovery.Recovered.{recovers}
 use Rattle.protocol.proofs.recovery.Homes.{recovered-parts}
-use Rattle.protocol.proofs.checks.Order.{given-value}
-use Rattle.protocol.proofs.invariant.Found.{Rack, LiveOnline}
-use Rattle.protocol.proofs.calls.Accepted.{AcceptedCall, by-checks, awaiting-rack}
+use Rattle.protocol.proofs.checks.Outcome.{given-value}
+use Rattle.protocol.proofs.calls.Accepted.{AcceptedCall, accepted-by-checks, awaiting-rack}
 
 module _ (d : Directory) (m : List ℕ) (b : Book) (offline : ℕ → Bool) (rack : Rack d m b)
     (online : LiveOnline d offline) where
   pub recovery-accepted : accepted (recovery d m .outcome) ≡ true → AcceptedCall recover offline b (recovery d m)
   unfolding recovery awaitedCard Conforms transition offlineAfter
   recovery-accepted =
-      by-checks d m b offline rack online recover (recoveryChecks d m) _ _ _ refl refl
+      accepted-by-checks d m b offline rack online recover (recoveryChecks d m) _ _ _ refl refl
       (λ p.
       let awaited = awaiting-rack rack (not-false (awaitsRecovery (d .status)) (p .1 .1 .0)) in
       recovered (awaited .0) (awaited .1) (given-value (recoveryChecks d m) _ p))

@@ -4,17 +4,17 @@ use Rattle.laws.proofs.Prelude.{eqb, inl}
 use Rattle.directory.specs.declared.Directory.{Directory}
 use Rattle.directory.specs.Directory.{backupOf}
 use Rattle.protocol.specs.Release.{stepMemory, countsAt}
-use Rattle.protocol.specs.Book.{Opened, none, opened, listPrices, Book, count, stepBook, make-step, transition}
+use Rattle.protocol.specs.Book.{Opened, none, opened, listPrices, Book, count, stepBook, transition}
+use Rattle.protocol.specs.Calls.{make-step}
 use Rattle.protocol.proofs.book.Changes.{update-other}
 use Rattle.protocol.proofs.invariant.Step.{step-core}
-use Rattle.protocol.proofs.invariant.Rack.{RunningRack}
-use Rattle.protocol.proofs.checks.Passed.{StepPassed, step-passed}
+use Rattle.protocol.proofs.invariant.Rack.{RunningRack, Rack, LiveOnline}
+use Rattle.protocol.proofs.checks.ByCall.{StepPassed, step-passed}
 use Rattle.protocol.proofs.invariant.Running.{is-open, idle-word, runs-on}
 use Rattle.protocol.specs.Result.{accepted}
 use Rattle.protocol.specs.Step.{step, stepChecks}
 use Rattle.protocol.specs.Demand3.{offlineAfter, Conforms}
-use Rattle.protocol.proofs.invariant.Found.{Rack, LiveOnline}
-use Rattle.protocol.proofs.calls.Accepted.{AcceptedCall, by-checks, running}
+use Rattle.protocol.proofs.calls.Accepted.{AcceptedCall, accepted-by-checks, running-if-passed}
 
 step-last : (b : Book) (c g : ℕ) (R : Opened) → g ≢ c → stepBook b c R .last g ≡ b .last g
 unfolding stepBook
@@ -41,11 +41,11 @@ module _ (d : Directory) (m : List ℕ) (b : Book) (offline : ℕ → Bool) (rac
       → AcceptedCall (make-step c) offline b (step d m c)
   unfolding step Conforms transition offlineAfter
   step-accepted c =
-      by-checks d m b offline rack online (make-step c) (stepChecks d m c) 0 _ [] refl refl
+      accepted-by-checks d m b offline rack online (make-step c) (stepChecks d m c) 0 _ [] refl refl
       (λ p.
       let passed = step-passed d m c p in
       record {
         conforms = tt;
-        rack = inl (step-runs d m b (running d m b offline rack online (passed .runs)) c passed);
+        rack = inl (step-runs d m b (running-if-passed d m b offline rack online (passed .runs)) c passed);
         online = online;
       })

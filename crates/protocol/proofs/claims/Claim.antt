@@ -64,7 +64,7 @@ module _ (d : Directory) (H : Half d) (release : ℕ → Opened) (price : ℕ �
       → Claim d H release price m
   claim-idle right =
       record {
-        agrees = λ c h p w few word alone.
+        agrees = λ c h p w few word unshared.
             rw (idle c, H .todo-none c, H .due-none)
             (word-after-none h _ _ ∙ right h p w word ∙ sym (applied-none (32 * p + w) _));
       }
@@ -92,30 +92,31 @@ module _ (d : Directory) (H : Half d) (release : ℕ → Opened) (price price′
           → Agrees d H c R price′ h p w (wordIn d H m′ h p w)
 
     pub claim-moves : Moves → Claim d H release price m → Claim d H (update release c R) price′ m′
-    claim-moves moves claim = record { agrees = λ x h p w few word alone. at x h p w few word alone (ℕ-discrete x c) }
+    claim-moves moves claim =
+        record { agrees = λ x h p w few word unshared. at x h p w few word unshared (ℕ-discrete x c) }
       where
         before : (x h p w : ℕ) → HomeWord d h p w → Unshared (update release c R) x (32 * p + w)
             → Unshared release x (32 * p + w)
-        before x h p w word alone y other =
+        before x h p w word unshared y other =
             elim (ℕ-discrete y c) [
-              | yes same ↦ rw same (moves .grows (32 * p + w) (rw (same, update-same) at (alone y other)))
-              | no elsewhere ↦ rw (update-other release c R y elsewhere) at (alone y other)
+              | yes same ↦ rw same (moves .grows (32 * p + w) (rw (same, update-same) at (unshared y other)))
+              | no elsewhere ↦ rw (update-other release c R y elsewhere) at (unshared y other)
             ]
 
         at : (x h p w : ℕ) → x < 8 → HomeWord d h p w → Unshared (update release c R) x (32 * p + w) → Dec (x ≡ c)
             → Agrees d H x (update release c R x) price′ h p w (wordIn d H m′ h p w)
-        at x h p w few word alone (yes same) =
+        at x h p w few word unshared (yes same) =
             rw (same, update-same release c R)
-            (moves .own h p w word (rw same at (claim .agrees x h p w few word (before x h p w word alone))))
-        at x h p w few word alone (no other) =
-            let unnamed = rw (update-same release c R) at (alone c (λ e. other (sym e))) in
+            (moves .own h p w word (rw same at (claim .agrees x h p w few word (before x h p w word unshared))))
+        at x h p w few word unshared (no other) =
+            let unnamed = rw (update-same release c R) at (unshared c (λ e. other (sym e))) in
             rw (
               update-other release c R x other,
               moves .same-word h p w word unnamed,
               moves .same-price (32 * p + w)
                   unnamed,
             )
-            (claim .agrees x h p w few word (before x h p w word alone))
+            (claim .agrees x h p w few word (before x h p w word unshared))
 
 -- ---- card c's release is struck out, with nothing of it to write or to count
 
@@ -126,42 +127,42 @@ module _ (d : Directory) (H : Half d) (release : ℕ → Opened) (price : ℕ �
       → Claim d H release price m → Claim d H (update release c none) price m
   claim-cleared card eights apart written-all counted claim =
       record {
-        agrees = λ x h p w few word alone.
-            at x h p w few word alone (names (pricesIn (release c)) (32 * p + w)) refl (ℕ-discrete x c);
+        agrees = λ x h p w few word unshared.
+            at x h p w few word unshared (names (pricesIn (release c)) (32 * p + w)) refl (ℕ-discrete x c);
       }
     where
       -- what stands is the price, as nothing is pending
       settled : (h p w : ℕ) → HomeWord d h p w → Unshared release c (32 * p + w)
           → wordIn d H m h p w ≡ price (32 * p + w)
-      settled h p w word alone =
+      settled h p w word unshared =
           sym (written-all h p w (wordIn d H m h p w) (word .word))
-          ∙ (rw counted at (claim .agrees c h p w card word alone))
+          ∙ (rw counted at (claim .agrees c h p w card word unshared))
           ∙ applied-none (32 * p + w) (price (32 * p + w))
 
       others : (x y label : ℕ) → Unshared (update release c none) x label → y ≢ x → y ≢ c
           → names (pricesIn (release y)) label ≡ false
-      others x y label alone other elsewhere = rw (update-other release c none y elsewhere) at (alone y other)
+      others x y label unshared other elsewhere = rw (update-other release c none y elsewhere) at (unshared y other)
 
       at : (x h p w : ℕ) → x < 8 → HomeWord d h p w → Unshared (update release c none) x (32 * p + w)
           → (named : Bool) → names (pricesIn (release c)) (32 * p + w) ≡ named → Dec (x ≡ c)
           → Agrees d H x (update release c none x) price h p w (wordIn d H m h p w)
-      at x h p w few word alone named is (yes same) =
+      at x h p w few word unshared named is (yes same) =
           rw (same, update-same release c none, H .todo-none c, H .due-none)
           (word-after-none h (pageStart p + (H .half + w)) (wordIn d H m h p w)
-          ∙ settled h p w word (λ y elsewhere. others x y (32 * p + w) alone (λ e. elsewhere (e ∙ same)) elsewhere)
+          ∙ settled h p w word (λ y elsewhere. others x y (32 * p + w) unshared (λ e. elsewhere (e ∙ same)) elsewhere)
           ∙ sym (applied-none (32 * p + w) (price (32 * p + w))))
-      at x h p w few word alone true named (no other) =
+      at x h p w few word unshared true named (no other) =
           let unnamed = apart c x (32 * p + w) other named in
           rw (update-other release c none x other)
           (H .todo-unnamed x h p w (wordIn d H m h p w) (release x) few (eights x) (word .word) unnamed
           ∙ settled h p w word (λ y elsewhere. apart c y (32 * p + w) elsewhere named)
           ∙ sym (H .due-unnamed (32 * p + w) (price (32 * p + w)) (release x) unnamed))
-      at x h p w few word alone false unnamed (no other) =
+      at x h p w few word unshared false unnamed (no other) =
           rw (update-other release c none x other)
           (claim .agrees x h p w few word
           (λ y elsewhere. elim (ℕ-discrete y c) [
             | yes same ↦ rw same unnamed
-            | no far ↦ others x y (32 * p + w) alone elsewhere far
+            | no far ↦ others x y (32 * p + w) unshared elsewhere far
           ]))
 
 -- ---- a claim on fewer words, or on words that are the same
@@ -174,6 +175,6 @@ pub claim-kept : (d d′ : Directory) (H : Half d) (H′ : Half d′) (release :
     → Claim d H release price m → Claim d′ H′ release price m′
 claim-kept d d′ H H′ release price m m′ fewer same words claim =
     record {
-      agrees = λ c h p w few word alone.
-          rw (words h p w word) (same c h p w _ word (claim .agrees c h p w few (fewer c h p w word) alone));
+      agrees = λ c h p w few word unshared.
+          rw (words h p w word) (same c h p w _ word (claim .agrees c h p w few (fewer c h p w word) unshared));
     }

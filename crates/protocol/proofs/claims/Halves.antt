@@ -13,10 +13,8 @@ use Rattle.protocol.specs.Release.{Release, Write, priceWrites, runWrite
 use Rattle.protocol.specs.Book.{Opened, none, opened, listPrices}
 use Rattle.protocol.proofs.release.Writes.{length-writes, length-price-writes, length-run-writes}
 use Rattle.protocol.proofs.release.WordAfter.{wordAfter, word-after-none, word-after-first, word-after-append}
-use Rattle.protocol.proofs.release.WordAfter.{word-after-miss, written, Misses}
-use Rattle.protocol.proofs.release.WordAfter.{misses-append, misses-drop, run-misses, prices-miss, unnamed-miss}
-use Rattle.protocol.proofs.release.WordAfter.{word-after-prices}
-use Rattle.protocol.proofs.release.WordAfter.{HomeOf}
+use Rattle.protocol.proofs.release.WordAfter.{word-after-miss, written, Misses, misses-append, misses-drop}
+use Rattle.protocol.proofs.release.WordAfter.{run-misses, prices-miss, unnamed-miss, word-after-prices, HomeOf}
 use Rattle.protocol.proofs.book.Changes.{pricesIn, EightWords, uncounted, uncounted-none}
 use Rattle.protocol.proofs.claims.Claim.{Half}
 use Rattle.protocol.proofs.release.Step.{stepWrite}

@@ -18,9 +18,8 @@ use Rattle.protocol.proofs.book.Changes.{EightWords, uncounted, uncount
 use Rattle.protocol.proofs.claims.Claim.{Disjoint, HomeWord, Half, wordIn, Agrees, Claim, Moves, claim-moves}
 use Rattle.protocol.proofs.claims.Claim.{claim-cleared, claim-kept}
 use Rattle.protocol.proofs.claims.Halves.{on-pages, tentative-misses, committed-misses, pending-first}
-use Rattle.protocol.proofs.claims.Halves.{pending-done}
-use Rattle.protocol.proofs.claims.Halves.{committed-early, committed-late, committed-first, tentatives}
-use Rattle.protocol.proofs.claims.Halves.{committeds}
+use Rattle.protocol.proofs.claims.Halves.{pending-done, committed-early, committed-late, committed-first}
+use Rattle.protocol.proofs.claims.Halves.{tentatives, committeds}
 
 -- the book's prices after a step: counted with the release's own if the step counts it
 pub record PricesAfter (k s : ℕ) (price price′ : ℕ → ℕ) (applied : ℕ → ℕ) : Type 0 where

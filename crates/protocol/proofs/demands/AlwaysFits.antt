@@ -7,20 +7,15 @@ use Rattle.answer.specs.Outcome.{unfit}
 use Rattle.directory.specs.declared.Directory.{Directory}
 use Rattle.protocol.specs.Checks.{Check, firstRefusal}
 use Rattle.protocol.specs.Result.{Result, accepted, resultOf}
-use Rattle.protocol.specs.Opening.{opening, openingChecks}
-use Rattle.protocol.specs.Step.{step, stepChecks}
-use Rattle.protocol.specs.Fetch.{fetch, fetchChecks}
-use Rattle.protocol.specs.Failure.{failure, failureChecks}
-use Rattle.protocol.specs.Recovery.{recovery, recoveryChecks}
-use Rattle.protocol.specs.Join.{join, joinChecks}
-use Rattle.protocol.specs.DeskQuestion.{deskQuestion, deskChecks}
-use Rattle.protocol.specs.Book.{Call, open-release, make-step, fetch-page, fail-card, recover, join-card}
-use Rattle.protocol.specs.Book.{ask-desk}
+use Rattle.protocol.specs.Calls.{opening, openingChecks, step, stepChecks, fetch, fetchChecks, failure}
+use Rattle.protocol.specs.Calls.{failureChecks, recovery, recoveryChecks, join, joinChecks, deskQuestion}
+use Rattle.protocol.specs.Calls.{deskChecks, Call, open-release, make-step, fetch-page, fail-card, recover}
+use Rattle.protocol.specs.Calls.{join-card, ask-desk, perform}
 use Rattle.protocol.specs.Demand1.{isAmong}
-use Rattle.protocol.specs.Demand3.{perform, answerTo}
+use Rattle.protocol.specs.Demand3.{answerTo}
 use Rattle.protocol.specs.Corollaries.{AlwaysFits}
-use Rattle.protocol.proofs.checks.Passed.{Fits}
-use Rattle.protocol.proofs.checks.Order.{outcome-of, numbersOf, among}
+use Rattle.protocol.proofs.checks.ByCall.{Fits}
+use Rattle.protocol.proofs.checks.Outcome.{outcome-of, numbersOf, among}
 use Rattle.protocol.proofs.invariant.Fits.{rack-fits}
 use Rattle.protocol.proofs.demands.Demand3.{everywhere}
 

@@ -5,14 +5,15 @@ use Rattle.laws.specs.Search.{inTurn}
 use Rattle.directory.specs.declared.Directory.{Directory}
 use Rattle.protocol.specs.Release.{Release, countsAt}
 use Rattle.protocol.specs.Result.{accepted}
-use Rattle.protocol.specs.Book.{Call, open-release, make-step, fetch-page, fail-card, recover, join-card}
-use Rattle.protocol.specs.Book.{ask-desk, Opened, none, opened, listPrices, Book, update, count, stepBook}
-use Rattle.protocol.specs.Book.{countUncounted, countOpen, transition, transitionIf}
+use Rattle.protocol.specs.Calls.{Call, open-release, make-step, fetch-page, fail-card, recover, join-card}
+use Rattle.protocol.specs.Calls.{ask-desk}
+use Rattle.protocol.specs.Book.{Opened, none, opened, listPrices, Book, update, count, stepBook, countUncounted}
+use Rattle.protocol.specs.Book.{countOpen, transition, transitionIf}
 use Rattle.protocol.specs.Demand3.{answerTo}
 use Rattle.protocol.specs.Corollaries.{CountsNext, CountsOnce}
 use Rattle.protocol.proofs.book.Changes.{update-each}
 use Rattle.protocol.proofs.records.Recorded.{Numbers}
-use Rattle.protocol.proofs.invariant.Found.{Rack}
+use Rattle.protocol.proofs.invariant.Rack.{Rack}
 use Rattle.protocol.proofs.demands.Demand3.{everywhere}
 
 module _ (b : Book) (numbers : (c : ℕ) → Numbers (b .release c) (b .last c)) where

@@ -9,7 +9,7 @@ use Rattle.protocol.specs.Checks.{check, outsideLimits}
 use Rattle.protocol.specs.Result.{accepted}
 use Rattle.protocol.specs.Formatting.{formatting}
 use Rattle.protocol.specs.Demand1.{isAmong, BufferKept, Demand1}
-use Rattle.protocol.proofs.calls.Refused.{by-checks, refused-unchanged}
+use Rattle.protocol.proofs.calls.Refused.{refused-by-checks, refused-unchanged}
 
 refused-list : (working twins buffer : List ℕ) → accepted (makeDiff working twins (length buffer)) ≡ false
     → BufferKept (1 ∷ 17 ∷ []) buffer (makeDiff working twins (length buffer)) (bufferAfter working twins buffer)
@@ -38,6 +38,6 @@ demand-1 =
     record {
       calls = refused-unchanged;
       formats = λ m cards pages.
-          by-checks (check (outsideLimits (length m) cards pages) limits ∷ []) 0 _ emptyDirectory m [] refl;
+          refused-by-checks (check (outsideLimits (length m) cards pages) limits ∷ []) 0 _ emptyDirectory m [] refl;
       lists = refused-list;
     }

@@ -8,8 +8,9 @@ use Rattle.protocol.specs.Formatting.{formatting}
 use Rattle.protocol.specs.Book.{Book, newBook, transitionIf}
 use Rattle.protocol.specs.Demand3.{offlineAfter, Event, Typed, Conforms, answerTo, Always, Everywhere, Demand3}
 use Rattle.protocol.proofs.checks.Limits.{within-limits}
-use Rattle.protocol.proofs.checks.Order.{all-passed, when-accepted}
-use Rattle.protocol.proofs.invariant.Found.{Rack, LiveOnline, rack-found, interference-live}
+use Rattle.protocol.proofs.checks.Outcome.{all-passed, when-accepted}
+use Rattle.protocol.proofs.invariant.Rack.{Rack, LiveOnline}
+use Rattle.protocol.proofs.invariant.Found.{rack-found, interference-live}
 use Rattle.protocol.proofs.invariant.Formatted.{formatted}
 use Rattle.protocol.proofs.calls.Refused.{refused-unchanged}
 use Rattle.protocol.proofs.calls.Each.{each-accepted}

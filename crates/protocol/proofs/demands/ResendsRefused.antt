@@ -7,15 +7,15 @@ use Rattle.protocol.specs.Release.{Release, sizeOf, ownRelease}
 use Rattle.protocol.specs.Checks.{firstRefusal, awaitsRecovery}
 use Rattle.protocol.specs.Result.{Result}
 use Rattle.protocol.specs.Opening.{opening, openingChecks, openMemory}
-use Rattle.protocol.specs.Book.{Call, open-release, make-step, fetch-page, fail-card, recover, join-card}
-use Rattle.protocol.specs.Book.{ask-desk, Opened, none, opened, Book}
+use Rattle.protocol.specs.Calls.{Call, open-release, make-step, fetch-page, fail-card, recover, join-card}
+use Rattle.protocol.specs.Calls.{ask-desk, perform}
+use Rattle.protocol.specs.Book.{Opened, none, opened, Book}
 use Rattle.protocol.specs.Demand1.{isAmong}
-use Rattle.protocol.specs.Demand3.{Event, perform}
+use Rattle.protocol.specs.Demand3.{Event}
 use Rattle.protocol.specs.Corollaries.{OpenUnder, ResendRefused, ResendsRefused}
-use Rattle.protocol.proofs.invariant.Rack.{RunningRack}
-use Rattle.protocol.proofs.checks.Passed.{Fits}
-use Rattle.protocol.proofs.checks.Order.{outcome-of}
-use Rattle.protocol.proofs.invariant.Found.{Rack}
+use Rattle.protocol.proofs.invariant.Rack.{RunningRack, Rack}
+use Rattle.protocol.proofs.checks.ByCall.{Fits}
+use Rattle.protocol.proofs.checks.Outcome.{outcome-of}
 use Rattle.protocol.proofs.invariant.Running.{is-open, idle-word, own-is-last}
 use Rattle.protocol.proofs.calls.Accepted.{running-rack}
 use Rattle.protocol.proofs.invariant.Fits.{rack-fits}

@@ -1,8 +1,8 @@
--- `protocol::examples_hold` meets its contract: the examples are computed in proofs/examples.
-use Rattle.protocol.proofs.examples.Releases.{releases-hold}
-use Rattle.protocol.proofs.examples.Refusals.{refusals-hold}
-use Rattle.protocol.proofs.examples.Recoveries.{recoveries-hold}
-use Rattle.protocol.proofs.examples.Joins.{joins-hold}
+-- `protocol::examples_hold` meets its contract: the examples are computed in proofs/Examples.
+use Rattle.protocol.proofs.Examples.Releases.{releases-hold}
+use Rattle.protocol.proofs.Examples.Refusals.{refusals-hold}
+use Rattle.protocol.proofs.Examples.Recoveries.{recoveries-hold}
+use Rattle.protocol.proofs.Examples.Joins.{joins-hold}
 use Rattle.protocol.proofs.examples_hold.Statement.{statement}
 use Rattle.protocol.proofs.examples_hold.Tie as tie
 

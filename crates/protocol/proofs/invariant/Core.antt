@@ -13,12 +13,10 @@ use Rattle.diff.specs.Prices.{appliedAt}
 use Rattle.protocol.specs.Release.{Release, sizeOf, ownRelease, openList, stepMemory, countsAt, stepsIn}
 use Rattle.protocol.specs.Book.{Opened, none, opened, listPrices, Book, update}
 use Rattle.protocol.proofs.release.Shape.{Shape, SameOwn, SameRelease, shape-kept, own-kept, open-kept}
-use Rattle.protocol.proofs.release.Shape.{list-kept}
-use Rattle.protocol.proofs.release.Shape.{area-of-live, steps-kept, same-own-release}
+use Rattle.protocol.proofs.release.Shape.{list-kept, area-of-live, steps-kept, same-own-release}
 use Rattle.protocol.proofs.release.WordAfter.{written}
 use Rattle.protocol.proofs.release.Step.{StandsIn, stepWrite, load-step, steps-step, step-keeps}
-use Rattle.protocol.proofs.release.Step.{step-keeps-other}
-use Rattle.protocol.proofs.release.Step.{step-keeps-record}
+use Rattle.protocol.proofs.release.Step.{step-keeps-other, step-keeps-record}
 use Rattle.protocol.proofs.book.Changes.{pricesIn, EightWords, update-each}
 use Rattle.protocol.proofs.claims.Claim.{Disjoint, Claim}
 use Rattle.protocol.proofs.claims.Halves.{tentatives, committeds}
@@ -52,7 +50,7 @@ pub record Core (d : Directory) (backup : ℕ → ℕ) (old : ℕ → ℕ → �
     pub under : (c : ℕ) → Under (b .release c)
     pub eights : (c : ℕ) → EightWords (b .release c)
     pub last-eight : (c : ℕ) → length (b .last c .desk) ≡ 8
-    pub apart : Disjoint (b .release)
+    pub disjoint : Disjoint (b .release)
     pub numbers : (c : ℕ) → Numbers (b .release c) (b .last c)
     pub owns : (c : ℕ) → isLive d c ≡ true → Own (b .release c) (ownRelease (sizeOf d) m c) (b .last c)
     pub tentative : T → Claim d (tentatives d backup) (b .release) (b .price) m
@@ -170,8 +168,8 @@ module _ (d : Directory) (backup : ℕ → ℕ) (old : ℕ → ℕ → ℕ) (T C
           under = update-each (b .release) c R′ (λ x R. Under R) (omega arith) (λ x other. core .under x);
           eights = update-each (b .release) c R′ (λ x R. EightWords R) eight (λ x other. core .eights x);
           last-eight = last-is-eight;
-          apart = λ x y label other named.
-              rw (same-prices y) (core .apart x y label other (rw (same-prices x) at named));
+          disjoint = λ x y label other named.
+              rw (same-prices y) (core .disjoint x y label other (rw (same-prices x) at named));
           numbers = update-each (b .release) c R′ (λ x R. Numbers R (last x))
               (step-numbers r list s (b .last c) (last c) lasts (rw is at (core .numbers c)))
               (λ x other. rw (others x other) (core .numbers x));

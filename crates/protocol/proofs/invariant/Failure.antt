@@ -61,7 +61,7 @@ module _ (d : Directory) (f : ℕ) (m : List ℕ) (b : Book) (rack : RunningRack
             | yes early ↦ absurd (differ (recorded .stamped ∙ sym (marks .0 early)))
             | no late ↦ omega arith
           ] in
-          claim-cleared d (tentatives d (backupOf d)) (b .release) (b .price) m f few (core .eights) (core .apart)
+          claim-cleared d (tentatives d (backupOf d)) (b .release) (b .price) m f few (core .eights) (core .disjoint)
           (λ h p w v within. rw is
           (tentative-late d (backupOf d) f r list s (rw is at (core .eights f)) few (omega arith) h p w v within))
           (rw is (uncounted-late r list s counted)) claim
@@ -70,7 +70,7 @@ module _ (d : Directory) (f : ℕ) (m : List ℕ) (b : Book) (rack : RunningRack
   cleared-committed : stamp ≡ done → Claim d (committeds d (backupOf d)) (b .release) (b .price) m
       → Claim d (committeds d (backupOf d)) (update (b .release) f none) (b .price) m
   cleared-committed agree claim =
-      claim-cleared d (committeds d (backupOf d)) (b .release) (b .price) m f few (core .eights) (core .apart)
+      claim-cleared d (committeds d (backupOf d)) (b .release) (b .price) m f few (core .eights) (core .disjoint)
       (λ h p w v within. rw (nothing (b .release f) refl) (word-after-none h _ v)) refl claim
     where
       nothing : (R : Opened) → b .release f ≡ R → pendingCommitted d (backupOf d) f (b .release f) ≡ []
@@ -143,7 +143,7 @@ module _ (d : Directory) (f : ℕ) (m : List ℕ) (b : Book) (rack : RunningRack
         under = update-each (b .release) f none (λ c R. Under R) tt (λ c other. core .under c);
         eights = update-each (b .release) f none (λ c R. EightWords R) tt (λ c other. core .eights c);
         last-eight = core .last-eight;
-        apart = disjoint-cleared (b .release) f (core .apart);
+        disjoint = disjoint-cleared (b .release) f (core .disjoint);
         numbers = update-each (b .release) f none (λ c R. Numbers R (b .last c)) tt (λ c other. core .numbers c);
         owns = λ c still.
             let was = live-before c still in

@@ -15,10 +15,9 @@ use Rattle.protocol.specs.Release.{sizeOf, openList, stepsOf}
 use Rattle.protocol.specs.Book.{Opened, none, opened, listPrices, Book}
 use Rattle.diff.specs.Reading.{readDiff}
 use Rattle.protocol.proofs.invariant.Core.{Core, Standing, Under}
-use Rattle.protocol.proofs.invariant.Rack.{RunningRack, AwaitingRack, TwoLive, Arrays}
+use Rattle.protocol.proofs.invariant.Rack.{RunningRack, AwaitingRack, TwoLive, Arrays, Rack}
 use Rattle.protocol.specs.Recovery.{backupBefore}
-use Rattle.protocol.proofs.checks.Passed.{Fits}
-use Rattle.protocol.proofs.invariant.Found.{Rack}
+use Rattle.protocol.proofs.checks.ByCall.{Fits}
 
 -- ---- numbers below a bound
 

@@ -103,7 +103,7 @@ module _ (cards pages words : ℕ) (limits : Within words cards pages) where
         under = λ c. tt;
         eights = λ c. tt;
         last-eight = λ c. length-zeros deskSize;
-        apart = λ c x label other named. names-none label;
+        disjoint = λ c x label other named. names-none label;
         numbers = λ c. tt;
         owns = own;
         tentative = λ _. claim-idle d (tentatives d (backupOf d)) (newBook .release) (newBook .price) (zeros words)

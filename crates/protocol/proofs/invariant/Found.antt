@@ -1,6 +1,6 @@
 -- The invariant between two calls: what a call finds is as good as what the last call left, whatever the areas of
 -- cards that are offline hold.
-use Rattle.laws.proofs.Prelude.{ℕ, _+_, _*_, _≤_, _<_, _≡_, refl, _∙_, _⊎_, inl, inr, List, Bool, true, false, arith}
+use Rattle.laws.proofs.Prelude.{ℕ, _+_, _*_, _≤_, _<_, _≡_, refl, _∙_, inl, inr, List, Bool, true, arith}
 use Rattle.memory.specs.Area.{load}
 use Rattle.memory.specs.Layout.{recordStamp, recordDone, recordDesk}
 use Rattle.directory.specs.declared.Directory.{Directory}
@@ -12,15 +12,8 @@ use Rattle.protocol.specs.Demand3.{Interference}
 use Rattle.protocol.proofs.records.Recorded.{Recorded, recorded-kept}
 use Rattle.protocol.proofs.invariant.Core.{Core}
 use Rattle.protocol.proofs.invariant.Kept.{SameLive, core-found}
-use Rattle.protocol.proofs.invariant.Rack.{RunningRack, AwaitingRack, stampOf, doneOf, next-is-live}
-
--- a rack that runs or awaits a recovery
-abbrev pub Rack : Directory → List ℕ → Book → Type 0
-Rack d m b = RunningRack d m b ⊎ ((f : ℕ) × AwaitingRack d f m b)
-
--- no card that is live is offline
-abbrev pub LiveOnline : Directory → (ℕ → Bool) → Type 0
-LiveOnline d offline = (c : ℕ) → isLive d c ≡ true → offline c ≡ false
+use Rattle.protocol.proofs.invariant.Rack.{RunningRack, AwaitingRack, stampOf, doneOf, next-is-live, Rack}
+use Rattle.protocol.proofs.invariant.Rack.{LiveOnline}
 
 -- the records of dead cards, as memory has them
 pub core-now : {d : Directory} {backup : ℕ → ℕ} {old : ℕ → ℕ → ℕ} {T C : Type 0} {m : List ℕ} {b : Book}
@@ -33,7 +26,7 @@ core-now core =
       under = core .under;
       eights = core .eights;
       last-eight = core .last-eight;
-      apart = core .apart;
+      disjoint = core .disjoint;
       numbers = core .numbers;
       owns = core .owns;
       tentative = core .tentative;

@@ -98,7 +98,7 @@ module _ (d : Directory) (backup : ℕ → ℕ) (old : ℕ → ℕ → ℕ) (T C
             elim (ℕ-discrete y c) [
               | yes here ↦ rw (here, update-same (b .release) c R′) (unnamed x label far named-before)
               | no elsewhere ↦ rw (update-other (b .release) c R′ y elsewhere)
-                  (core .apart x y label other named-before)
+                  (core .disjoint x y label other named-before)
             ]
       ]
     where
@@ -158,7 +158,7 @@ module _ (d : Directory) (backup : ℕ → ℕ) (old : ℕ → ℕ → ℕ) (T C
         under = update-each (b .release) c R′ (λ x R. Under R) (omega arith) (λ x other. core .under x);
         eights = update-each (b .release) c R′ (λ x R. EightWords R) eight (λ x other. core .eights x);
         last-eight = core .last-eight;
-        apart = disjoint-opened;
+        disjoint = disjoint-opened;
         numbers = update-each (b .release) c R′ (λ x R. Numbers R (b .last x))
             ((λ _. next), (λ late. absurd (omega arith))) (λ x other. core .numbers x);
         owns = update-each (b .release) c R′

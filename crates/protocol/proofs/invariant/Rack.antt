@@ -104,3 +104,13 @@ module _ (d : Directory) (two : TwoLive d) (below : (c : ℕ) → isLive d c ≡
 pub unmarked : (marks : List Bool) (c : ℕ) (mark : Bool) → getD marks c false ≡ mark → (other : Bool)
     → set (set marks c other) c mark ≡ marks
 unmarked marks c mark is other = set-set marks c other mark ∙ (rw is at (set-getD marks c false))
+
+-- ---- a rack of either kind
+
+-- a rack that runs or awaits a recovery
+abbrev pub Rack : Directory → List ℕ → Book → Type 0
+Rack d m b = RunningRack d m b ⊎ ((f : ℕ) × AwaitingRack d f m b)
+
+-- no card that is live is offline
+abbrev pub LiveOnline : Directory → (ℕ → Bool) → Type 0
+LiveOnline d offline = (c : ℕ) → isLive d c ≡ true → offline c ≡ false

@@ -17,10 +17,10 @@ use Rattle.memory.proofs.Runs.{load-run-is}
 use Rattle.directory.proofs.Table.{table-length, table-read}
 use Rattle.diff.proofs.Stored.{OnPages, prices-on-pages}
 use Rattle.protocol.specs.Fetch.{namesPage, inMotion, committedPage}
-use Rattle.protocol.specs.Demand3.{pageIn, offlineAfter}
+use Rattle.protocol.specs.Demand3.{pageIn}
 use Rattle.protocol.proofs.release.Shape.{area-of-live}
-use Rattle.protocol.proofs.invariant.Kept.{NotInMotion, shown-price}
-use Rattle.protocol.proofs.checks.Passed.{FetchPassed}
+use Rattle.protocol.proofs.invariant.ShownPrice.{NotInMotion, shown-price}
+use Rattle.protocol.proofs.checks.ByCall.{FetchPassed}
 use Rattle.protocol.proofs.invariant.Running.{stands-open, is-open}
 
 -- a list that names a word of a page names the page
@@ -37,7 +37,7 @@ page-named pages (p ∷ ps) page word on small named =
         → cond (eqb (p .page) page) true (namesPage ps page) ≡ true
     go true here named rest =
         rw (eq-eqb (p .page) page (omega (arith, on .1, small, eqb-true (labelOf p) (32 * page + word) here)))
-    go false offlineAfter named rest = either (eqb (p .page) page) (rest named)
+    go false elsewhere named rest = either (eqb (p .page) page) (rest named)
       where
         either : (same : Bool) → namesPage ps page ≡ true → cond same true (namesPage ps page) ≡ true
         either true e = refl

@@ -17,7 +17,7 @@ use Rattle.protocol.proofs.claims.Step.{close-tentatives, close-committ
 use Rattle.protocol.proofs.records.Recorded.{Numbers, Own, Recorded, recorded-kept, close-recorded}
 use Rattle.protocol.proofs.invariant.Core.{Core, OpenStands, Standing, Under, standing-kept, write-core}
 
--- releases that stay apart when one is struck out
+-- releases that stay disjoint when one is cleared
 pub disjoint-cleared : (release : ℕ → Opened) (c : ℕ) → Disjoint release → Disjoint (update release c none)
 disjoint-cleared release c apart x y label other named =
     elim (ℕ-discrete y c) [
@@ -89,7 +89,7 @@ module _ (d : Directory) (backup : ℕ → ℕ) (old : ℕ → ℕ → ℕ) (T C
           under = update-each (b .release) c none (λ x R. Under R) tt (λ x other. core .under x);
           eights = update-each (b .release) c none (λ x R. EightWords R) tt (λ x other. core .eights x);
           last-eight = core .last-eight;
-          apart = disjoint-cleared (b .release) c (core .apart);
+          disjoint = disjoint-cleared (b .release) c (core .disjoint);
           numbers = update-each (b .release) c none (λ x R. Numbers R (b .last x)) tt (λ x other. core .numbers x);
           owns = update-each (b .release) c none
               (λ x R. isLive d x ≡ true → Own R (ownRelease (sizeOf d) m′ x) (b .last x))
@@ -97,11 +97,11 @@ module _ (d : Directory) (backup : ℕ → ℕ) (old : ℕ → ℕ → ℕ) (T C
               (λ x other up. rw (own-kept (sizeOf d) m m′ x (same-own-release (sizeOf d) m m′ x (kept-other x other)))
               (core .owns x up));
           tentative = λ t.
-              close-tentatives d backup (b .release) (b .price) m m′ c few (core .eights) (core .apart) r list s is
+              close-tentatives d backup (b .release) (b .price) m m′ c few (core .eights) (core .disjoint) r list s is
               (omega arith)
               (λ h p w word. kept-page h _ (omega arith) (omega (arith, word .page, word .word))) (core .tentative t);
           committed = λ t.
-              close-committeds d backup (b .release) (b .price) m m′ c few (core .eights) (core .apart) r list s is
+              close-committeds d backup (b .release) (b .price) m m′ c few (core .eights) (core .disjoint) r list s is
               (omega arith)
               (λ h p w word. kept-page h _ (omega arith) (omega (arith, word .page, word .word))) (core .committed t);
           recorded = update-each (b .release) c none

@@ -5,8 +5,8 @@ use Rattle.directory.specs.declared.Directory.{Directory}
 use Rattle.protocol.specs.Checks.{Check, firstRefusal}
 use Rattle.protocol.specs.Result.{Result, accepted, resultOf}
 use Rattle.protocol.specs.PastLimits.{belowLimits, KeptPast}
-use Rattle.protocol.proofs.checks.Order.{numbered, Passed, all-passed, outcome-of, when-accepted, SameChecks}
-use Rattle.protocol.proofs.checks.Order.{first-agree}
+use Rattle.protocol.proofs.checks.Outcome.{numbered, Passed, all-passed, outcome-of, when-accepted, SameChecks}
+use Rattle.protocol.proofs.checks.Outcome.{first-agree}
 use Rattle.protocol.proofs.past_limits.Directory.{below-twice}
 use Rattle.protocol.proofs.past_limits.Changes.{kept-same}
 
@@ -22,12 +22,13 @@ pub record CallBelow (d : Directory) (part whole : Result) : Type 0 where
   pub left : accepted (whole .outcome) ≡ true → LeftBelow d part whole
 
 module _ (d : Directory) (m : List ℕ) where
-  pub by-checks : {cs xs : List Check} {value value′ : ℕ} (part whole : Result) (words : List ℕ) → SameChecks cs xs
+  pub below-by-checks : {cs xs : List Check} {value value′ : ℕ} (part whole : Result) (words : List ℕ)
+      → SameChecks cs xs
       → numbered xs ≡ true → part .outcome ≡ firstRefusal cs value → whole .outcome ≡ firstRefusal xs value′
       → (Passed xs → value ≡ value′) → (Passed xs → LeftBelow d part whole)
       → CallBelow d (resultOf (firstRefusal cs value) part (belowLimits d) m words)
       (resultOf (firstRefusal xs value′) whole d m words)
-  by-checks {cs} {xs} {value} {value′} part whole words same real is is′ given left =
+  below-by-checks {cs} {xs} {value} {value′} part whole words same real is is′ given left =
       let outcome =
       outcome-of (firstRefusal cs value) part (belowLimits d) m words is ∙ first-agree same given
       ∙ sym (outcome-of (firstRefusal xs value′) whole d m words is′) in

@@ -9,7 +9,7 @@ use Rattle.directory.specs.Directory.{withMark, withHomes, withStatus}
 use Rattle.protocol.specs.Recovery.{lostHome, keptHome, newHome, moveHome, recoveredDirectory}
 use Rattle.protocol.specs.PastLimits.{belowLimits, KeptPast}
 use Rattle.protocol.proofs.past_limits.Directory.{next-below, primary-below, secondary-below, below-twice}
-use Rattle.protocol.proofs.past_limits.Directory.{marked-below, rehomed-below}
+use Rattle.protocol.proofs.past_limits.Directory.{marked-below, with-homes-below}
 
 -- ---- a mark and the status
 
@@ -69,9 +69,9 @@ module _ (d : Directory) (f : ℕ) where
           → belowLimits (cond lost (withHomes x n (keptHome d f n) (newHome d f n)) x)
           ≡ belowLimits (cond lost (withHomes y n (keptHome d f n) (newHome d f n)) y)
       go true =
-          sym (rehomed-below x n (keptHome d f n) (newHome d f n))
+          sym (with-homes-below x n (keptHome d f n) (newHome d f n))
           ∙ ap (λ (e : Directory). withHomes e n (keptHome d f n) (newHome d f n)) same
-          ∙ rehomed-below y n (keptHome d f n) (newHome d f n)
+          ∙ with-homes-below y n (keptHome d f n) (newHome d f n)
       go false = same
 
   moves-same : (n : ℕ) → n ≤ d .pages

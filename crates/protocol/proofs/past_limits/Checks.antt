@@ -9,9 +9,9 @@ use Rattle.directory.specs.Directory.{liveAt, primaryOf, secondaryOf, awaitsCar
 use Rattle.protocol.specs.Checks.{fewLive, badHome, badPage, badStatus, badCard, unfitRack, Check, check, checkAt}
 use Rattle.protocol.specs.Checks.{fittingChecks, runningChecks, noLiveCard}
 use Rattle.protocol.specs.PastLimits.{belowLimits}
-use Rattle.protocol.proofs.checks.Passed.{live-card}
+use Rattle.protocol.proofs.checks.ByCall.{live-card}
 use Rattle.laws.proofs.Search.{lowest-agree, some-agree, count-agree}
-use Rattle.protocol.proofs.checks.Order.{more, SameChecks}
+use Rattle.protocol.proofs.checks.Outcome.{more, SameChecks}
 use Rattle.protocol.proofs.past_limits.Directory.{marksBelow, live-below, real-below, primary-below}
 use Rattle.protocol.proofs.past_limits.Directory.{secondary-below}
 

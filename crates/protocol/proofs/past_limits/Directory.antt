@@ -58,9 +58,9 @@ module _ (d : Directory) where
   pub marked-below : (x : ℕ) (mark : Bool) → withMark (belowLimits d) x mark ≡ belowLimits (withMark d x mark)
   marked-below x mark = rw (take-set (d .cards) (d .live) x mark)
 
-  pub rehomed-below : (page primary secondary : ℕ)
+  pub with-homes-below : (page primary secondary : ℕ)
       → withHomes (belowLimits d) page primary secondary ≡ belowLimits (withHomes d page primary secondary)
-  rehomed-below page primary secondary =
+  with-homes-below page primary secondary =
       rw (take-set (d .pages) (d .primary) page primary, take-set (d .pages) (d .secondary) page secondary)
 
 pub backup-below : (d : Directory) (x c : ℕ) → backupOf (markedLive (belowLimits d) x) c ≡ backupOf (markedLive d x) c

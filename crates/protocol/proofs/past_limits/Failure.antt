@@ -6,13 +6,13 @@ use Rattle.directory.specs.declared.Status.the-variants.{Awaiting}
 use Rattle.protocol.specs.Checks.{check}
 use Rattle.protocol.specs.Failure.{failureChecks, failure}
 use Rattle.protocol.specs.PastLimits.{belowLimits}
-use Rattle.protocol.proofs.checks.Passed.{live-card}
+use Rattle.protocol.proofs.checks.ByCall.{live-card}
 use Rattle.laws.proofs.Search.{count-agree}
-use Rattle.protocol.proofs.checks.Order.{more, none, SameChecks}
+use Rattle.protocol.proofs.checks.Outcome.{more, none, SameChecks}
 use Rattle.protocol.proofs.past_limits.Directory.{live-below}
 use Rattle.protocol.proofs.past_limits.Changes.{status-kept, marked-same, marked-kept}
 use Rattle.protocol.proofs.past_limits.Checks.{running-then, live-then}
-use Rattle.protocol.proofs.past_limits.Call.{CallBelow, by-checks}
+use Rattle.protocol.proofs.past_limits.Call.{CallBelow, below-by-checks}
 
 module _ (d : Directory) (m : List ℕ) (c : ℕ) where
   checks-below : SameChecks (failureChecks (belowLimits d) m c) (failureChecks d m c)
@@ -24,7 +24,7 @@ module _ (d : Directory) (m : List ℕ) (c : ℕ) where
   pub failure-below : CallBelow d (failure (belowLimits d) m c) (failure d m c)
   unfolding failure
   failure-below =
-      by-checks d m _ _ [] checks-below refl refl refl (λ _. refl)
+      below-by-checks d m _ _ [] checks-below refl refl refl (λ _. refl)
       (λ p.
       record {
         directory = marked-same d c false (Awaiting c);

@@ -9,7 +9,7 @@ use Rattle.protocol.specs.Checks.{Check, check, firstRefusal, outsideLim
 use Rattle.protocol.specs.Result.{accepted}
 use Rattle.protocol.specs.Formatting.{formatting}
 use Rattle.protocol.specs.PastLimits.{BlankPast}
-use Rattle.protocol.proofs.checks.Order.{when-accepted}
+use Rattle.protocol.proofs.checks.Outcome.{when-accepted}
 use Rattle.protocol.proofs.demands.Demand1.{demand-1}
 
 -- an array of n that is blank at k, or ends before it

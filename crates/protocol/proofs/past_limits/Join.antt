@@ -8,11 +8,11 @@ use Rattle.protocol.specs.Checks.{check}
 use Rattle.protocol.specs.Join.{joinChecks, resetArea, copyDeadRecord, backupIs, joinedMemory, join}
 use Rattle.protocol.specs.PastLimits.{belowLimits}
 use Rattle.laws.proofs.Search.{some-agree, in-turn-agree}
-use Rattle.protocol.proofs.checks.Order.{more, none, SameChecks}
+use Rattle.protocol.proofs.checks.Outcome.{more, none, SameChecks}
 use Rattle.protocol.proofs.past_limits.Directory.{live-below, open-below, next-below, backup-below}
 use Rattle.protocol.proofs.past_limits.Changes.{marked-same, marked-kept}
 use Rattle.protocol.proofs.past_limits.Checks.{running-then}
-use Rattle.protocol.proofs.past_limits.Call.{CallBelow, by-checks}
+use Rattle.protocol.proofs.past_limits.Call.{CallBelow, below-by-checks}
 
 module _ (d : Directory) (x : ℕ) where
   -- ---- the memory
@@ -51,7 +51,7 @@ module _ (d : Directory) (x : ℕ) where
   pub join-below : (m : List ℕ) → CallBelow d (join (belowLimits d) m x) (join d m x)
   unfolding join
   join-below m =
-      by-checks d m _ _ [] (checks-below m) refl refl refl (λ _. refl)
+      below-by-checks d m _ _ [] (checks-below m) refl refl refl (λ _. refl)
       (λ p.
       record {
         directory = marked-same d x true (d .status);

@@ -6,10 +6,10 @@ use Rattle.protocol.specs.Release.{Release, sizeOf}
 use Rattle.protocol.specs.Checks.{check}
 use Rattle.protocol.specs.Opening.{sharesWith, openingChecks, opening}
 use Rattle.protocol.specs.PastLimits.{belowLimits}
-use Rattle.protocol.proofs.checks.Order.{SameChecks, none, more}
+use Rattle.protocol.proofs.checks.Outcome.{SameChecks, none, more}
 use Rattle.protocol.proofs.past_limits.Directory.{marksBelow, open-below}
 use Rattle.protocol.proofs.past_limits.Checks.{running-then, live-then, lowest-then}
-use Rattle.protocol.proofs.past_limits.Call.{CallBelow, by-checks, same-directory}
+use Rattle.protocol.proofs.past_limits.Call.{CallBelow, below-by-checks, same-directory}
 
 module _ (d : Directory) (m : List ℕ) (c : ℕ) where
   shares-below : (list : List ℕ) (x : ℕ) → x < d .cards
@@ -29,5 +29,5 @@ module _ (d : Directory) (m : List ℕ) (c : ℕ) where
       → CallBelow d (opening (belowLimits d) m c r list) (opening d m c r list)
   unfolding opening
   opening-below r list =
-      by-checks d m _ _ [] (checks-below (r .number) list) refl refl refl (λ _. refl)
+      below-by-checks d m _ _ [] (checks-below (r .number) list) refl refl refl (λ _. refl)
       (λ _. same-directory refl refl refl refl)

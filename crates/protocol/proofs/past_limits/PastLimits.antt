@@ -3,9 +3,8 @@
 use Rattle.laws.proofs.Prelude.{ℕ, _≡_, refl, sym, ap, _∙_, List, Bool, true, false}
 use Rattle.directory.specs.declared.Directory.{Directory}
 use Rattle.protocol.specs.Result.{Result, accepted}
-use Rattle.protocol.specs.Book.{Call, open-release, make-step, fetch-page, fail-card, recover, join-card}
-use Rattle.protocol.specs.Book.{ask-desk}
-use Rattle.protocol.specs.Demand3.{perform}
+use Rattle.protocol.specs.Calls.{Call, open-release, make-step, fetch-page, fail-card, recover, join-card}
+use Rattle.protocol.specs.Calls.{ask-desk, perform}
 use Rattle.protocol.specs.PastLimits.{belowLimits, SameBelow, PastLimits}
 use Rattle.protocol.proofs.calls.Refused.{refused-unchanged}
 use Rattle.protocol.proofs.past_limits.Call.{CallBelow, LeftBelow, same-directory}

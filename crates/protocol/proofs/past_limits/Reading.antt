@@ -8,10 +8,10 @@ use Rattle.protocol.specs.Release.{sizeOf}
 use Rattle.protocol.specs.Fetch.{inMotion, fetchChecks, committedPage, fetch}
 use Rattle.protocol.specs.DeskQuestion.{deskChecks, deskOf, deskQuestion}
 use Rattle.protocol.specs.PastLimits.{belowLimits}
-use Rattle.protocol.proofs.checks.Order.{SameChecks, none, more}
+use Rattle.protocol.proofs.checks.Outcome.{SameChecks, none, more}
 use Rattle.protocol.proofs.past_limits.Directory.{marksBelow, live-below, open-below, next-below, primary-below}
 use Rattle.protocol.proofs.past_limits.Checks.{running-then, lowest-then}
-use Rattle.protocol.proofs.past_limits.Call.{CallBelow, by-checks, same-directory}
+use Rattle.protocol.proofs.past_limits.Call.{CallBelow, below-by-checks, same-directory}
 
 module _ (d : Directory) (m : List ℕ) where
   -- ---- a fetch
@@ -34,7 +34,7 @@ module _ (d : Directory) (m : List ℕ) where
       → CallBelow d (fetch (belowLimits d) m page buffer) (fetch d m page buffer)
   unfolding fetch
   fetch-below page buffer =
-      by-checks d m _ _ buffer (fetch-checks page (length buffer)) refl refl refl (λ _. refl)
+      below-by-checks d m _ _ buffer (fetch-checks page (length buffer)) refl refl refl (λ _. refl)
       (λ p. same-directory refl refl refl (page-below page (leb-false (d .pages) page (p .1 .1 .1 .0))))
 
   -- ---- a desk question
@@ -49,5 +49,5 @@ module _ (d : Directory) (m : List ℕ) where
   pub question-below : (c : ℕ) → CallBelow d (deskQuestion (belowLimits d) m c) (deskQuestion d m c)
   unfolding deskQuestion
   question-below c =
-      by-checks d m _ _ (zeros deskSize) (desk-checks c) refl refl refl (λ _. refl)
+      below-by-checks d m _ _ (zeros deskSize) (desk-checks c) refl refl refl (λ _. refl)
       (λ p. same-directory refl refl refl (desk-below c (leb-false (d .cards) c (p .1 .1 .1 .0))))

@@ -1,4 +1,4 @@
--- A recovery reads nothing past a directory's cards and pages.
+-- The memory and the release that a recovery goes by: nothing past a directory's cards and pages is read for them.
 use Rattle.laws.proofs.Prelude.{ℕ, zero, suc, _<_, _≡_, refl, _∙_, List, Bool, true, false}
 use Rattle.directory.specs.declared.Directory.{Directory}
 use Rattle.directory.specs.Directory.{isLive, primaryOf, secondaryOf, backupOf, markedLive}

@@ -8,11 +8,11 @@ use Rattle.protocol.specs.Release.{Release}
 use Rattle.protocol.specs.Checks.{awaitsRecovery}
 use Rattle.protocol.specs.Recovery.{awaitedCard, recoveryChecks, recovery, failedRelease}
 use Rattle.protocol.specs.PastLimits.{belowLimits}
-use Rattle.protocol.proofs.checks.Order.{Passed, SameChecks, none, more}
+use Rattle.protocol.proofs.checks.Outcome.{Passed, SameChecks, none, more}
 use Rattle.protocol.proofs.checks.ValidDirectory.{valid-directory}
 use Rattle.protocol.proofs.past_limits.Changes.{recovered-same, recovered-kept}
 use Rattle.protocol.proofs.past_limits.Checks.{fitting-then}
-use Rattle.protocol.proofs.past_limits.Call.{CallBelow, by-checks}
+use Rattle.protocol.proofs.past_limits.Call.{CallBelow, below-by-checks}
 use Rattle.protocol.proofs.past_limits.RecoveredMemory.{release-below, recovered-below}
 
 module _ (d : Directory) (m : List ℕ) where
@@ -31,7 +31,7 @@ module _ (d : Directory) (m : List ℕ) where
   pub recovery-below : CallBelow d (recovery (belowLimits d) m) (recovery d m)
   unfolding recovery
   recovery-below =
-      by-checks d m _ _ (zeros deskSize) checks-below refl refl refl
+      below-by-checks d m _ _ (zeros deskSize) checks-below refl refl refl
       (λ p. ap (λ (r : Release). r .number) (same-release p))
       (λ p.
       record {

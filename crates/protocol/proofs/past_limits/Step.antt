@@ -8,12 +8,12 @@ use Rattle.protocol.specs.Release.{sizeOf, stepMemory}
 use Rattle.protocol.specs.Checks.{check}
 use Rattle.protocol.specs.Step.{stepChecks, step}
 use Rattle.protocol.specs.PastLimits.{belowLimits}
-use Rattle.protocol.proofs.checks.Order.{SameChecks, none, more}
+use Rattle.protocol.proofs.checks.Outcome.{SameChecks, none, more}
 use Rattle.protocol.proofs.checks.ValidDirectory.{ValidDirectory, valid-directory}
 use Rattle.protocol.proofs.past_limits.Directory.{open-below, next-below}
 use Rattle.protocol.proofs.past_limits.Checks.{running-then, live-then}
 use Rattle.protocol.proofs.past_limits.Writes.{step-memory-below}
-use Rattle.protocol.proofs.past_limits.Call.{CallBelow, by-checks, same-directory}
+use Rattle.protocol.proofs.past_limits.Call.{CallBelow, below-by-checks, same-directory}
 
 module _ (d : Directory) (m : List ℕ) (c : ℕ) where
   checks-below : SameChecks (stepChecks (belowLimits d) m c) (stepChecks d m c)
@@ -32,5 +32,5 @@ module _ (d : Directory) (m : List ℕ) (c : ℕ) where
   pub step-below : CallBelow d (step (belowLimits d) m c) (step d m c)
   unfolding step
   step-below =
-      by-checks d m _ _ [] checks-below refl refl refl (λ _. refl)
+      below-by-checks d m _ _ [] checks-below refl refl refl (λ _. refl)
       (λ p. same-directory refl refl (memory-below (valid-directory d m (p .1 .0))) refl)

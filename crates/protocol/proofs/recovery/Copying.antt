@@ -17,15 +17,15 @@ pub record BothHalves (size : ℕ) (price : ℕ → ℕ) (m : List ℕ) (h p : �
   pub tentatives : (w : ℕ) → w < 32 → load size m h (pageStart p + (tentativeHalf + w)) ≡ price (32 * p + w)
   pub committeds : (w : ℕ) → w < 32 → load size m h (pageStart p + (committedHalf + w)) ≡ price (32 * p + w)
 
--- a page whose words are those of a page that is right
+-- a page whose words are those of a page both of whose halves are the book's
 pub both-halves-same : {size : ℕ} {price : ℕ → ℕ} {m m′ : List ℕ} {h h′ p : ℕ}
     → ((o : ℕ) → o < 64 → load size m′ h′ (pageStart p + o) ≡ load size m h (pageStart p + o))
     → BothHalves size price m h p
     → BothHalves size price m′ h′ p
-both-halves-same same right =
+both-halves-same same both =
     record {
-      tentatives = λ w within. same (tentativeHalf + w) (omega arith) ∙ right .tentatives w within;
-      committeds = λ w within. same (committedHalf + w) (omega arith) ∙ right .committeds w within;
+      tentatives = λ w within. same (tentativeHalf + w) (omega arith) ∙ both .tentatives w within;
+      committeds = λ w within. same (committedHalf + w) (omega arith) ∙ both .committeds w within;
     }
 
 -- ---- one page
@@ -70,7 +70,7 @@ module _ (d : Directory) (f page : ℕ) (m : List ℕ) where
 
 -- ---- the pages below n
 
-pub record RehomedBelow (d : Directory) (f : ℕ) (price : ℕ → ℕ) (n : ℕ) (m m′ : List ℕ) : Type 0 where
+pub record HomesCopied (d : Directory) (f : ℕ) (price : ℕ → ℕ) (n : ℕ) (m m′ : List ℕ) : Type 0 where
   pub same-length : length m′ ≡ length m
   pub low : (h o : ℕ) → o < 676 → load (sizeOf d) m′ h o ≡ load (sizeOf d) m h o
   pub stays : (h p : ℕ) → p < d .pages → BothHalves (sizeOf d) price m h p → BothHalves (sizeOf d) price m′ h p
@@ -81,11 +81,11 @@ module _ (d : Directory) (f : ℕ) (price : ℕ → ℕ) (m : List ℕ) (shape :
     (kept-both-halves : (p : ℕ) → p < d .pages → lostHome d f p ≡ true
     → BothHalves (sizeOf d) price m (keptHome d f p) p)
     (new-live : (p : ℕ) → p < d .pages → lostHome d f p ≡ true → isLive d (newHome d f p) ≡ true) where
-  one-page : (n : ℕ) (m′ : List ℕ) → n < d .pages → RehomedBelow d f price n m m′
-      → RehomedBelow d f price (suc n) m (copyToNewHome d f n m′)
+  one-page : (n : ℕ) (m′ : List ℕ) → n < d .pages → HomesCopied d f price n m m′
+      → HomesCopied d f price (suc n) m (copyToNewHome d f n m′)
   one-page n m′ fits below = go (lostHome d f n) refl
     where
-      go : (was : Bool) → lostHome d f n ≡ was → RehomedBelow d f price (suc n) m (copyToNewHome d f n m′)
+      go : (was : Bool) → lostHome d f n ≡ was → HomesCopied d f price (suc n) m (copyToNewHome d f n m′)
       go false whole =
           rw (copies-not d f n m′ whole)
           (record {
@@ -102,7 +102,7 @@ module _ (d : Directory) (f : ℕ) (price : ℕ → ℕ) (m : List ℕ) (shape :
           record {
             same-length = rw (copies d f n m′ lost) (length-copy-run _ _ _ _ _ _ _ ∙ below .same-length);
             low = λ h o small. copied-low d f n m′ lost fits h o small ∙ below .low h o small;
-            stays = λ h p inside right. still h p inside (below .stays h p inside right);
+            stays = λ h p inside both. still h p inside (below .stays h p inside both);
             new = λ p before inside lost-too.
                 elim (ℕ-discrete p n) [
                   | yes same ↦ rw same there
@@ -119,28 +119,28 @@ module _ (d : Directory) (f : ℕ) (price : ℕ → ℕ) (m : List ℕ) (shape :
 
           still : (h p : ℕ) → p < d .pages → BothHalves (sizeOf d) price m′ h p
               → BothHalves (sizeOf d) price (copyToNewHome d f n m′) h p
-          still h p inside right =
+          still h p inside both =
               elim (ℕ-discrete p n) [
                 | yes same ↦ elim (ℕ-discrete h (newHome d f n)) [
                   | yes here ↦ rw (same, here) there
                   | no other ↦ both-halves-same
-                      (λ o within. copied-elsewhere d f n m′ lost fits h p o inside within (inl other)) right
+                      (λ o within. copied-elsewhere d f n m′ lost fits h p o inside within (inl other)) both
                 ]
                 | no other ↦ both-halves-same
-                    (λ o within. copied-elsewhere d f n m′ lost fits h p o inside within (inr other)) right
+                    (λ o within. copied-elsewhere d f n m′ lost fits h p o inside within (inr other)) both
               ]
 
-  pub rehomed-below : (n : ℕ) → n ≤ d .pages → RehomedBelow d f price n m (inTurn (copyToNewHome d f) n m)
+  pub homes-copied-below : (n : ℕ) → n ≤ d .pages → HomesCopied d f price n m (inTurn (copyToNewHome d f) n m)
   unfolding inTurn
-  rehomed-below zero fits =
+  homes-copied-below zero fits =
       record {
         same-length = refl;
         low = λ h o small. refl;
-        stays = λ h p inside right. right;
+        stays = λ h p inside both. both;
         new = λ p before inside lost. absurd (omega arith);
       }
-  rehomed-below (suc n) fits = one-page n _ (omega arith) (rehomed-below n (omega arith))
+  homes-copied-below (suc n) fits = one-page n _ (omega arith) (homes-copied-below n (omega arith))
 
-  pub rehomed : RehomedBelow d f price (d .pages) m (copyToNewHomes d f m)
+  pub homes-copied : HomesCopied d f price (d .pages) m (copyToNewHomes d f m)
   unfolding copyToNewHomes
-  rehomed = rehomed-below (d .pages) (omega arith)
+  homes-copied = homes-copied-below (d .pages) (omega arith)

@@ -5,7 +5,7 @@ use lib.ListN.{length-set}
 use Rattle.laws.specs.Search.{inTurn}
 use Rattle.directory.specs.declared.Directory.{Directory}
 use Rattle.directory.specs.declared.Status.the-variants.{Running}
-use Rattle.directory.specs.Directory.{directoryOf, primaryOf, secondaryOf, withHomes}
+use Rattle.directory.specs.Directory.{directoryOf, primaryOf, secondaryOf, withHomes, withStatus}
 use Rattle.directory.proofs.Changes.{primary-of-moved, secondary-of-moved, primary-of-other, secondary-of-other}
 use Rattle.protocol.specs.Recovery.{lostHome, keptHome, newHome, moveHome, recoveredDirectory}
 
@@ -126,9 +126,13 @@ module _ (d : Directory) (f : ℕ) (most : d .pages ≤ 64) (firsts : length (d 
     moved = moved-below (d .pages) (omega arith)
 
     -- the directory by its parts
+    running-parts : (e : Directory) → e .cards ≡ d .cards → e .pages ≡ d .pages → e .live ≡ d .live
+        → withStatus e Running ≡ directoryOf (d .cards) (d .pages) (d .live) (e .primary) (e .secondary) Running
+    running-parts e cards pages live = rw (cards, pages, live)
+
     pub recovered-parts : recoveredDirectory d f
         ≡ directoryOf (d .cards) (d .pages) (d .live) (movedHomes .primary) (movedHomes .secondary) Running
     unfolding recoveredDirectory movedHomes
     recovered-parts =
         let m = moved-below (d .pages) (omega arith) in
-        rw (m .cards, m .pages, m .live)
+        running-parts (inTurn (moveHome d f) (d .pages) d) (m .cards) (m .pages) (m .live)

@@ -19,63 +19,63 @@ use Rattle.protocol.proofs.records.Recorded.{Recorded, recorded-kept}
 use Rattle.protocol.proofs.records.Failed.{FailedBelow, failed-below}
 use Rattle.protocol.proofs.records.Own.{OwnBelow, own-below}
 use Rattle.protocol.proofs.invariant.Rack.{AwaitingRack, next-is-live, unmarked}
-use Rattle.protocol.proofs.recovery.Pages as recovering
+use Rattle.protocol.proofs.recovery.Restored as restored
 
 -- the memory with the records written, beside that with the releases closed and that with the pages copied
-pub record RecordsWritten (d : Directory) (b : Book) (closedMemory copiedPages recordedMemory : List ℕ) : Type 0 where
-  pub same-length : length recordedMemory ≡ length closedMemory
-  pub own-word : (c o : ℕ) → o < 20 → load (sizeOf d) recordedMemory c o ≡ load (sizeOf d) closedMemory c o
+pub record RecordsWritten (d : Directory) (b : Book) (memoryClosed memoryCopied memoryRecorded : List ℕ) : Type 0 where
+  pub same-length : length memoryRecorded ≡ length memoryClosed
+  pub own-word : (c o : ℕ) → o < 20 → load (sizeOf d) memoryRecorded c o ≡ load (sizeOf d) memoryClosed c o
   pub page-word : (h p o : ℕ) → p < d .pages → o < 64
-      → load (sizeOf d) recordedMemory h (pageStart p + o) ≡ load (sizeOf d) copiedPages h (pageStart p + o)
+      → load (sizeOf d) memoryRecorded h (pageStart p + o) ≡ load (sizeOf d) memoryCopied h (pageStart p + o)
   -- a live card's record stands on its backup, a dead card's on every live card
   pub live-recorded : (c : ℕ) → isLive d c ≡ true
-      → Recorded c none (b .last c) (load (sizeOf d) recordedMemory (backupOf d c))
+      → Recorded c none (b .last c) (load (sizeOf d) memoryRecorded (backupOf d c))
   pub dead-recorded : (g h : ℕ) → isLive d g ≡ false → g < d .cards → isLive d h ≡ true
-      → Recorded g none (b .last g) (load (sizeOf d) recordedMemory h)
+      → Recorded g none (b .last g) (load (sizeOf d) memoryRecorded h)
 
 module _ (d : Directory) (f : ℕ) (m : List ℕ) (b : Book) (rack : AwaitingRack d f m b) where
   abbrev bookAfter : Book
   bookAfter = clearOpen (countOpen b)
 
-  abbrev closedMemory : List ℕ
-  closedMemory = closeReleases d f m
+  abbrev memoryClosed : List ℕ
+  memoryClosed = closeReleases d f m
 
-  abbrev copiedPages : List ℕ
-  copiedPages = copyToNewHomes d f (restoredMemory d f m)
+  abbrev memoryCopied : List ℕ
+  memoryCopied = copyToNewHomes d f (restoredMemory d f m)
 
   abbrev r : Release
   r = failedRelease d f m
 
-  abbrev failedWritten : List ℕ
-  failedWritten = inTurn (writeFailed d f r) (d .cards) copiedPages
+  abbrev memoryFailed : List ℕ
+  memoryFailed = inTurn (writeFailed d f r) (d .cards) memoryCopied
 
-  abbrev recordedMemory : List ℕ
-  recordedMemory = inTurn (writeOwnRecord (sizeOf d) (backupWas d f) (backupOf d)) (d .cards) failedWritten
+  abbrev memoryRecorded : List ℕ
+  memoryRecorded = inTurn (writeOwnRecord (sizeOf d) (backupWas d f) (backupOf d)) (d .cards) memoryFailed
 
   few : f < 8
-  few = recovering.few d f m b rack
+  few = restored.few d f m b rack
 
-  copied-shape : Shape d copiedPages
-  copied-shape = shape-kept (recovering.closed d f m b rack .shape) copiedPages (recovering.pages-length d f m b rack)
+  copied-shape : Shape d memoryCopied
+  copied-shape = shape-kept (restored.closed d f m b rack .shape) memoryCopied (restored.pages-length d f m b rack)
 
-  failed : FailedBelow d f r (d .cards) copiedPages failedWritten
+  failed : FailedBelow d f r (d .cards) memoryCopied memoryFailed
   failed =
-      failed-below d f r few (rw (recovering.answers d f m b rack) (rack .core .last-eight f)) copiedPages copied-shape
+      failed-below d f r few (rw (restored.answers d f m b rack) (rack .core .last-eight f)) memoryCopied copied-shape
       (d .cards)
 
   backups : (c : ℕ) → isLive d (backupOf d c) ≡ true
   backups c = next-is-live d (rack .two) (rack .core .shape .below) c
 
   -- own stamp and desk are as they were when the releases were closed
-  own-still : (c : ℕ) → ownRelease (sizeOf d) failedWritten c ≡ ownRelease (sizeOf d) closedMemory c
+  own-still : (c : ℕ) → ownRelease (sizeOf d) memoryFailed c ≡ ownRelease (sizeOf d) memoryClosed c
   own-still c =
-      own-words-kept (sizeOf d) closedMemory failedWritten c
-      (failed .same-length ∙ recovering.pages-length d f m b rack)
+      own-words-kept (sizeOf d) memoryClosed memoryFailed c
+      (failed .same-length ∙ restored.pages-length d f m b rack)
       (λ o small. failed .same c o (omega arith) (inl (omega arith))
-      ∙ recovering.low-kept d f m b rack c o (omega arith))
+      ∙ restored.low-kept d f m b rack c o (omega arith))
 
-  own-last : (c : ℕ) → isLive d c ≡ true → ownRelease (sizeOf d) closedMemory c ≡ bookAfter .last c
-  own-last c live = recovering.closed d f m b rack .owns c live
+  own-last : (c : ℕ) → isLive d c ≡ true → ownRelease (sizeOf d) memoryClosed c ≡ bookAfter .last c
+  own-last c live = restored.closed d f m b rack .owns c live
 
   -- the cards whose records are due
   due-live : (c : ℕ) → backupWas d f c ≡ true → isLive d c ≡ true
@@ -97,29 +97,29 @@ module _ (d : Directory) (f : ℕ) (m : List ℕ) (b : Book) (rack : AwaitingRac
   small : (c : ℕ) → isLive d c ≡ true → c < 8
   small c live = omega (arith, rack .core .shape .below c live, rack .core .shape .few-cards)
 
-  backed : OwnBelow (sizeOf d) (backupWas d f) (backupOf d) (d .cards) failedWritten recordedMemory
+  backed : OwnBelow (sizeOf d) (backupWas d f) (backupOf d) (d .cards) memoryFailed memoryRecorded
   backed =
-      own-below (sizeOf d) (omega arith) (backupWas d f) (backupOf d) failedWritten (λ c due. small c (due-live c due))
-      (λ c due. area-of-live (shape-kept copied-shape failedWritten (failed .same-length)) (backupOf d c) (backups c))
-      (λ c due. rw (own-still c, own-last c (due-live c due)) (recovering.closed d f m b rack .last-eight c)) (d .cards)
+      own-below (sizeOf d) (omega arith) (backupWas d f) (backupOf d) memoryFailed (λ c due. small c (due-live c due))
+      (λ c due. area-of-live (shape-kept copied-shape memoryFailed (failed .same-length)) (backupOf d c) (backups c))
+      (λ c due. rw (own-still c, own-last c (due-live c due)) (restored.closed d f m b rack .last-eight c)) (d .cards)
 
-  own-word : (c o : ℕ) → o < 20 → load (sizeOf d) recordedMemory c o ≡ load (sizeOf d) closedMemory c o
+  own-word : (c o : ℕ) → o < 20 → load (sizeOf d) memoryRecorded c o ≡ load (sizeOf d) memoryClosed c o
   own-word c o low =
       backed .low c o low ∙ failed .same c o (omega arith) (inl (omega arith))
-      ∙ recovering.low-kept d f m b rack c o (omega arith)
+      ∙ restored.low-kept d f m b rack c o (omega arith)
 
   page-word : (h p o : ℕ) → p < d .pages → o < 64
-      → load (sizeOf d) recordedMemory h (pageStart p + o) ≡ load (sizeOf d) copiedPages h (pageStart p + o)
+      → load (sizeOf d) memoryRecorded h (pageStart p + o) ≡ load (sizeOf d) memoryCopied h (pageStart p + o)
   page-word h p o page within =
       backed .high h _ (omega arith) (omega arith) ∙ failed .same h _ (omega arith) (inr (omega (arith, few)))
 
   -- a record that is not written
   other-record : (g h o : ℕ) → g < 8 → g ≢ f → (isLive d g ≡ true → backupBefore d f g ≢ f) → 20 + 18 * g ≤ o
       → o < 38 + 18 * g
-      → load (sizeOf d) recordedMemory h o ≡ load (sizeOf d) closedMemory h o
+      → load (sizeOf d) memoryRecorded h o ≡ load (sizeOf d) memoryClosed h o
   other-record g h o little other not-his above below =
       backed .records g h o little (not-due g not-his) above below
-      ∙ failed .same h o (omega arith) (apart (decLt g f)) ∙ recovering.low-kept d f m b rack h o (omega arith)
+      ∙ failed .same h o (omega arith) (apart (decLt g f)) ∙ restored.low-kept d f m b rack h o (omega arith)
     where
       apart : Dec (g < f) → (o < 20 + 18 * f) ⊎ (38 + 18 * f ≤ o)
       apart (yes less) = inl (omega arith)
@@ -133,7 +133,7 @@ module _ (d : Directory) (f : ℕ) (m : List ℕ) (b : Book) (rack : AwaitingRac
 
   -- a live card's record stands on its backup
   live-recorded : (c : ℕ) → isLive d c ≡ true
-      → Recorded c none (bookAfter .last c) (load (sizeOf d) recordedMemory (backupOf d c))
+      → Recorded c none (bookAfter .last c) (load (sizeOf d) memoryRecorded (backupOf d c))
   live-recorded c live =
       elim (ℕ-discrete (backupBefore d f c) f) [
         | yes his ↦ rw (← (own-last c live), ← (own-still c))
@@ -142,7 +142,7 @@ module _ (d : Directory) (f : ℕ) (m : List ℕ) (b : Book) (rack : AwaitingRac
             rw (same-backup c other)
             (recorded-kept c none (bookAfter .last c) _ _
             (λ o above below. other-record c _ o (small c live) (not-failed c live) (λ _. other) above below)
-            (recovering.closed d f m b rack .recorded c live (rw (← (same-backup c other)) (backups c))))
+            (restored.closed d f m b rack .recorded c live (rw (← (same-backup c other)) (backups c))))
       ]
     where
       not-failed : (c : ℕ) → isLive d c ≡ true → c ≢ f
@@ -150,31 +150,31 @@ module _ (d : Directory) (f : ℕ) (m : List ℕ) (b : Book) (rack : AwaitingRac
 
   -- a dead card's record stands on every live card
   dead-recorded : (g h : ℕ) → isLive d g ≡ false → g < d .cards → isLive d h ≡ true
-      → Recorded g none (bookAfter .last g) (load (sizeOf d) recordedMemory h)
+      → Recorded g none (bookAfter .last g) (load (sizeOf d) memoryRecorded h)
   dead-recorded g h dead less live =
       elim (ℕ-discrete g f) [
         | yes same ↦
-            rw (same, recovering.last-same d f m b rack f (rack .lost), ← (recovering.answers d f m b rack))
+            rw (same, restored.last-same d f m b rack f (rack .lost), ← (restored.answers d f m b rack))
             (recorded-kept f none r _ _
             (λ o above below. backed .records f h o few (not-due f (λ up. absurd (true≢false (sym up ∙ rack .lost))))
             above below)
             (failed .recorded h (rack .core .shape .below h live) live))
         | no other ↦
-            rw (recovering.last-same d f m b rack g dead)
+            rw (restored.last-same d f m b rack g dead)
             (recorded-kept g none (b .last g) _ _
             (λ o above below.
             other-record g h o (omega (arith, rack .core .shape .few-cards)) other
             (λ up. absurd (true≢false (sym up ∙ dead)))
             above below
-            ∙ recovering.closed d f m b rack .dead g h o dead less live above below)
+            ∙ restored.closed d f m b rack .dead g h o dead less live above below)
             (rack .records g h dead other less live))
       ]
 
-  pub records-written : RecordsWritten d bookAfter closedMemory copiedPages (writeRecords d f r copiedPages)
+  pub records-written : RecordsWritten d bookAfter memoryClosed memoryCopied (writeRecords d f r memoryCopied)
   unfolding writeRecords
   records-written =
       record {
-        same-length = backed .same-length ∙ failed .same-length ∙ recovering.pages-length d f m b rack;
+        same-length = backed .same-length ∙ failed .same-length ∙ restored.pages-length d f m b rack;
         own-word = own-word;
         page-word = page-word;
         live-recorded = live-recorded;

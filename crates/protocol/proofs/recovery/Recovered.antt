@@ -19,28 +19,28 @@ use Rattle.protocol.proofs.recovery.Copying.{BothHalves, both-halves-sa
 use Rattle.protocol.proofs.recovery.Homes.{MovedBelow, movedHomes, moved, recovered-parts, whole-primary}
 use Rattle.protocol.proofs.recovery.Homes.{whole-secondary, kept-primary}
 use Rattle.protocol.proofs.invariant.Rack.{RunningRack, AwaitingRack}
-use Rattle.protocol.proofs.recovery.Pages as recovering
+use Rattle.protocol.proofs.recovery.Restored as restored
 use Rattle.protocol.proofs.recovery.Records.{RecordsWritten, records-written}
 
 module _ (d : Directory) (f : ℕ) (m : List ℕ) (b : Book) (rack : AwaitingRack d f m b) where
   abbrev bookAfter : Book
   bookAfter = clearOpen (countOpen b)
 
-  abbrev closedMemory : List ℕ
-  closedMemory = closeReleases d f m
+  abbrev memoryClosed : List ℕ
+  memoryClosed = closeReleases d f m
 
-  abbrev copiedPages : List ℕ
-  copiedPages = copyToNewHomes d f (restoredMemory d f m)
+  abbrev memoryCopied : List ℕ
+  memoryCopied = copyToNewHomes d f (restoredMemory d f m)
 
-  abbrev recordedMemory : List ℕ
-  recordedMemory = writeRecords d f (failedRelease d f m) copiedPages
+  abbrev memoryRecorded : List ℕ
+  memoryRecorded = writeRecords d f (failedRelease d f m) memoryCopied
 
-  written : RecordsWritten d bookAfter closedMemory copiedPages recordedMemory
+  written : RecordsWritten d bookAfter memoryClosed memoryCopied memoryRecorded
   written = records-written d f m b rack
 
-  page-both-halves : (h p : ℕ) → p < d .pages → BothHalves (sizeOf d) (bookAfter .price) copiedPages h p
-      → BothHalves (sizeOf d) (bookAfter .price) recordedMemory h p
-  page-both-halves h p page right = both-halves-same (λ o within. written .page-word h p o page within) right
+  page-both-halves : (h p : ℕ) → p < d .pages → BothHalves (sizeOf d) (bookAfter .price) memoryCopied h p
+      → BothHalves (sizeOf d) (bookAfter .price) memoryRecorded h p
+  page-both-halves h p page both = both-halves-same (λ o within. written .page-word h p o page within) both
 
   -- ---- the directory with its homes moved
 
@@ -78,30 +78,30 @@ module _ (d : Directory) (f : ℕ) (m : List ℕ) (b : Book) (rack : AwaitingRac
       go (inr lost) = absurd (whole-secondary d f p whole lost)
 
   home-both-halves : (h p : ℕ) → HomeOf d′ h p → p < d .pages
-      → BothHalves (sizeOf d) (bookAfter .price) recordedMemory h p
+      → BothHalves (sizeOf d) (bookAfter .price) memoryRecorded h p
   home-both-halves h p (inr home) page =
       rw (home, first p page)
       (page-both-halves (keptHome d f p) p page
-      (recovering.pages-rehomed d f m b rack .stays (keptHome d f p) p page
-      (recovering.kept-both-halves d f m b rack p page)))
+      (restored.pages-copied d f m b rack .stays (keptHome d f p) p page
+      (restored.kept-both-halves d f m b rack p page)))
   home-both-halves h p (inl home) page = go (second p page)
     where
-      go : SecondHome p → BothHalves (sizeOf d) (bookAfter .price) recordedMemory h p
+      go : SecondHome p → BothHalves (sizeOf d) (bookAfter .price) memoryRecorded h p
       go (inl new) =
           rw (home, new .1)
-          (page-both-halves (newHome d f p) p page (recovering.pages-rehomed d f m b rack .new p page page (new .0)))
+          (page-both-halves (newHome d f p) p page (restored.pages-copied d f m b rack .new p page page (new .0)))
       go (inr old) =
           rw (home, old .1)
           (page-both-halves (secondaryOf d p) p page
-          (recovering.pages-rehomed d f m b rack .stays (secondaryOf d p) p page
-          (recovering.restored-both-halves d f m b rack (secondaryOf d p) p (whole-live p page (old .0))
+          (restored.pages-copied d f m b rack .stays (secondaryOf d p) p page
+          (restored.restored-both-halves d f m b rack (secondaryOf d p) p (whole-live p page (old .0))
           (inl refl) page)))
 
   -- ---- the rack that runs
 
-  recovered-core : Core d′ (backupOf d) (load (sizeOf d) recordedMemory) (Unit {0}) (Unit {0}) recordedMemory bookAfter
+  recovered-core : Core d′ (backupOf d) (load (sizeOf d) memoryRecorded) (Unit {0}) (Unit {0}) memoryRecorded bookAfter
   recovered-core =
-      let closed = recovering.closed d f m b rack in
+      let closed = restored.closed d f m b rack in
       record {
         shape = record {
           few-cards = closed .shape .few-cards;
@@ -114,23 +114,23 @@ module _ (d : Directory) (f : ℕ) (m : List ℕ) (b : Book) (rack : AwaitingRac
         under = λ c. tt;
         eights = λ c. tt;
         last-eight = closed .last-eight;
-        apart = λ c x label other named. names-none label;
+        disjoint = λ c x label other named. names-none label;
         numbers = λ c. tt;
         owns = λ c live.
-            own-words-kept (sizeOf d) closedMemory recordedMemory c (written .same-length)
+            own-words-kept (sizeOf d) memoryClosed memoryRecorded c (written .same-length)
             (λ o less. written .own-word c o (omega arith))
             ∙ closed .owns c live;
         tentative = λ _. claim-idle d′ (tentatives d′ (backupOf d)) (bookAfter .release)
-            (bookAfter .price) recordedMemory (λ c. refl)
+            (bookAfter .price) memoryRecorded (λ c. refl)
             (λ h p w word. home-both-halves h p (word .home) (word .page) .tentatives w (word .word));
         committed = λ _. claim-idle d′ (committeds d′ (backupOf d)) (bookAfter .release)
-            (bookAfter .price) recordedMemory (λ c. refl)
+            (bookAfter .price) memoryRecorded (λ c. refl)
             (λ h p w word. home-both-halves h p (word .home) (word .page) .committeds w (word .word));
         recorded = λ c live up. written .live-recorded c live;
         dead = λ g h o gone less live above below. refl;
       }
 
-  runs : RunningRack d′ recordedMemory bookAfter
+  runs : RunningRack d′ memoryRecorded bookAfter
   runs =
       record {
         running = refl;
@@ -150,17 +150,17 @@ module _ (d : Directory) (f : ℕ) (m : List ℕ) (b : Book) (rack : AwaitingRac
           first = rack .two .first;
           second = rack .two .second;
         };
-        primary-live = λ p page. rw (first p page) (recovering.kept-home d f m b rack p page .0);
+        primary-live = λ p page. rw (first p page) (restored.kept-home d f m b rack p page .0);
         secondary-live = λ p page. second-live p page (second p page);
         homes-differ = λ p page. differ p page (second p page);
       }
     where
       second-live : (p : ℕ) → p < d .pages → SecondHome p → isLive d (secondaryOf d′ p) ≡ true
-      second-live p page (inl new) = rw (new .1) (recovering.new-home d f m b rack p)
+      second-live p page (inl new) = rw (new .1) (restored.new-home d f m b rack p)
       second-live p page (inr old) = rw (old .1) (whole-live p page (old .0))
 
       differ : (p : ℕ) → p < d .pages → SecondHome p → primaryOf d′ p ≢ secondaryOf d′ p
-      differ p page (inl new) same = recovering.new-is-other d f m b rack p (sym (new .1) ∙ sym same ∙ first p page)
+      differ p page (inl new) same = restored.new-is-other d f m b rack p (sym (new .1) ∙ sym same ∙ first p page)
       differ p page (inr old) same =
           rack .homes-differ p page
           (sym (kept-primary d f p (whole-primary d f p (old .0))) ∙ sym (first p page) ∙ same ∙ old .1)

@@ -1,7 +1,7 @@
 -- A memory of its stated length, and what a card's own words say when they are kept.
 use Rattle.laws.proofs.Prelude.{ℕ, _+_, _*_, _≤_, _<_, _≡_, _∙_, List, Bool, true, arith, length}
-use Rattle.memory.specs.Layout.{deskSize, ownStamp, ownDesk, openFlag, stepsMade, releaseNumber, releaseDesk}
-use Rattle.memory.specs.Layout.{listStart, listSize}
+use Rattle.memory.specs.Layout.{deskSize, ownStamp, ownDesk, openFlag, stepsMade, releaseNumber, releaseDesk, listStart}
+use Rattle.memory.specs.Layout.{listSize}
 use Rattle.memory.specs.Area.{AreaIn, load, loadRun}
 use Rattle.memory.proofs.Index.{area-in}
 use Rattle.memory.proofs.Runs.{load-run-kept}

@@ -18,7 +18,7 @@ use Rattle.protocol.proofs.release.Writes.{to-committed, to-done, to-cl
 use Rattle.protocol.proofs.release.Writes.{write-stamp, write-committed, write-done}
 use Rattle.protocol.proofs.release.WordAfter.{written}
 use Rattle.protocol.proofs.release.Shape.{SameOwn, SameRelease}
-use Rattle.protocol.proofs.release.Write.{length-make-write, load-make-write, make-write-other}
+use Rattle.protocol.proofs.release.OneWrite.{length-make-write, load-make-write, make-write-other}
 
 -- ---- the writes of a release stand in its areas' records and pages
 

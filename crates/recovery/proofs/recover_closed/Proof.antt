@@ -57,11 +57,11 @@ returns c =
     let size = next .before .before in
     let a = size .before .before .before .before .before .args in
     let rack = rackOf (a .cards) (a .pages) (a .t4) (a .primary .now) (a .secondary .now) in
-    let told = rw (size .area-size .ensures, next .next-live-after .ensures) at (read .load-record .ensures) in
+    let says = rw (size .area-size .ensures, next .next-live-after .ensures) at (read .load-record .ensures) in
     let forward = rw (size .area-size .ensures, next .next-live-after .ensures) at (way .under-way .ensures) in
     let pages = restored .restore-pages .ensures ∙ same-pages rack _ (a .memory .now) in
-    let written = rw (moved .0, pages, forward, told .0, told .1) at (c .before .before .write-records .ensures) in
-    (told .0, (told .1, (written ∙ same-records rack (a .failed) _ _, moved .1)))
+    let written = rw (moved .0, pages, forward, says .0, says .1) at (c .before .before .write-records .ensures) in
+    (says .0, (says .1, (written ∙ same-records rack (a .failed) _ _, moved .1)))
 
 pub recover-closed-spec : {M : Type 1} → statement M
 recover-closed-spec =

@@ -17,8 +17,8 @@ is-open-requires c κs =
 
 run-release-requires : tie.Need-run-release-requires
 run-release-requires c κs =
-    let told = c .before .before in
-    let test = told .before in
+    let says = c .before .before in
+    let test = says .before in
     let size = test .before .before .before in
     let start = size .before .before .before .before .before in
     let a = start .args in
@@ -28,18 +28,18 @@ run-release-requires c κs =
     let backup = backup-in rack (a .failed) (a .card) (a .memory .now) (pre .0) (pre .1 .1 .0 .0) (pre .1 .1 .0 .1)
     opened in (
       pre .1 .0,
-      (rack-card (pre .0) (pre .1 .1 .0 .1), (rw (told .backup-before .ensures) backup, pre .1 .1 .1 opened)),
+      (rack-card (pre .0) (pre .1 .1 .0 .1), (rw (says .backup-before .ensures) backup, pre .1 .1 .1 opened)),
     )
 
 returns : tie.Need-returns
 returns c =
-    let told = c .before .before .before .before .before in
-    let test = told .before in
+    let says = c .before .before .before .before .before in
+    let test = says .before in
     let size = test .before .before .before in
     let a = size .before .before .before .before .before .args in
     let rack = rackOf (a .cards) (a .pages) (a .t4) (a .primary .now) (a .secondary .now) in
     let opened = (rw (size .area-size .ensures) at (sym (test .before .is-open .ensures))) ∙ test .if1 .taken in
-    (rw (told .backup-before .ensures) at (c .before .before .run-release .ensures))
+    (rw (says .backup-before .ensures) at (c .before .before .run-release .ensures))
     ∙ run-opened rack (a .failed) (a .card) (a .memory .now) opened
 
 returns-2 : tie.Need-returns-2

@@ -46,8 +46,8 @@ returns c =
     let read = clear .before .before .before in
     let next = read .before .before .before in
     let size = next .before in
-    let told = read .load-record .ensures in
-    rw (run .store-run .ensures, word .store-word .ensures, clear .clear-run .ensures, told .0, told .1)
+    let says = read .load-record .ensures in
+    rw (run .store-run .ensures, word .store-word .ensures, clear .clear-run .ensures, says .0, says .1)
     (rw (next .next-live-after .ensures, size .area-size .ensures) (own-stores _ _ _ _ _))
 
 pub reset-area-spec : {M : Type 1} → statement M

@@ -1,16 +1,14 @@
 -- A release opened, stepped and closed, and a card's record: worked examples.
 -- Assumes nothing: these are definitions.
-use Rattle.laws.specs.Prelude.{ℕ, _+_, List, [], _∷_, _++_}
+use Rattle.laws.specs.Prelude.{ℕ, List, [], _∷_, _++_}
 use Rattle.laws.specs.Examples.{Example, computed}
 use Rattle.memory.specs.Area.{store, storeRun, zeros}
 use Rattle.diff.specs.declared.Price.{Price}
 use Rattle.protocol.specs.Release.{Release, releaseOf, Write, releaseWrites, close}
 use Rattle.protocol.specs.Record.{recordedRelease, underWay, settledRecord}
 use Rattle.protocol.specs.Result.{Result}
-use Rattle.protocol.specs.Opening.{opening}
-use Rattle.protocol.specs.Step.{step}
-use Rattle.protocol.specs.DeskQuestion.{deskQuestion}
-use Rattle.protocol.specs.examples.Racks.{smallRack, smallMemory, numbersFrom, bit, outcomeOf}
+use Rattle.protocol.specs.Calls.{opening, step, deskQuestion}
+use Rattle.protocol.specs.Examples.Racks.{smallRack, smallMemory, numbersFrom, bit, outcomeOf}
 
 -- the desk words 50 to 57
 abbrev pub desk : List ℕ

@@ -157,8 +157,8 @@ module _ (d : Directory) (x : ℕ) (m : List ℕ) (b : Book) (rack : RunningRack
             (rack .core .owns c (live-before c other live))
       ]
 
-  core₃ : Core d′ (backupOf d′) (load (sizeOf d) m′) (Unit {0}) (Unit {0}) m′ b
-  core₃ =
+  joined-core : Core d′ (backupOf d′) (load (sizeOf d) m′) (Unit {0}) (Unit {0}) m′ b
+  joined-core =
       let core = rack .core in
       record {
         shape = record {
@@ -172,7 +172,7 @@ module _ (d : Directory) (x : ℕ) (m : List ℕ) (b : Book) (rack : RunningRack
         under = core .under;
         eights = core .eights;
         last-eight = core .last-eight;
-        apart = core .apart;
+        disjoint = core .disjoint;
         numbers = core .numbers;
         owns = owns;
         tentative = λ _. page-claim (tentatives d (backupOf d)) (tentatives d′ (backupOf d′)) refl (omega arith)
@@ -204,7 +204,7 @@ module _ (d : Directory) (x : ℕ) (m : List ℕ) (b : Book) (rack : RunningRack
           primaries = rack .arrays .primaries;
           secondaries = rack .arrays .secondaries;
         };
-        core = core₃;
+        core = joined-core;
         records = records;
         two = two;
         primary-live = λ p page. live-still (primaryOf d p) (rack .primary-live p page);

@@ -1,6 +1,6 @@
 -- The racks of the examples.
 -- Assumes nothing: these are definitions.
-use Rattle.laws.specs.Prelude.{ℕ, _+_, _*_, List, [], _∷_, _++_, Bool, cond, take, drop}
+use Rattle.laws.specs.Prelude.{ℕ, _+_, _*_, List, _++_, Bool, cond, take, drop}
 use Rattle.answer.specs.Outcome.{inWords}
 use Rattle.memory.specs.Area.{zeros}
 use Rattle.directory.specs.declared.Directory.{Directory}

@@ -12,7 +12,7 @@ use Rattle.protocol.specs.Record.{writeRecord}
 use Rattle.protocol.specs.Result.{Result}
 use Rattle.protocol.specs.Opening.{openMemory}
 use Rattle.protocol.specs.Recovery.{closeReleases, recoveredMemory, recoveredDirectory, recovery}
-use Rattle.protocol.specs.examples.Racks.{smallRack, smallMemory, numbersFrom, wordsAt, outcomeOf, directoryWords}
+use Rattle.protocol.specs.Examples.Racks.{smallRack, numbersFrom, wordsAt, outcomeOf, directoryWords}
 
 -- ---- card 1 has failed
 

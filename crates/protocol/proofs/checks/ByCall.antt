@@ -13,13 +13,10 @@ use Rattle.diff.specs.Reading.{checkDiff}
 use Rattle.diff.specs.OnlyDiff.{Allowed}
 use Rattle.protocol.specs.Release.{sizeOf, ownRelease, isOpen}
 use Rattle.protocol.specs.Checks.{outsideLimits, unfitRack, awaitsRecovery, noLiveCard}
-use Rattle.protocol.specs.Opening.{openingChecks, sharesWith}
-use Rattle.protocol.specs.Step.{stepChecks}
-use Rattle.protocol.specs.Fetch.{fetchChecks, inMotion}
-use Rattle.protocol.specs.Failure.{failureChecks}
-use Rattle.protocol.specs.Join.{joinChecks}
-use Rattle.protocol.specs.DeskQuestion.{deskChecks}
-use Rattle.protocol.proofs.checks.Order.{Passed}
+use Rattle.protocol.specs.Calls.{openingChecks, stepChecks, fetchChecks, failureChecks, joinChecks, deskChecks}
+use Rattle.protocol.specs.Opening.{sharesWith}
+use Rattle.protocol.specs.Fetch.{inMotion}
+use Rattle.protocol.proofs.checks.Outcome.{Passed}
 
 -- ---- the checks that calls share
 

@@ -12,12 +12,12 @@ use Rattle.protocol.specs.Release.{close, stepMemory}
 use Rattle.protocol.specs.Record.{recordedRelease, underWay, settledRecord}
 use Rattle.protocol.specs.Checks.{firstRefusal, outsideLimits, fewLive, badHome, badPage, badStatus, badRelease}
 use Rattle.protocol.specs.Checks.{badCard, unfitRack, awaitsRecovery}
-use Rattle.protocol.specs.Opening.{shareWord, sharesWith, openMemory, opening}
-use Rattle.protocol.specs.Step.{step}
-use Rattle.protocol.specs.DeskQuestion.{deskOf, deskQuestion}
-use Rattle.protocol.specs.examples.Racks.{smallMemory}
-use Rattle.protocol.specs.examples.Releases.{beforeOpening, opened, steppedOnce, steppedTwice, askedInMotion}
-use Rattle.protocol.specs.examples.Releases.{releaseExamples}
+use Rattle.protocol.specs.Opening.{shareWord, sharesWith, openMemory}
+use Rattle.protocol.specs.Calls.{opening, step, deskQuestion}
+use Rattle.protocol.specs.DeskQuestion.{deskOf}
+use Rattle.protocol.specs.Examples.Racks.{smallMemory}
+use Rattle.protocol.specs.Examples.Releases.{beforeOpening, opened, steppedOnce, steppedTwice, askedInMotion}
+use Rattle.protocol.specs.Examples.Releases.{releaseExamples}
 
 pub releases-hold : AllHold releaseExamples
 unfolding sameWords failuresFrom Claims lowestFrom countBelow load store loadRun overwrite storeRun clearRun zeros

@@ -18,7 +18,7 @@ use Rattle.protocol.proofs.claims.Halves.{tentatives, committeds}
 use Rattle.protocol.proofs.invariant.Core.{Core}
 use Rattle.protocol.proofs.recovery.Closing.{close-core-all}
 use Rattle.protocol.proofs.recovery.Restoring.{source, halfWord, RestoredBelow, restored}
-use Rattle.protocol.proofs.recovery.Copying.{BothHalves, RehomedBelow, rehomed}
+use Rattle.protocol.proofs.recovery.Copying.{BothHalves, HomesCopied, homes-copied}
 use Rattle.protocol.proofs.recovery.Homes.{kept-primary, kept-secondary}
 use Rattle.protocol.proofs.records.Reading.{recorded-is, under-way-yes, under-way-no}
 use Rattle.protocol.proofs.invariant.Rack.{AwaitingRack, stampOf, doneOf, next-is-live, next-is-other}
@@ -30,8 +30,8 @@ module _ (d : Directory) (f : ℕ) (m : List ℕ) (b : Book) (rack : AwaitingRac
   abbrev bookAfter : Book
   bookAfter = clearOpen (countOpen b)
 
-  abbrev closedMemory : List ℕ
-  closedMemory = closeReleases d f m
+  abbrev memoryClosed : List ℕ
+  memoryClosed = closeReleases d f m
 
   pub few : f < 8
   few = omega (arith, rack .real, rack .core .shape .few-cards)
@@ -44,7 +44,7 @@ module _ (d : Directory) (f : ℕ) (m : List ℕ) (b : Book) (rack : AwaitingRac
       go false dead = dead
 
   pub closed : Core d (backupBefore d f) (load (sizeOf d) m) (stampOf d f m ≢ doneOf d f m)
-      (stampOf d f m ≡ doneOf d f m) closedMemory bookAfter
+      (stampOf d f m ≡ doneOf d f m) memoryClosed bookAfter
   closed = close-core-all d f _ _ _ m b past-dead (rack .core)
 
   up : isLive d (nextLiveOf d f) ≡ true
@@ -52,7 +52,7 @@ module _ (d : Directory) (f : ℕ) (m : List ℕ) (b : Book) (rack : AwaitingRac
 
   -- f's record is not touched
   record-kept : (o : ℕ) → 20 + 18 * f ≤ o → o < 38 + 18 * f
-      → load (sizeOf d) closedMemory (nextLiveOf d f) o ≡ load (sizeOf d) m (nextLiveOf d f) o
+      → load (sizeOf d) memoryClosed (nextLiveOf d f) o ≡ load (sizeOf d) m (nextLiveOf d f) o
   record-kept o above below = closed .dead f (nextLiveOf d f) o (rack .lost) (rack .real) up above below
 
   pub last-same : (g : ℕ) → isLive d g ≡ false → bookAfter .last g ≡ b .last g
@@ -62,51 +62,51 @@ module _ (d : Directory) (f : ℕ) (m : List ℕ) (b : Book) (rack : AwaitingRac
   pub answers : failedRelease d f m ≡ b .last f
   unfolding failedRelease
   answers =
-      recorded-is (sizeOf d) closedMemory (nextLiveOf d f) f (b .last f)
+      recorded-is (sizeOf d) memoryClosed (nextLiveOf d f) f (b .last f)
       (area-of-live (closed .shape) (nextLiveOf d f) up)
       (omega arith)
       few (rack .core .last-eight f) (record-kept (recordStamp f) (omega arith) (omega arith) ∙ rack .stamped)
       (λ j within. record-kept _ (omega arith) (omega arith) ∙ rack .desked j within)
 
   abbrev forward : Bool
-  forward = underWay (sizeOf d) closedMemory (nextLiveOf d f) f
+  forward = underWay (sizeOf d) memoryClosed (nextLiveOf d f) f
 
-  abbrev restoredPages : List ℕ
-  restoredPages = restoredMemory d f m
+  abbrev memoryRestored : List ℕ
+  memoryRestored = restoredMemory d f m
 
   -- the pages are restored from what stands once the releases are closed
-  pages-restored : RestoredBelow d forward (d .pages) closedMemory restoredPages
+  pages-restored : RestoredBelow d forward (d .pages) memoryClosed memoryRestored
   unfolding restoredMemory
-  pages-restored = restored d forward closedMemory (closed .shape)
+  pages-restored = restored d forward memoryClosed (closed .shape)
 
   -- the half that is copied from is the book's, at live homes
   source-is-price : (way : Bool) → forward ≡ way → (h p w : ℕ) → HomeWord d h p w
-      → halfWord (sizeOf d) closedMemory h p (source way) w ≡ bookAfter .price (32 * p + w)
+      → halfWord (sizeOf d) memoryClosed h p (source way) w ≡ bookAfter .price (32 * p + w)
   source-is-price true is h p w word =
       let differ : stampOf d f m ≢ doneOf d f m = λ same.
-      under-way-yes (sizeOf d) closedMemory (nextLiveOf d f) f is
+      under-way-yes (sizeOf d) memoryClosed (nextLiveOf d f) f is
       (record-kept (recordStamp f) (omega arith) (omega arith) ∙ same
       ∙ sym (record-kept (recordDone f) (omega arith) (omega arith))) in
-      idle-words d (tentatives d (backupBefore d f)) (bookAfter .release) (bookAfter .price) closedMemory (λ c. refl)
+      idle-words d (tentatives d (backupBefore d f)) (bookAfter .release) (bookAfter .price) memoryClosed (λ c. refl)
       (closed .tentative differ) h p w word
   source-is-price false is h p w word =
       let same : stampOf d f m ≡ doneOf d f m =
       sym (record-kept (recordStamp f) (omega arith) (omega arith))
-      ∙ under-way-no (sizeOf d) closedMemory (nextLiveOf d f) f is ∙ record-kept (recordDone f) (omega arith)
+      ∙ under-way-no (sizeOf d) memoryClosed (nextLiveOf d f) f is ∙ record-kept (recordDone f) (omega arith)
       (omega arith) in
-      idle-words d (committeds d (backupBefore d f)) (bookAfter .release) (bookAfter .price) closedMemory (λ c. refl)
+      idle-words d (committeds d (backupBefore d f)) (bookAfter .release) (bookAfter .price) memoryClosed (λ c. refl)
       (closed .committed same) h p w word
 
   -- so both halves are, once restored
   pub restored-both-halves : (h p : ℕ) → isLive d h ≡ true → HomeOf d h p → p < d .pages
-      → BothHalves (sizeOf d) (bookAfter .price) restoredPages h p
+      → BothHalves (sizeOf d) (bookAfter .price) memoryRestored h p
   restored-both-halves h p live home page = go forward refl pages-restored
     where
       word : (w : ℕ) → w < 32 → HomeWord d h p w
       word w within = record { live = live; home = home; page = page; word = within }
 
-      go : (way : Bool) → forward ≡ way → RestoredBelow d way (d .pages) closedMemory restoredPages
-          → BothHalves (sizeOf d) (bookAfter .price) restoredPages h p
+      go : (way : Bool) → forward ≡ way → RestoredBelow d way (d .pages) memoryClosed memoryRestored
+          → BothHalves (sizeOf d) (bookAfter .price) memoryRestored h p
       go true is below =
           record {
             tentatives = λ w within. below .kept h p w page within ∙ source-is-price true is h p w (word w within);
@@ -145,21 +145,21 @@ module _ (d : Directory) (f : ℕ) (m : List ℕ) (b : Book) (rack : AwaitingRac
   new-is-other p = next-is-other d (rack .two) (rack .core .shape .below) (keptHome d f p)
 
   pub kept-both-halves : (p : ℕ) → p < d .pages
-      → BothHalves (sizeOf d) (bookAfter .price) restoredPages (keptHome d f p) p
+      → BothHalves (sizeOf d) (bookAfter .price) memoryRestored (keptHome d f p) p
   kept-both-halves p page = restored-both-halves (keptHome d f p) p (kept-home p page .0) (kept-home p page .1) page
 
-  abbrev copiedPages : List ℕ
-  copiedPages = copyToNewHomes d f restoredPages
+  abbrev memoryCopied : List ℕ
+  memoryCopied = copyToNewHomes d f memoryRestored
 
-  pub pages-rehomed : RehomedBelow d f (bookAfter .price) (d .pages) restoredPages copiedPages
-  pages-rehomed =
-      rehomed d f (bookAfter .price) restoredPages
-      (shape-kept (closed .shape) restoredPages (pages-restored .same-length))
+  pub pages-copied : HomesCopied d f (bookAfter .price) (d .pages) memoryRestored memoryCopied
+  pages-copied =
+      homes-copied d f (bookAfter .price) memoryRestored
+      (shape-kept (closed .shape) memoryRestored (pages-restored .same-length))
       (λ p page lost. kept-home p page .0) (λ p page lost. kept-both-halves p page) (λ p page lost. new-home p)
 
   -- every word below the pages is as it was when the releases were closed
-  pub low-kept : (h o : ℕ) → o < 676 → load (sizeOf d) copiedPages h o ≡ load (sizeOf d) closedMemory h o
-  low-kept h o small = pages-rehomed .low h o small ∙ pages-restored .low h o small
+  pub low-kept : (h o : ℕ) → o < 676 → load (sizeOf d) memoryCopied h o ≡ load (sizeOf d) memoryClosed h o
+  low-kept h o small = pages-copied .low h o small ∙ pages-restored .low h o small
 
-  pub pages-length : length copiedPages ≡ length closedMemory
-  pages-length = pages-rehomed .same-length ∙ pages-restored .same-length
+  pub pages-length : length memoryCopied ≡ length memoryClosed
+  pages-length = pages-copied .same-length ∙ pages-restored .same-length

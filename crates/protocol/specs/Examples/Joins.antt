@@ -9,7 +9,7 @@ use Rattle.directory.specs.Directory.{formattedDirectory, markedDead, withHomes
 use Rattle.protocol.specs.Result.{Result}
 use Rattle.protocol.specs.Join.{joinedMemory, join}
 use Rattle.protocol.specs.DeskQuestion.{deskOf}
-use Rattle.protocol.specs.examples.Racks.{numbersFrom, outcomeOf, directoryWords}
+use Rattle.protocol.specs.Examples.Racks.{numbersFrom, outcomeOf, directoryWords}
 
 -- Cards 1 and 2 of four are dead; one page, on cards 3 and 0. An area has 740 words.
 abbrev pub twoDead : Directory

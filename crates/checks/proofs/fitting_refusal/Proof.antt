@@ -4,8 +4,8 @@ use native.Mathlib.Omega.{arith}
 use borrow.Author.Needs.{needs}
 use Rattle.protocol.proofs.checks.Limits.{within-limits}
 use Rattle.protocol.specs.Checks.{firstRefusal}
-use Rattle.checks.proofs.fit_refusal.Statement.{statement}
-use Rattle.checks.proofs.fit_refusal.Tie as tie
+use Rattle.checks.proofs.fitting_refusal.Statement.{statement}
+use Rattle.checks.proofs.fitting_refusal.Tie as tie
 
 returns : tie.Need-returns
 unfolding firstRefusal
@@ -36,5 +36,5 @@ returns-3 c =
       sym (c .before .unfit-rack .ensures) ∙ c .if2 .left,
     )
 
-pub fit-refusal-spec : {M : Type 1} → statement M
-fit-refusal-spec = tie.close (tie.spec (λ c κs. search needs) returns unfit-rack-requires returns-2 returns-3)
+pub fitting-refusal-spec : {M : Type 1} → statement M
+fitting-refusal-spec = tie.close (tie.spec (λ c κs. search needs) returns unfit-rack-requires returns-2 returns-3)

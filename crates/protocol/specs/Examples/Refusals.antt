@@ -10,15 +10,9 @@ use Rattle.diff.specs.Format.{runWord}
 use Rattle.protocol.specs.Release.{releaseOf}
 use Rattle.protocol.specs.Checks.{outsideLimits, unfitRack}
 use Rattle.protocol.specs.Result.{Result}
-use Rattle.protocol.specs.Formatting.{formatting}
-use Rattle.protocol.specs.Opening.{openMemory, opening}
-use Rattle.protocol.specs.Step.{step}
-use Rattle.protocol.specs.Fetch.{fetch}
-use Rattle.protocol.specs.Failure.{failure}
-use Rattle.protocol.specs.Recovery.{recovery}
-use Rattle.protocol.specs.Join.{join}
-use Rattle.protocol.specs.DeskQuestion.{deskQuestion}
-use Rattle.protocol.specs.examples.Racks.{smallRack, smallMemory, numbersFrom, bit, outcomeOf, directoryWords}
+use Rattle.protocol.specs.Calls.{formatting, opening, step, fetch, failure, recovery, join, deskQuestion}
+use Rattle.protocol.specs.Opening.{openMemory}
+use Rattle.protocol.specs.Examples.Racks.{smallRack, smallMemory, numbersFrom, bit, outcomeOf, directoryWords}
 
 -- ---- limits, and racks that do not fit
 

@@ -11,7 +11,7 @@ use Rattle.protocol.specs.Checks.{firstRefusal, outsideLimits, fewLive, 
 use Rattle.protocol.specs.Checks.{badCard, unfitRack, awaitsRecovery}
 use Rattle.protocol.specs.Join.{resetArea, copyDeadRecord, joinedMemory, join}
 use Rattle.protocol.specs.DeskQuestion.{deskOf}
-use Rattle.protocol.specs.examples.Joins.{joined, joinExamples}
+use Rattle.protocol.specs.Examples.Joins.{joined, joinExamples}
 
 pub joins-hold : AllHold joinExamples
 unfolding sameWords failuresFrom Claims lowestFrom countBelow inTurn load loadRun overwrite storeRun clearRun copyRun

@@ -12,16 +12,11 @@ use Rattle.protocol.specs.Release.{close, stepMemory}
 use Rattle.protocol.specs.Record.{recordedRelease}
 use Rattle.protocol.specs.Checks.{firstRefusal, outsideLimits, fewLive, badHome, badPage, badStatus, badRelease}
 use Rattle.protocol.specs.Checks.{badCard, unfitRack, awaitsRecovery}
-use Rattle.protocol.specs.Formatting.{formatting}
-use Rattle.protocol.specs.Opening.{shareWord, sharesWith, openMemory, opening}
-use Rattle.protocol.specs.Step.{step}
-use Rattle.protocol.specs.Fetch.{namesPage, inMotion, committedPage, fetch}
-use Rattle.protocol.specs.Failure.{failure}
-use Rattle.protocol.specs.Recovery.{recovery}
-use Rattle.protocol.specs.Join.{join}
-use Rattle.protocol.specs.DeskQuestion.{deskQuestion}
-use Rattle.protocol.specs.examples.Racks.{smallMemory}
-use Rattle.protocol.specs.examples.Refusals.{twoOpen, nineClosed, fourCopies, refusalExamples}
+use Rattle.protocol.specs.Calls.{formatting, opening, step, fetch, failure, recovery, join, deskQuestion}
+use Rattle.protocol.specs.Opening.{shareWord, sharesWith, openMemory}
+use Rattle.protocol.specs.Fetch.{namesPage, inMotion, committedPage}
+use Rattle.protocol.specs.Examples.Racks.{smallMemory}
+use Rattle.protocol.specs.Examples.Refusals.{twoOpen, nineClosed, fourCopies, refusalExamples}
 
 pub refusals-hold : AllHold refusalExamples
 unfolding sameWords failuresFrom Claims lowestFrom countBelow inTurn load store loadRun overwrite storeRun clearRun

@@ -17,9 +17,9 @@ use Rattle.protocol.specs.Recovery.{stepTimes, runToClose, closeReleases
 use Rattle.protocol.specs.Recovery.{lostHome, keptHome, newHome, copyToNewHome, copyToNewHomes, moveHome}
 use Rattle.protocol.specs.Recovery.{recoveredDirectory, writeFailed, writeRecords, failedRelease, restoredMemory}
 use Rattle.protocol.specs.Recovery.{recoveredMemory, awaitedCard, recovery}
-use Rattle.protocol.specs.examples.Racks.{smallMemory}
-use Rattle.protocol.specs.examples.Recoveries.{rolledForward, rolledBack, deadArea, closedWithout1, closedInTurn}
-use Rattle.protocol.specs.examples.Recoveries.{recovered, recoveryExamples}
+use Rattle.protocol.specs.Examples.Racks.{smallMemory}
+use Rattle.protocol.specs.Examples.Recoveries.{rolledForward, rolledBack, deadArea, closedWithout1, closedInTurn}
+use Rattle.protocol.specs.Examples.Recoveries.{recovered, recoveryExamples}
 
 pub recoveries-hold : AllHold recoveryExamples
 unfolding sameWords failuresFrom Claims lowestFrom countBelow inTurn load store loadRun overwrite storeRun clearRun
