@@ -44,7 +44,8 @@ impl Rack {
         let mut memory = vec![0; memory_words(cards, pages).expect("within the limits")];
         let mut proved = sys::Directory::EMPTY;
         // SAFETY: pointer and length of one slice, and a directory beside it.
-        unsafe { sys::rack_format(memory.as_mut_ptr(), memory.len(), cards, pages, &mut proved) };
+        let answer = unsafe { sys::rack_format(memory.as_mut_ptr(), memory.len(), cards, pages, &mut proved) };
+        assert_eq!(answer.number, sys::refusals::ACCEPTED);
         let (directory, _) = second::format_rack(&mut memory, cards, pages);
         for other in 1..=others {
             let (_, answer) = second::open_release(&mut memory, directory, cards - other, 1, [0; 8], &list(other));

@@ -12,6 +12,9 @@ pub const DESK_WORDS: usize = 8;
 /// The longest list of changes.
 pub const LIST_WORDS: usize = 512;
 
+/// The words of a directory.
+pub const DIRECTORY_WORDS: usize = 139;
+
 /// The memory of a rack, in words of 32 bits.
 pub const fn memory_words(cards: u32, pages: u32) -> usize {
     cards as usize * (676 + 2 * PAGE_WORDS * pages as usize)

@@ -4,7 +4,7 @@
 pub mod layout;
 pub mod refusals;
 
-use layout::{DESK_WORDS, MAX_CARDS, MAX_PAGES};
+use layout::{DESK_WORDS, DIRECTORY_WORDS, MAX_CARDS, MAX_PAGES};
 use std::mem::{offset_of, size_of, transmute};
 
 /// The awaited card of a rack that awaits none.
@@ -20,9 +20,6 @@ pub struct Directory {
     pub primary: [u32; MAX_PAGES],
     pub secondary: [u32; MAX_PAGES],
 }
-
-/// The words of a directory.
-pub const DIRECTORY_WORDS: usize = 139;
 
 impl Directory {
     /// What a refused formatting writes: every call refuses it.

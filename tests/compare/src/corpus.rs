@@ -13,10 +13,10 @@ const SECOND_FAILURE: (&str, &str) = ("X 1\nX 0\n", "rack 3 4\n1 X 0 0\n2 X 13 0
 
 /// Each script with what document 01 says that it prints, where it says so.
 pub fn scripts() -> Vec<(Script, Option<Vec<u8>>)> {
-    let told = [("transcript", TRANSCRIPT), ("second failure", SECOND_FAILURE)];
-    let told = told.map(|(name, (input, output))| (Script::new(name, input), Some(output.into())));
-    let untold = calls().into_iter().chain(lines()).chain([long_line()]);
-    told.into_iter().chain(untold.map(|script| (script, None))).collect()
+    let printed = [("transcript", TRANSCRIPT), ("second failure", SECOND_FAILURE)];
+    let printed = printed.map(|(name, (input, output))| (Script::new(name, input), Some(output.into())));
+    let others = calls().into_iter().chain(lines()).chain([long_line()]);
+    printed.into_iter().chain(others.map(|script| (script, None))).collect()
 }
 
 /// Sequences of calls that document 01 names, or that a wrong rack would answer otherwise.

@@ -68,8 +68,8 @@ fn main() -> ExitCode {
 }
 
 fn must_agree(pair: &Pair, options: &Options) -> ExitCode {
-    for (script, told) in corpus::scripts() {
-        if told.is_some_and(|told| pair.first(&script.input) != told) {
+    for (script, output) in corpus::scripts() {
+        if output.is_some_and(|output| pair.first(&script.input) != output) {
             return failed(&format!("{}: not what document 01 prints", script.name));
         }
     }

@@ -4,7 +4,7 @@
 use crate::call::Call;
 use crate::library::words_of;
 use crate::lists;
-use crate::racks::{pages_of, Racks};
+use crate::racks::{bounded_pages, Racks};
 use crate::seen::Seen;
 use random::Random;
 use second::layout::{
@@ -89,7 +89,7 @@ fn damaged(random: &mut Random, mut memory: Vec<u32>, mut directory: Directory) 
 }
 
 fn area_of(directory: &Directory) -> usize {
-    area_words(pages_of(directory))
+    area_words(bounded_pages(directory))
 }
 
 /// A word that the checks look at, that a list is read from, or of a page.

@@ -2,8 +2,9 @@
 
 use crate::call::{Call, Reply};
 use crate::guard::{Access, Flush, Guarded};
+use bandsawpink_sys::layout::DIRECTORY_WORDS;
 use bandsawpink_sys::refusals::ACCEPTED;
-use bandsawpink_sys::{self as sys, DIRECTORY_WORDS, RUNNING};
+use bandsawpink_sys::{self as sys, RUNNING};
 use second::{Answer, Directory, Status};
 use std::mem::{offset_of, size_of};
 

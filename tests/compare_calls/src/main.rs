@@ -6,13 +6,13 @@
 mod call;
 mod damage;
 mod guard;
-mod held;
 mod library;
 mod lists;
 mod play;
 mod racks;
 mod seen;
 mod sweep;
+mod with_book;
 
 use play::Play;
 use random::Random;

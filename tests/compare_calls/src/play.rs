@@ -1,16 +1,16 @@
-//! Random lists of calls on a formatted rack, with anything in the areas of cards that are away, and the book held
+//! Random lists of calls on a formatted rack, with anything in the areas of cards that are offline, and the book held
 //! beside both.
 
 use crate::call::Call;
-use crate::held::Held;
 use crate::lists;
 use crate::seen::Seen;
+use crate::with_book::WithBook;
 use random::Random;
 use second::layout::area_words;
 use second::Status;
 
 pub struct Play {
-    held: Held,
+    both: WithBook,
     area: usize,
     random: Random,
 }
@@ -20,8 +20,8 @@ impl Play {
         let area = area_words(pages);
         let memory = random.words(cards as usize * area);
         let directory = random.array();
-        let held = Held::formatted(&memory, &directory, cards, pages)?;
-        Ok(Self { held, area, random })
+        let both = WithBook::formatted(&memory, &directory, cards, pages)?;
+        Ok(Self { both, area, random })
     }
 
     pub fn run(&mut self, calls: u32, seen: &mut Seen) -> Result<(), String> {
@@ -29,10 +29,10 @@ impl Play {
             self.scramble();
             if self.random.one_in(10) {
                 let mark = self.random.of(&[1, 2, 7, u32::MAX]);
-                self.held.racks.disguise_mark(self.random.below(8) as usize, mark);
+                self.both.racks.disguise_mark(self.random.below(8) as usize, mark);
             }
             let call = self.choose();
-            let reply = self.held.call(&call).map_err(|error| format!("call {at}: {error}"))?;
+            let reply = self.both.call(&call).map_err(|error| format!("call {at}: {error}"))?;
             seen.count(&reply);
         }
         Ok(())
@@ -40,16 +40,16 @@ impl Play {
 
     /// "A card's area may hold anything at each call."
     fn scramble(&mut self) {
-        for &card in &self.held.away {
+        for &card in &self.both.offline {
             for _ in 0..self.random.below(4) {
                 let offset = self.random.below(self.area as u32) as usize;
-                self.held.racks.store(card as usize * self.area + offset, self.random.odd_word());
+                self.both.racks.store(card as usize * self.area + offset, self.random.odd_word());
             }
         }
     }
 
     fn choose(&mut self) -> Call {
-        let directory = self.held.racks.directory;
+        let directory = self.both.racks.directory;
         let awaits = directory.status != Status::Running;
         if awaits && !self.random.one_in(3) {
             return Call::Recover;
@@ -66,7 +66,7 @@ impl Play {
             32 => self.fetch_all(),
             33 => Call::Fail { card },
             34 => Call::Recover,
-            35..=36 => Call::Join { card: self.held.away.first().copied().unwrap_or(card) },
+            35..=36 => Call::Join { card: self.both.offline.first().copied().unwrap_or(card) },
             37 => Call::Join { card },
             _ => Call::AskDesk { card },
         }
@@ -75,14 +75,14 @@ impl Play {
     fn fetch(&mut self) -> Call {
         let page = match self.random.one_in(12) {
             true => self.random.odd_word(),
-            false => self.random.below(self.held.racks.directory.pages),
+            false => self.random.below(self.both.racks.directory.pages),
         };
         let room = if self.random.one_in(12) { self.random.below(40) } else { 32 };
         Call::Fetch { page, buffer: vec![7; room as usize] }
     }
 
     fn fetch_all(&mut self) -> Call {
-        let room = 32 * self.held.racks.directory.pages;
+        let room = 32 * self.both.racks.directory.pages;
         let room = if self.random.one_in(12) { self.random.below(2 * room) } else { room };
         Call::FetchAll { buffer: vec![7; room as usize] }
     }
@@ -90,8 +90,8 @@ impl Play {
     /// Mostly the next number, and short lists, so that releases come to their close; now and then as long a list as
     /// fits.
     fn opening(&mut self, card: u32) -> Call {
-        let pages = self.held.racks.directory.pages;
-        let last = self.held.book.last(card).0;
+        let pages = self.both.racks.directory.pages;
+        let last = self.both.book.last(card).0;
         let number = match self.random.one_in(8) {
             true => self.random.of(&[0, last, last.wrapping_add(2), u32::MAX]),
             false => last.wrapping_add(1),

@@ -29,7 +29,7 @@ impl Racks {
 
     /// The stamp of a card, 0 if the memory ends before it.
     pub fn stamp(&self, card: u32) -> Number {
-        own_stamp(&self.twin, pages_of(&self.directory), card).unwrap_or(0)
+        own_stamp(&self.twin, bounded_pages(&self.directory), card).unwrap_or(0)
     }
 
     /// Sets a word of every memory.
@@ -74,7 +74,7 @@ impl Racks {
 }
 
 /// The pages of a directory that may name any number of them, cut off so that the place of every area is a number.
-pub fn pages_of(directory: &Directory) -> u32 {
+pub fn bounded_pages(directory: &Directory) -> u32 {
     directory.pages % 4096
 }
 

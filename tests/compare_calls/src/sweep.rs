@@ -2,15 +2,15 @@
 //! cards; then the others are asked, the card joins, and the next one fails.
 
 use crate::call::{Call, Reply};
-use crate::held::Held;
-use bandsawpink_sys::DIRECTORY_WORDS;
+use crate::with_book::WithBook;
+use bandsawpink_sys::layout::DIRECTORY_WORDS;
 use second::layout::memory_words;
 use std::cell::Cell;
 
 /// A rack on which releases are open. The first has two prices and 19 steps, the other one price and 15 steps.
 #[derive(Clone)]
 struct Swept<'a> {
-    held: Held,
+    both: WithBook,
     cards: u32,
     pages: u32,
     first: u32,
@@ -41,8 +41,8 @@ impl<'a> Swept<'a> {
     /// Both cards have made a release before, so that their stamps and desks are not those of a formatted rack.
     fn new(cards: u32, pages: u32, first: u32, other: u32, calls: &'a Cell<u64>) -> Result<Self, String> {
         let memory = vec![9; memory_words(cards, pages).expect("within the limits")];
-        let held = Held::formatted(&memory, &[7; DIRECTORY_WORDS], cards, pages)?;
-        let mut swept = Self { held, cards, pages, first, other, calls };
+        let both = WithBook::formatted(&memory, &[7; DIRECTORY_WORDS], cards, pages)?;
+        let mut swept = Self { both, cards, pages, first, other, calls };
         swept.open(first)?;
         swept.open(other)?;
         for card in [first, other] {
@@ -54,7 +54,7 @@ impl<'a> Swept<'a> {
 
     fn call(&mut self, call: Call) -> Result<Reply, String> {
         self.calls.set(self.calls.get() + 1);
-        self.held.call(&call)
+        self.both.call(&call)
     }
 
     /// A call that must be accepted, so that the sweep shows what it is meant to.
@@ -68,7 +68,7 @@ impl<'a> Swept<'a> {
 
     /// The next release of a card: page 0 word 2 and the last page's last word, or page 0 word 4.
     fn open(&mut self, card: u32) -> Result<(), String> {
-        let number = self.held.book.last(card).0 + 1;
+        let number = self.both.book.last(card).0 + 1;
         let price = 100 * number + card;
         let list = match (card == self.first, self.pages) {
             (true, 1) => vec![0x1000_0000, 0x2002_0001, price, 0x201F_0001, price, 0xF000_0005],

@@ -52,7 +52,10 @@ impl Random {
         match self.below(6) {
             0 => self.below(9),
             1 => u32::MAX - self.below(2),
-            2 => 0x1000_0000 | self.below(66),
+            2 => {
+                let limit = self.of(&[9, 66]);
+                0x1000_0000 | self.below(limit)
+            }
             3 => 0x2000_0000 | self.below(34) << 16 | self.below(4),
             4 => 0xF000_0000 | self.below(9),
             _ => self.word(),

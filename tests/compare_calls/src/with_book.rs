@@ -7,20 +7,20 @@ use second::book::{self, Book};
 use second::Answer;
 
 #[derive(Clone)]
-pub struct Held {
+pub struct WithBook {
     pub racks: Racks,
     pub book: Book,
     /// The cards that have failed and not joined.
-    pub away: Vec<u32>,
+    pub offline: Vec<u32>,
 }
 
-impl Held {
+impl WithBook {
     /// A newly formatted rack, whatever the memory and the words of the directory were.
     pub fn formatted(memory: &[u32], words: &Words, cards: u32, pages: u32) -> Result<Self, String> {
         let mut racks = Racks::new(memory, words);
         let reply = racks.call(&Call::Format { cards, pages })?;
         match reply.accepted() {
-            true => Ok(Self { racks, book: Book::new(), away: Vec::new() }),
+            true => Ok(Self { racks, book: Book::new(), offline: Vec::new() }),
             false => Err(format!("formatting: {reply:?}")),
         }
     }
@@ -51,8 +51,8 @@ impl Held {
     }
 
     /// The book's words of each page that is marked as shown, those before of the others; then the marks.
-    fn all_pages(&self, before: &[u32], told: &[u32]) -> Vec<u32> {
-        let marks = &told[before.len()..];
+    fn all_pages(&self, before: &[u32], beside: &[u32]) -> Vec<u32> {
+        let marks = &beside[before.len()..];
         let pages = before.chunks(32).zip(0..).flat_map(|(words, page)| match marks[page as usize] {
             0 => words.to_vec(),
             _ => self.book.page(page).to_vec(),
@@ -62,7 +62,7 @@ impl Held {
 
     fn note(&mut self, call: &Call, reply: &Reply) {
         let accepted = reply.accepted();
-        let told = match call.clone() {
+        let noted = match call.clone() {
             Call::Open { card, number, desk, list } => book::Call::Open { card, number, desk, list },
             Call::Step { card } => book::Call::Step { card },
             Call::Steps { card, .. } => {
@@ -70,16 +70,16 @@ impl Held {
                 return;
             }
             Call::Fail { card } => {
-                self.away.extend(accepted.then_some(card));
+                self.offline.extend(accepted.then_some(card));
                 book::Call::Fail { card }
             }
             Call::Join { card } => {
-                self.away.retain(|&away| !accepted || away != card);
+                self.offline.retain(|&other| !accepted || other != card);
                 book::Call::Join { card }
             }
             Call::Recover => book::Call::Recover,
             Call::Fetch { .. } | Call::FetchAll { .. } | Call::AskDesk { .. } | Call::Format { .. } => return,
         };
-        self.book.feed(&told, accepted);
+        self.book.feed(&noted, accepted);
     }
 }
