@@ -3,6 +3,6 @@ pub mod Closing
 pub mod Restoring
 pub mod Copying
 pub mod Homes
-pub mod Restored
+pub mod BeforeRecords
 pub mod Records
 pub mod Recovered

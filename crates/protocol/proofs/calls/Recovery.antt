@@ -13,7 +13,7 @@ use Rattle.protocol.specs.Calls.{recover}
 use Rattle.protocol.specs.Book.{Book, transition}
 use Rattle.protocol.specs.Demand3.{offlineAfter, Conforms}
 use Rattle.protocol.proofs.invariant.Rack.{AwaitingRack, Rack, LiveOnline}
-use Rattle.protocol.proofs.recovery.Restored.{answers}
+use Rattle.protocol.proofs.recovery.BeforeRecords.{answers}
 use Rattle.protocol.proofs.recovery.Recovered.{recovers}
 use Rattle.protocol.proofs.recovery.Homes.{recovered-parts}
 use Rattle.protocol.proofs.checks.Outcome.{given-value}

@@ -1,4 +1,4 @@
--- `protocol::calls_conform_to_book` meets its contract: the theorem is `demand-3` of proofs/Demand3.antt.
+-- `protocol::calls_conform_to_book` meets its contract: the theorem is `demand-3` of proofs/demands/Demand3.antt.
 use Rattle.protocol.proofs.demands.Demand3.{demand-3}
 use Rattle.protocol.proofs.calls_conform_to_book.Statement.{statement}
 use Rattle.protocol.proofs.calls_conform_to_book.Tie as tie

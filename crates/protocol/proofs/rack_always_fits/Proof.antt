@@ -1,4 +1,4 @@
--- `protocol::rack_always_fits` meets its contract: the theorem is `always-fits` of proofs/Corollaries.antt.
+-- `protocol::rack_always_fits` meets its contract: the theorem is `always-fits` of proofs/demands/AlwaysFits.antt.
 use Rattle.protocol.proofs.demands.AlwaysFits.{always-fits}
 use Rattle.protocol.proofs.rack_always_fits.Statement.{statement}
 use Rattle.protocol.proofs.rack_always_fits.Tie as tie

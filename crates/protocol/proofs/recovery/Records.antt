@@ -19,7 +19,7 @@ use Rattle.protocol.proofs.records.Recorded.{Recorded, recorded-kept}
 use Rattle.protocol.proofs.records.Failed.{FailedBelow, failed-below}
 use Rattle.protocol.proofs.records.Own.{OwnBelow, own-below}
 use Rattle.protocol.proofs.invariant.Rack.{AwaitingRack, next-is-live, unmarked}
-use Rattle.protocol.proofs.recovery.Restored as restored
+use Rattle.protocol.proofs.recovery.BeforeRecords as before-records
 
 -- the memory with the records written, beside that with the releases closed and that with the pages copied
 pub record RecordsWritten (d : Directory) (b : Book) (memoryClosed memoryCopied memoryRecorded : List ℕ) : Type 0 where
@@ -53,14 +53,16 @@ module _ (d : Directory) (f : ℕ) (m : List ℕ) (b : Book) (rack : AwaitingRac
   memoryRecorded = inTurn (writeOwnRecord (sizeOf d) (backupWas d f) (backupOf d)) (d .cards) memoryFailed
 
   few : f < 8
-  few = restored.few d f m b rack
+  few = before-records.few d f m b rack
 
   copied-shape : Shape d memoryCopied
-  copied-shape = shape-kept (restored.closed d f m b rack .shape) memoryCopied (restored.pages-length d f m b rack)
+  copied-shape =
+      shape-kept (before-records.closed d f m b rack .shape) memoryCopied (before-records.pages-length d f m b rack)
 
   failed : FailedBelow d f r (d .cards) memoryCopied memoryFailed
   failed =
-      failed-below d f r few (rw (restored.answers d f m b rack) (rack .core .last-eight f)) memoryCopied copied-shape
+      failed-below d f r few
+      (rw (before-records.answers d f m b rack) (rack .core .last-eight f)) memoryCopied copied-shape
       (d .cards)
 
   backups : (c : ℕ) → isLive d (backupOf d c) ≡ true
@@ -70,12 +72,12 @@ module _ (d : Directory) (f : ℕ) (m : List ℕ) (b : Book) (rack : AwaitingRac
   own-still : (c : ℕ) → ownRelease (sizeOf d) memoryFailed c ≡ ownRelease (sizeOf d) memoryClosed c
   own-still c =
       own-words-kept (sizeOf d) memoryClosed memoryFailed c
-      (failed .same-length ∙ restored.pages-length d f m b rack)
+      (failed .same-length ∙ before-records.pages-length d f m b rack)
       (λ o small. failed .same c o (omega arith) (inl (omega arith))
-      ∙ restored.low-kept d f m b rack c o (omega arith))
+      ∙ before-records.low-kept d f m b rack c o (omega arith))
 
   own-last : (c : ℕ) → isLive d c ≡ true → ownRelease (sizeOf d) memoryClosed c ≡ bookAfter .last c
-  own-last c live = restored.closed d f m b rack .owns c live
+  own-last c live = before-records.closed d f m b rack .owns c live
 
   -- the cards whose records are due
   due-live : (c : ℕ) → backupWas d f c ≡ true → isLive d c ≡ true
@@ -101,12 +103,13 @@ module _ (d : Directory) (f : ℕ) (m : List ℕ) (b : Book) (rack : AwaitingRac
   backed =
       own-below (sizeOf d) (omega arith) (backupWas d f) (backupOf d) memoryFailed (λ c due. small c (due-live c due))
       (λ c due. area-of-live (shape-kept copied-shape memoryFailed (failed .same-length)) (backupOf d c) (backups c))
-      (λ c due. rw (own-still c, own-last c (due-live c due)) (restored.closed d f m b rack .last-eight c)) (d .cards)
+      (λ c due. rw (own-still c, own-last c (due-live c due)) (before-records.closed d f m b rack .last-eight c))
+      (d .cards)
 
   own-word : (c o : ℕ) → o < 20 → load (sizeOf d) memoryRecorded c o ≡ load (sizeOf d) memoryClosed c o
   own-word c o low =
       backed .low c o low ∙ failed .same c o (omega arith) (inl (omega arith))
-      ∙ restored.low-kept d f m b rack c o (omega arith)
+      ∙ before-records.low-kept d f m b rack c o (omega arith)
 
   page-word : (h p o : ℕ) → p < d .pages → o < 64
       → load (sizeOf d) memoryRecorded h (pageStart p + o) ≡ load (sizeOf d) memoryCopied h (pageStart p + o)
@@ -119,7 +122,7 @@ module _ (d : Directory) (f : ℕ) (m : List ℕ) (b : Book) (rack : AwaitingRac
       → load (sizeOf d) memoryRecorded h o ≡ load (sizeOf d) memoryClosed h o
   other-record g h o little other not-his above below =
       backed .records g h o little (not-due g not-his) above below
-      ∙ failed .same h o (omega arith) (apart (decLt g f)) ∙ restored.low-kept d f m b rack h o (omega arith)
+      ∙ failed .same h o (omega arith) (apart (decLt g f)) ∙ before-records.low-kept d f m b rack h o (omega arith)
     where
       apart : Dec (g < f) → (o < 20 + 18 * f) ⊎ (38 + 18 * f ≤ o)
       apart (yes less) = inl (omega arith)
@@ -142,7 +145,7 @@ module _ (d : Directory) (f : ℕ) (m : List ℕ) (b : Book) (rack : AwaitingRac
             rw (same-backup c other)
             (recorded-kept c none (bookAfter .last c) _ _
             (λ o above below. other-record c _ o (small c live) (not-failed c live) (λ _. other) above below)
-            (restored.closed d f m b rack .recorded c live (rw (← (same-backup c other)) (backups c))))
+            (before-records.closed d f m b rack .recorded c live (rw (← (same-backup c other)) (backups c))))
       ]
     where
       not-failed : (c : ℕ) → isLive d c ≡ true → c ≢ f
@@ -154,19 +157,19 @@ module _ (d : Directory) (f : ℕ) (m : List ℕ) (b : Book) (rack : AwaitingRac
   dead-recorded g h dead less live =
       elim (ℕ-discrete g f) [
         | yes same ↦
-            rw (same, restored.last-same d f m b rack f (rack .lost), ← (restored.answers d f m b rack))
+            rw (same, before-records.last-same d f m b rack f (rack .lost), ← (before-records.answers d f m b rack))
             (recorded-kept f none r _ _
             (λ o above below. backed .records f h o few (not-due f (λ up. absurd (true≢false (sym up ∙ rack .lost))))
             above below)
             (failed .recorded h (rack .core .shape .below h live) live))
         | no other ↦
-            rw (restored.last-same d f m b rack g dead)
+            rw (before-records.last-same d f m b rack g dead)
             (recorded-kept g none (b .last g) _ _
             (λ o above below.
             other-record g h o (omega (arith, rack .core .shape .few-cards)) other
             (λ up. absurd (true≢false (sym up ∙ dead)))
             above below
-            ∙ restored.closed d f m b rack .dead g h o dead less live above below)
+            ∙ before-records.closed d f m b rack .dead g h o dead less live above below)
             (rack .records g h dead other less live))
       ]
 
@@ -174,7 +177,7 @@ module _ (d : Directory) (f : ℕ) (m : List ℕ) (b : Book) (rack : AwaitingRac
   unfolding writeRecords
   records-written =
       record {
-        same-length = backed .same-length ∙ failed .same-length ∙ restored.pages-length d f m b rack;
+        same-length = backed .same-length ∙ failed .same-length ∙ before-records.pages-length d f m b rack;
         own-word = own-word;
         page-word = page-word;
         live-recorded = live-recorded;

@@ -19,7 +19,7 @@ use Rattle.protocol.proofs.recovery.Copying.{BothHalves, both-halves-sa
 use Rattle.protocol.proofs.recovery.Homes.{MovedBelow, movedHomes, moved, recovered-parts, whole-primary}
 use Rattle.protocol.proofs.recovery.Homes.{whole-secondary, kept-primary}
 use Rattle.protocol.proofs.invariant.Rack.{RunningRack, AwaitingRack}
-use Rattle.protocol.proofs.recovery.Restored as restored
+use Rattle.protocol.proofs.recovery.BeforeRecords as before-records
 use Rattle.protocol.proofs.recovery.Records.{RecordsWritten, records-written}
 
 module _ (d : Directory) (f : ℕ) (m : List ℕ) (b : Book) (rack : AwaitingRack d f m b) where
@@ -82,26 +82,26 @@ module _ (d : Directory) (f : ℕ) (m : List ℕ) (b : Book) (rack : AwaitingRac
   home-both-halves h p (inr home) page =
       rw (home, first p page)
       (page-both-halves (keptHome d f p) p page
-      (restored.pages-copied d f m b rack .stays (keptHome d f p) p page
-      (restored.kept-both-halves d f m b rack p page)))
+      (before-records.pages-copied d f m b rack .stays (keptHome d f p) p page
+      (before-records.kept-both-halves d f m b rack p page)))
   home-both-halves h p (inl home) page = go (second p page)
     where
       go : SecondHome p → BothHalves (sizeOf d) (bookAfter .price) memoryRecorded h p
       go (inl new) =
           rw (home, new .1)
-          (page-both-halves (newHome d f p) p page (restored.pages-copied d f m b rack .new p page page (new .0)))
+          (page-both-halves (newHome d f p) p page (before-records.pages-copied d f m b rack .new p page page (new .0)))
       go (inr old) =
           rw (home, old .1)
           (page-both-halves (secondaryOf d p) p page
-          (restored.pages-copied d f m b rack .stays (secondaryOf d p) p page
-          (restored.restored-both-halves d f m b rack (secondaryOf d p) p (whole-live p page (old .0))
+          (before-records.pages-copied d f m b rack .stays (secondaryOf d p) p page
+          (before-records.restored-both-halves d f m b rack (secondaryOf d p) p (whole-live p page (old .0))
           (inl refl) page)))
 
   -- ---- the rack that runs
 
   recovered-core : Core d′ (backupOf d) (load (sizeOf d) memoryRecorded) (Unit {0}) (Unit {0}) memoryRecorded bookAfter
   recovered-core =
-      let closed = restored.closed d f m b rack in
+      let closed = before-records.closed d f m b rack in
       record {
         shape = record {
           few-cards = closed .shape .few-cards;
@@ -150,17 +150,17 @@ module _ (d : Directory) (f : ℕ) (m : List ℕ) (b : Book) (rack : AwaitingRac
           first = rack .two .first;
           second = rack .two .second;
         };
-        primary-live = λ p page. rw (first p page) (restored.kept-home d f m b rack p page .0);
+        primary-live = λ p page. rw (first p page) (before-records.kept-home d f m b rack p page .0);
         secondary-live = λ p page. second-live p page (second p page);
         homes-differ = λ p page. differ p page (second p page);
       }
     where
       second-live : (p : ℕ) → p < d .pages → SecondHome p → isLive d (secondaryOf d′ p) ≡ true
-      second-live p page (inl new) = rw (new .1) (restored.new-home d f m b rack p)
+      second-live p page (inl new) = rw (new .1) (before-records.new-home d f m b rack p)
       second-live p page (inr old) = rw (old .1) (whole-live p page (old .0))
 
       differ : (p : ℕ) → p < d .pages → SecondHome p → primaryOf d′ p ≢ secondaryOf d′ p
-      differ p page (inl new) same = restored.new-is-other d f m b rack p (sym (new .1) ∙ sym same ∙ first p page)
+      differ p page (inl new) same = before-records.new-is-other d f m b rack p (sym (new .1) ∙ sym same ∙ first p page)
       differ p page (inr old) same =
           rack .homes-differ p page
           (sym (kept-primary d f p (whole-primary d f p (old .0))) ∙ sym (first p page) ∙ same ∙ old .1)

@@ -1,4 +1,4 @@
--- `protocol::releases_count_once` meets its contract: the theorem is `counts-once` of proofs/CountsOnce.antt.
+-- `protocol::releases_count_once` meets its contract: the theorem is `counts-once` of proofs/demands/CountsOnce.antt.
 use Rattle.protocol.proofs.demands.CountsOnce.{counts-once}
 use Rattle.protocol.proofs.releases_count_once.Statement.{statement}
 use Rattle.protocol.proofs.releases_count_once.Tie as tie

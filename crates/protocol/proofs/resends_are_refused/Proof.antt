@@ -1,4 +1,5 @@
--- `protocol::resends_are_refused` meets its contract: the theorem is `resends-refused` of proofs/Corollaries.antt.
+-- `protocol::resends_are_refused` meets its contract: the theorem is `resends-refused` of
+-- proofs/demands/ResendsRefused.antt.
 use Rattle.protocol.proofs.demands.ResendsRefused.{resends-refused}
 use Rattle.protocol.proofs.resends_are_refused.Statement.{statement}
 use Rattle.protocol.proofs.resends_are_refused.Tie as tie
