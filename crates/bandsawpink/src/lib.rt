@@ -2,8 +2,8 @@
 // what the call that it names does, on any argument; C hands in a slice as a pointer and a length.
 ghost use Rattle.laws.specs.Prelude.{_≡_, cond, eqb, length};
 ghost use Rattle.laws.specs.Examples.{AllHold};
+ghost use Rattle.area.specs.Prelude.{releaseOf};
 ghost use Rattle.diff.specs.Making.{makeDiff, bufferAfter};
-ghost use Rattle.protocol.specs.Release.{releaseOf};
 ghost use Rattle.protocol.specs.Calls.{formatting, opening, step, fetch, failure, recovery, join};
 ghost use Rattle.protocol.specs.Calls.{deskQuestion};
 ghost use Rattle.batch.specs.Steps.{steps};

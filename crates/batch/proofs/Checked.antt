@@ -4,16 +4,14 @@ use Rattle.laws.proofs.Prelude.{ℕ, suc, _+_, _-_, _*_, _<_, _≡_, refl, sym,
 use Rattle.laws.proofs.Prelude.{ℕ-discrete, eqb-true, le-ltb, length, eqb}
 use Rattle.laws.proofs.Bools.{and-first, and-second}
 use Rattle.laws.proofs.Search.{lowest-same}
-use Rattle.memory.specs.Layout.{areaSize, openFlag}
-use Rattle.memory.specs.Area.{AreaIn, load}
-use Rattle.memory.proofs.Index.{area-in}
 use Rattle.directory.specs.declared.Directory.{Directory}
 use Rattle.directory.specs.Directory.{liveAt, backupOf}
-use Rattle.protocol.specs.Release.{sizeOf, isOpen, openPrices, stepsOf, stepMemory}
+use Rattle.area.specs.Prelude.{AreaIn, load, areaSize, openFlag, isOpen, stepsOf}
+use Rattle.area.proofs.Prelude.{area-in, SameOwn, SameRelease, same-own-release, list-kept, is-open-kept, steps-kept}
+use Rattle.protocol.specs.Release.{sizeOf, openPrices, stepMemory}
 use Rattle.protocol.specs.Checks.{badRelease, badCard, unfitRack}
 use Rattle.protocol.proofs.checks.ByCall.{Runs, StepPassed}
-use Rattle.protocol.proofs.release.Shape.{SameOwn, SameRelease, same-own-release, list-kept, is-open-kept, steps-kept}
-use Rattle.protocol.proofs.release.Close.{close-word-9, close-not-open}
+use Rattle.protocol.proofs.release.Close.{close-flag, close-not-open}
 use Rattle.release.specs.Stepping.{GoodRelease, leftOf}
 use Rattle.release.proofs.Stores.{length-desk, step-closed}
 use Rattle.release.proofs.Kept.{steps-more, step-keeps-own, step-keeps-others}
@@ -127,7 +125,7 @@ module _ (d : Directory) (m : List ℕ) (c : ℕ) (passed : StepPassed d m c) wh
       let eight = length-desk (sizeOf d) m c (omega arith) area in
       let closes = step-closed d (backupOf d c) m c _ area refl (omega (arith, all-prices, good .under)) in
       let zero : badCard (d .live) (d .pages) next c ≡ false
-      = rw (closes, passed .live, close-word-9 (sizeOf d) m c (omega arith) eight area)
+      = rw (closes, passed .live, close-flag (sizeOf d) m c (omega arith) eight area)
       in
       let shut = close-not-open (sizeOf d) m c (omega arith) eight area (d .live) in
       record { runs = next-runs zero; shut = rw closes shut }

@@ -7,22 +7,22 @@ use lib.ListN.{length-take, length-drop}
 use lib.Seq.{length-sets}
 use Rattle.laws.specs.Search.{lowest, inTurn, someBelow}
 use Rattle.laws.proofs.Bools.{by-cond}
+use Rattle.laws.proofs.Lists.{sets-self}
 use Rattle.answer.specs.Outcome.{given, refused, refusedAt, pageInMotion}
-use Rattle.memory.specs.Layout.{pageSize}
 use Rattle.directory.specs.declared.Directory.{Directory}
+use Rattle.area.specs.Prelude.{pageSize}
 use Rattle.protocol.specs.Checks.{firstRefusal, awaitsRecovery}
 use Rattle.protocol.specs.Fetch.{inMotion, fetchChecks, committedPage}
 use Rattle.protocol.proofs.checks.ByCall.{Runs, desk-passed}
 use Rattle.protocol.proofs.checks.Outcome.{all-passed}
 use Rattle.protocol.proofs.checks.Limits.{within-limits}
 use Rattle.checks.proofs.Order.{by-number}
+use Rattle.conflict.specs.Motion.{markMotion}
 use Rattle.conflict.proofs.InMotion.{motion-marked}
 use Rattle.rack.proofs.Results.{fetch-refused, fetch-accepted}
 use Rattle.batch.specs.FetchAll.{FetchedPages, fetchedPages, fetchNext, noneShown, fetchAllChecks, fetchedTo}
 use Rattle.batch.specs.FetchAll.{fetchAll}
 use Rattle.batch.specs.Showing.{showNext}
-use Rattle.conflict.specs.Motion.{markMotion}
-use Rattle.laws.proofs.Lists.{sets-self}
 
 -- whether a page is in motion
 abbrev isMoving : Directory → List ℕ → ℕ → Bool

@@ -7,7 +7,8 @@ use Rattle.answer.specs.declared.Outcome.{Outcome}
 use Rattle.answer.specs.Outcome.{given, refused, noneOpen}
 use Rattle.directory.specs.declared.Directory.{Directory}
 use Rattle.directory.specs.Directory.{isLive, backupOf}
-use Rattle.protocol.specs.Release.{sizeOf, isOpen, stepMemory}
+use Rattle.area.specs.Prelude.{isOpen}
+use Rattle.protocol.specs.Release.{sizeOf, stepMemory}
 use Rattle.protocol.specs.Checks.{firstRefusal, awaitsRecovery}
 use Rattle.protocol.specs.Step.{stepChecks}
 use Rattle.protocol.specs.Recovery.{stepTimes}

@@ -6,8 +6,8 @@ use lib.Seq.{sets}
 use Rattle.laws.specs.Search.{inTurn}
 use Rattle.answer.specs.declared.Outcome.{Outcome}
 use Rattle.answer.specs.Outcome.{wrongBuffer}
-use Rattle.memory.specs.Layout.{pageSize}
 use Rattle.directory.specs.declared.Directory.{Directory}
+use Rattle.area.specs.Prelude.{pageSize}
 use Rattle.protocol.specs.Checks.{Check, check, firstRefusal, runningChecks}
 use Rattle.protocol.specs.Result.{Result, accepted}
 use Rattle.protocol.specs.Fetch.{fetch}

@@ -4,10 +4,10 @@
 -- Assumes nothing: these are definitions.
 use Rattle.laws.specs.Prelude.{ℕ, _*_, _<_, _≤_, List, [], Bool, false, cond, not, length, getD, set}
 use lib.Seq.{sets}
-use Rattle.memory.specs.Layout.{pageSize}
 use Rattle.directory.specs.declared.Directory.{Directory}
 use Rattle.directory.specs.declared.Status.the-variants.{Running}
 use Rattle.directory.specs.Directory.{directoryOf}
+use Rattle.area.specs.Prelude.{pageSize}
 use Rattle.protocol.specs.Fetch.{committedPage}
 use Rattle.batch.specs.FetchAll.{FetchedPages, fetchedPages}
 

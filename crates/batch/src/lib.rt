@@ -4,8 +4,8 @@ ghost use Rattle.laws.specs.Prelude.{_≡_, false, not, _*_, _<_, _≤_, length
 ghost use Prim.Native.Nat.{min};
 ghost use Rattle.laws.specs.Search.{inTurn};
 ghost use Rattle.answer.specs.Outcome.{answerOf};
-ghost use Rattle.memory.specs.Layout.{areaSize};
 ghost use Rattle.directory.specs.Directory.{backupOf};
+ghost use Rattle.area.specs.Prelude.{areaSize};
 ghost use Rattle.protocol.specs.Release.{sizeOf};
 ghost use Rattle.protocol.specs.Checks.{firstRefusal};
 ghost use Rattle.protocol.specs.Step.{stepChecks};
@@ -17,6 +17,7 @@ ghost use Rattle.batch.specs.Showing.{wordsAfter, showNext, primariesOf,
 ghost use Rattle.batch.specs.Demand1.{BatchedDemand1};
 use answer::Answer;
 use answer::Outcome;
+use area::layout;
 use directory::Directory;
 
 // ---- steps
@@ -150,7 +151,7 @@ fn fetch_refusal(memory: &[u32], directory: Directory, room: usize) -> u32
     if first != 0 {
         return first;
     }
-    if room != 32 * (pages as usize) {
+    if room != layout::PAGE_SIZE * (pages as usize) {
         return answer::WRONG_BUFFER;
     }
     0
@@ -178,12 +179,11 @@ fn fetch_next(
     if moving[at] {
         return false;
     }
-    let size = memory::area_size(pages);
+    let size = layout::area_size(pages);
     let home = primary[at] as usize;
-    let start = memory::PAGES_START + 64 * at + 32;
-    let from = 32 * at;
-    let end = from + 32;
-    memory::load_run(memory, size, home, start, &mut buffer[from..end]);
+    let from = layout::PAGE_SIZE * at;
+    let end = from + layout::PAGE_SIZE;
+    area::pages::load_committed(memory, size, home, at, &mut buffer[from..end]);
     true
 }
 

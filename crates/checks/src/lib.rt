@@ -3,9 +3,8 @@
 // one by one: a directory handed on by value would be copied at each call.
 ghost use Rattle.laws.specs.Prelude.{_≡_, _*_, _<_, _≤_, length};
 ghost use Rattle.laws.specs.Search.{someBelow, countBelow};
-ghost use Rattle.memory.specs.Layout.{areaSize};
-ghost use Rattle.memory.specs.Area.{AreaIn};
 ghost use Rattle.directory.specs.Directory.{liveAt, directoryOf, awaitsCard};
+ghost use Rattle.area.specs.Prelude.{areaSize, AreaIn};
 ghost use Rattle.protocol.specs.Checks.{outsideLimits, badHome, badPage, badStatus, badRelease};
 ghost use Rattle.protocol.specs.Checks.{badCard, unfitRack, firstRefusal, fittingChecks};
 ghost use Rattle.protocol.specs.Checks.{runningChecks, cardChecks, liveCardChecks};
@@ -29,7 +28,7 @@ pub fn outside_limits(words: usize, cards: u32, pages: u32) -> bool
     if 64 < pages {
         return true;
     }
-    let stated = (cards as usize) * memory::area_size(pages);
+    let stated = (cards as usize) * area::layout::area_size(pages);
     words != stated
 }
 
@@ -225,14 +224,15 @@ fn bad_card(memory: &[u32], pages: u32, live: &[bool], card: usize) -> bool
     ensures { λ r. ⌜ r ≡ badCard (now (live .entry)) pages (now (memory .entry)) card ⌝ }
 {
     if live[card] {
-        let size = memory::area_size(pages);
-        let open = memory::load_word(memory, size, card, memory::OPEN_FLAG);
+        let size = area::layout::area_size(pages);
+        let open = memory::load_word(memory, size, card, area::layout::OPEN_FLAG);
         if 1 < open {
             return true;
         }
         if open == 1 {
-            let steps = memory::load_word(memory, size, card, memory::STEPS_MADE);
-            return bad_release(reader::read_stored(memory, size, card, pages), steps);
+            let steps = area::releases::steps_made(memory, size, card);
+            let list = area::releases::open_list(memory, size, card);
+            return bad_release(reader::read(list, pages), steps);
         }
     }
     false

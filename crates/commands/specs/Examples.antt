@@ -4,7 +4,7 @@ use Rattle.laws.specs.Prelude.{ℕ, List, [], _∷_, _++_, take, drop, replicat
 use Rattle.laws.specs.Examples.{Example, computed}
 use Rattle.laws.specs.Text.{bytesOf}
 use Rattle.answer.specs.Outcome.{inWords}
-use Rattle.memory.specs.Area.{zeros}
+use Rattle.area.specs.Prelude.{zeros}
 use Rattle.protocol.specs.Result.{Result}
 use Rattle.protocol.specs.Formatting.{formatting}
 use Rattle.lines.specs.declared.Command.{Command}

@@ -4,11 +4,9 @@
 use Rattle.laws.specs.Prelude.{ℕ, List, [], _∷_, cond, getD}
 use Rattle.answer.specs.declared.Outcome.{Outcome}
 use Rattle.answer.specs.Outcome.{given, refusedAt, refused, unreadable}
-use Rattle.memory.specs.Layout.{deskSize, pageSize}
-use Rattle.memory.specs.Area.{zeros}
 use Rattle.directory.specs.declared.Directory.{Directory}
+use Rattle.area.specs.Prelude.{zeros, deskSize, pageSize, releaseOf}
 use Rattle.diff.specs.Format.{pageWord, runWord, endWord}
-use Rattle.protocol.specs.Release.{releaseOf}
 use Rattle.protocol.specs.Result.{Result, accepted}
 use Rattle.protocol.specs.Calls.{opening, fetch, failure, recovery, join}
 use Rattle.batch.specs.Steps.{Stepped, steps}

@@ -5,10 +5,10 @@ use mathlib.Core.Bool.{or-assoc, or-false}
 use lib.ListN.{length-replicate}
 use Rattle.laws.specs.Search.{lowestFrom, lowest, someBelow, inTurn}
 use Rattle.laws.proofs.Search.{lowest-stops, none-below, some-below}
-use Rattle.memory.specs.Layout.{areaSize}
+use Rattle.area.specs.Prelude.{areaSize, openList, stepsOf, isOpen}
 use Rattle.diff.specs.declared.Price.{Price}
 use Rattle.diff.proofs.Stored.{prices-on-pages}
-use Rattle.protocol.specs.Release.{openList, openPrices, stepsOf, isOpen, countsAt}
+use Rattle.protocol.specs.Release.{openPrices, countsAt}
 use Rattle.protocol.specs.Fetch.{namesPage, inMotion}
 use Rattle.conflict.specs.Marks.{marked}
 use Rattle.conflict.specs.Motion.{pageOf, markMotion}

@@ -1,5 +1,4 @@
 -- Laws that the proofs of several modules, or of the crates above, cite.
 pub mod Others
-pub mod Walking
 pub mod Marks
 pub mod InMotion

@@ -8,9 +8,10 @@ use Rattle.diff.specs.declared.Cursor.{Cursor}
 use Rattle.diff.specs.declared.Price.{Price}
 use Rattle.diff.specs.Prices.{pricedWord, pricesOf}
 use Rattle.diff.proofs.Stored.{OnPages}
-use Rattle.conflict.specs.Walking.{Walk, atFirst, pastWord}
+use Rattle.reader.specs.declared.walk.Walk.{Walk}
+use Rattle.reader.specs.Walking.{atFirst, pastWord, priceDue}
+use Rattle.reader.proofs.Walking.{Reached, reached-next, pricesLeft, left-first, left-turn, left-end}
 use Rattle.conflict.specs.Marks.{marked, markedDue}
-use Rattle.conflict.proofs.Walking.{Reached, reached-next, priceDue, pricesLeft, left-first, left-turn, left-end}
 
 -- none of so many places marked
 abbrev pub unmarked : ℕ → List Bool

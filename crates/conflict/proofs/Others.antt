@@ -4,8 +4,7 @@ use Rattle.laws.proofs.Prelude.{ℕ, zero, suc, _+_, _<_, _≡_, refl, ap, List
 use mathlib.Core.Bool.{and-assoc}
 use Rattle.laws.specs.Search.{lowestFrom, lowest, someBelow}
 use Rattle.laws.proofs.Search.{lowest-all-fail, none-below}
-use Rattle.memory.specs.Layout.{areaSize}
-use Rattle.protocol.specs.Release.{isOpen}
+use Rattle.area.specs.Prelude.{areaSize, isOpen}
 use Rattle.protocol.specs.Opening.{sharesWith}
 use Rattle.conflict.specs.Others.{isOther}
 

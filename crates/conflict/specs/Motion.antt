@@ -1,10 +1,10 @@
 -- Inner contracts only. Refusal 10: the prices of a list, counted, and the pages that they name.
 -- Assumes nothing: these are definitions.
 use Rattle.laws.specs.Prelude.{ℕ, _-_, List, Bool, false, cond, _&&_, _||_, length, getD, set, ltb, leb, eqb}
-use Rattle.memory.specs.Layout.{areaSize}
+use Rattle.area.specs.Prelude.{areaSize, stepsOf, isOpen}
 use Rattle.diff.specs.declared.Cursor.{Cursor}
 use Rattle.diff.specs.declared.Price.{Price}
-use Rattle.protocol.specs.Release.{openPrices, stepsOf, isOpen, countsAt}
+use Rattle.protocol.specs.Release.{openPrices, countsAt}
 use Rattle.protocol.specs.Fetch.{namesPage}
 use Rattle.conflict.specs.Marks.{marked}
 pub use Rattle.conflict.specs.declared.motion.Tally.{Tally}

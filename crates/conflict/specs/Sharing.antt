@@ -2,7 +2,7 @@
 -- prices a marked one.
 -- Assumes nothing: these are definitions.
 use Rattle.laws.specs.Prelude.{ℕ, _+_, _-_, _*_, List, [], _∷_, Bool, false, cond, _&&_, _||_, getD, ltb}
-use Rattle.memory.specs.Layout.{areaSize}
+use Rattle.area.specs.Prelude.{areaSize}
 use Rattle.diff.specs.declared.Cursor.{Cursor}
 use Rattle.diff.specs.declared.Price.{Price}
 use Rattle.diff.specs.Prices.{labelOf}

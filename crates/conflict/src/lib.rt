@@ -3,41 +3,26 @@
 // 10, `motion`). The searches for 8 and 10 answer the lowest such card, or the number of cards.
 ghost use Rattle.laws.specs.Prelude.{_≡_, _*_, _<_, _≤_, length};
 ghost use Rattle.laws.specs.Search.{someBelow};
-ghost use Rattle.memory.specs.Layout.{areaSize};
-ghost use Rattle.memory.specs.Area.{AreaIn};
-ghost use Rattle.protocol.specs.Release.{isOpen, openList};
+ghost use Rattle.area.specs.Prelude.{AreaIn, areaSize, pagesStart, isOpen};
 ghost use Rattle.conflict.specs.Others.{isOther};
 
 mod motion;
 mod sharing;
-mod walk;
 
 pub use motion::lowest_in_motion;
 pub use motion::mark_in_motion;
 pub use sharing::lowest_sharing;
 
-// Whether a release is open on the card, which must be live.
-pub fn is_open(memory: &[u32], size: usize, live: &[bool], card: usize) -> bool
-    requires { ⌜ (676 ≤ size) × AreaIn (length (now memory)) size card ⌝ }
-    requires { ⌜ card < length (now live) ⌝ }
-    ensures { λ r. ⌜ r ≡ isOpen (now (live .entry)) size (now (memory .entry)) card ⌝ }
-{
-    if live[card] {
-        return memory::load_word(memory, size, card, memory::OPEN_FLAG) == 1;
-    }
-    false
-}
-
 // Whether it is another card, with a release open.
 pub(crate) fn is_other(memory: &[u32], size: usize, live: &[bool], card: u32, other: u32) -> bool
-    requires { ⌜ (676 ≤ size) × AreaIn (length (now memory)) size other ⌝ }
+    requires { ⌜ (pagesStart ≤ size) × AreaIn (length (now memory)) size other ⌝ }
     requires { ⌜ other < length (now live) ⌝ }
     ensures { λ r. ⌜ r ≡ isOther (now (live .entry)) size (now (memory .entry)) card other ⌝ }
 {
     if other == card {
         return false;
     }
-    is_open(memory, size, live, other as usize)
+    area::releases::is_open(memory, size, live, other as usize)
 }
 
 // Whether a release is open on any card but this one.
@@ -48,7 +33,7 @@ pub(crate) fn any_other(memory: &[u32], cards: u32, pages: u32, live: &[bool], c
         ≡ someBelow (isOther (now (live .entry)) (areaSize pages) (now (memory .entry)) card)
         cards ⌝ }
 {
-    let size = memory::area_size(pages);
+    let size = area::layout::area_size(pages);
     let mut other: u32 = 0;
     while other < cards {
         if is_other(memory, size, live, card, other) {
@@ -67,15 +52,4 @@ pub fn any_open(memory: &[u32], cards: u32, pages: u32, live: &[bool]) -> bool
         ≡ someBelow (isOpen (now (live .entry)) (areaSize pages) (now (memory .entry))) cards ⌝ }
 {
     any_other(memory, cards, pages, live, cards)
-}
-
-// The list of the release that is open on the card.
-pub(crate) fn open_list(memory: &[u32], size: usize, card: usize) -> &[u32]
-    requires { ⌜ (676 ≤ size) × AreaIn (length (now memory)) size card ⌝ }
-    ensures { λ r. ⌜ now r ≡ openList size (now (memory .entry)) card ⌝ }
-    ensures { λ r. ⌜ length (now r) ≡ 512 ⌝ }
-{
-    let from = card * size + memory::LIST_START;
-    let end = from + memory::LIST_SIZE;
-    &memory[from..end]
 }

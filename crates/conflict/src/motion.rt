@@ -1,17 +1,16 @@
 // Refusal 10: a page in an open release that already counts.
 ghost use Rattle.laws.specs.Prelude.{_≡_, _*_, _<_, _≤_, _||_, length, leb};
 ghost use Rattle.laws.specs.Search.{lowest, inTurn};
-ghost use Rattle.memory.specs.Layout.{areaSize};
-ghost use Rattle.memory.specs.Area.{AreaIn};
+ghost use Rattle.area.specs.Prelude.{AreaIn, areaSize, pagesStart, stepsOf};
 ghost use Rattle.diff.specs.Prices.{pricesOf};
-ghost use Rattle.protocol.specs.Release.{stepsOf, countsAt};
+ghost use Rattle.protocol.specs.Release.{countsAt};
 ghost use Rattle.protocol.specs.Fetch.{inMotion};
 ghost use Rattle.reader.specs.WellFormed.{WellFormed};
 ghost use Rattle.conflict.specs.Marks.{marked, markedDue};
 ghost use Rattle.conflict.specs.Motion.{pageOf, pageDue, onPage, tallyOf, joinMark};
 ghost use Rattle.conflict.specs.Motion.{markMotion};
-use crate::walk;
 use diff::Cursor;
+use reader::walk;
 
 // How many prices a list has, and whether one of them names a page.
 struct Tally {
@@ -50,10 +49,10 @@ fn tally_prices(list: &[u32], pages: u32, page: u32) -> Tally
 
 // Whether the release open on the card, which has so many prices, counts already.
 fn counts(memory: &[u32], size: usize, card: usize, prices: u32) -> bool
-    requires { ⌜ (676 ≤ size) × AreaIn (length (now memory)) size card ⌝ }
+    requires { ⌜ (pagesStart ≤ size) × AreaIn (length (now memory)) size card ⌝ }
     ensures { λ r. ⌜ r ≡ leb (countsAt prices) (stepsOf size (now (memory .entry)) card) ⌝ }
 {
-    let steps = memory::load_word(memory, size, card, memory::STEPS_MADE);
+    let steps = area::releases::steps_made(memory, size, card);
     2 * (prices as u64) + 9 <= steps as u64
 }
 
@@ -63,8 +62,8 @@ fn in_motion(memory: &[u32], size: usize, pages: u32, live: &[bool], page: u32, 
     requires { ⌜ card < length (now live) ⌝ }
     ensures { λ r. ⌜ r ≡ inMotion (now (live .entry)) pages (now (memory .entry)) page card ⌝ }
 {
-    if crate::is_open(memory, size, live, card) {
-        let list = crate::open_list(memory, size, card);
+    if area::releases::is_open(memory, size, live, card) {
+        let list = area::releases::open_list(memory, size, card);
         let tally = tally_prices(list, pages, page);
         return counts(memory, size, card, tally.prices) & tally.named;
     }
@@ -78,7 +77,7 @@ pub fn lowest_in_motion(memory: &[u32], cards: u32, pages: u32, live: &[bool], p
     ensures { λ r. ⌜ r
         ≡ lowest (inMotion (now (live .entry)) pages (now (memory .entry)) page) cards ⌝ }
 {
-    let size = memory::area_size(pages);
+    let size = area::layout::area_size(pages);
     let mut card: u32 = 0;
     while card < cards {
         if in_motion(memory, size, pages, live, page, card as usize) {
@@ -142,8 +141,8 @@ fn mark_motion(
     ensures { λ _. ⌜ now (marks .exit)
         ≡ markMotion (now (live .entry)) pages (now (memory .entry)) card (now (marks .entry)) ⌝ }
 {
-    if crate::is_open(memory, size, live, card) {
-        let list = crate::open_list(memory, size, card);
+    if area::releases::is_open(memory, size, live, card) {
+        let list = area::releases::open_list(memory, size, card);
         let mut named = [false; 64];
         let prices = mark_pages(list, pages, &mut named);
         if counts(memory, size, card, prices) {
@@ -160,7 +159,7 @@ pub fn mark_in_motion(memory: &[u32], cards: u32, pages: u32, live: &[bool], mar
         ≡ inTurn (markMotion (now (live .entry)) pages (now (memory .entry))) cards
         (now (marks .entry)) ⌝ }
 {
-    let size = memory::area_size(pages);
+    let size = area::layout::area_size(pages);
     for card in 0..cards {
         mark_motion(memory, size, pages, live, card as usize, marks);
     }

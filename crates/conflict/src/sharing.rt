@@ -1,14 +1,14 @@
 // Refusal 8: a word of the list that another card's open release prices.
 ghost use Rattle.laws.specs.Prelude.{_≡_, _*_, _<_, _≤_, length};
 ghost use Rattle.laws.specs.Search.{lowest};
-ghost use Rattle.memory.specs.Layout.{areaSize};
+ghost use Rattle.area.specs.Prelude.{areaSize};
 ghost use Rattle.diff.specs.Prices.{labelOf, pricesOf};
 ghost use Rattle.protocol.specs.Opening.{sharesWith};
 ghost use Rattle.reader.specs.WellFormed.{WellFormed};
 ghost use Rattle.conflict.specs.Marks.{marked, markedDue};
 ghost use Rattle.conflict.specs.Sharing.{labelDue, hitsDue, marksWith};
-use crate::walk;
 use diff::Cursor;
+use reader::walk;
 
 // The label of the price that is due.
 fn label_due(s: Cursor) -> usize
@@ -73,12 +73,12 @@ fn walk_lists(
         (marksWith (now (live .entry)) pages (now (memory .entry)) card (now (named .entry)))
         cards ⌝ }
 {
-    let size = memory::area_size(pages);
+    let size = area::layout::area_size(pages);
     let mut found = cards;
     let mut other: u32 = 0;
     'cards: while other < cards {
         if crate::is_other(memory, size, live, card, other) {
-            let list = crate::open_list(memory, size, other as usize);
+            let list = area::releases::open_list(memory, size, other as usize);
             let mut at = walk::first_word();
             while at.index < list.len() {
                 if hits(at.cursor, named) {

@@ -1,11 +1,22 @@
--- Runs of stores in a list, beside those of `lib.Seq`.
+-- Lists appended, and runs of stores in a list, beside what `lib.Seq` has.
 use Rattle.laws.proofs.Prelude.{_≡_, refl, _∙_, _≢_, List, [], _∷_, _++_, ℕ, zero, suc, _+_, _≤_, _<_, arith}
 use Rattle.laws.proofs.Prelude.{length, getD, set, take, drop}
 use mathlib.Core.List.{append-nil}
 use native.Mathlib.Nat.{add-zero, zero-add}
 use native.Mathlib.Numerals.{add-one}
 use lib.ListN.{length-set, drop-of-length-le, length-take, length-drop, take-append-drop}
-use lib.Seq.{sets, sets-eq, getD-set-same, getD-set-other, take-suc, length-take-le, take-add}
+use lib.Seq.{getD-append-add, sets, sets-eq, getD-set-same, getD-set-other, take-suc, length-take-le, take-add}
+
+-- an element of the second of two lists
+pub getD-right : {A : Type 0} (d : A) (xs ys : List A) (n i j : ℕ) → length xs ≡ n → i ≡ n + j
+    → getD (xs ++ ys) i d ≡ getD ys j d
+getD-right d xs ys n i j size at = rw (at, ← size) (getD-append-add xs ys j d)
+
+-- an element that a list has, whatever stands for those that it has not
+pub getD-within : {A : Type 0} (l : List A) (i : ℕ) (d d′ : A) → i < length l → getD l i d ≡ getD l i d′
+getD-within [] i d d′ within = absurd (omega arith)
+getD-within (x ∷ xs) zero d d′ within = refl
+getD-within (x ∷ xs) (suc i) d d′ within = getD-within xs i d d′ (omega arith)
 
 -- two runs of stores, one after the other
 pub sets-append : (us vs l : List ℕ) (i : ℕ) → sets l i (us ++ vs) ≡ sets (sets l i us) (i + length us) vs

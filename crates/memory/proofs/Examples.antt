@@ -2,7 +2,7 @@
 use Rattle.laws.proofs.Prelude.{refl}
 use Rattle.laws.specs.Examples.{AllHold, sameWords, failuresFrom, Claims}
 use Rattle.laws.proofs.Examples.{all-hold}
-use Rattle.memory.specs.Area.{load, store, loadRun, overwrite, storeRun, zeros, clearRun, copyRun}
+use Rattle.memory.specs.Words.{load, store, loadRun, overwrite, storeRun, zeros, clearRun, copyRun}
 use Rattle.memory.specs.Examples.{examples}
 
 pub examples-hold : AllHold examples

@@ -2,7 +2,7 @@
 use Rattle.laws.proofs.Prelude.{ℕ, _+_, _*_, _/_, _%_, _<_, _≤_, _≡_, sym, ap, _∙_, _≢_, arith}
 use native.Mathlib.Nat.{suc-mul, mul-le-mul-right}
 use lib.Arith.{digits-div, digits-mod}
-use Rattle.memory.specs.Area.{indexOf, AreaIn}
+use Rattle.memory.specs.Words.{indexOf, AreaIn}
 
 -- a memory of one area per card has the area of each card
 pub area-in : (size : ℕ) {words cards card : ℕ} → card < cards → words ≡ cards * size → AreaIn words size card

@@ -5,10 +5,11 @@ use Prim.Native.Nat.{min}
 use native.Mathlib.Nat.{add-assoc}
 use lib.ListN.{length-take, length-drop, length-replicate}
 use lib.Seq.{sets, drop-drop, take-add, getD-take, getD-drop, ext-getD, length-sets}
-use Rattle.laws.proofs.Lists.{getD-sets-outside, getD-sets-inside}
-use Rattle.memory.specs.Area.{indexOf, AreaIn, load, store, loadRun, overwrite, storeRun, zeros, clearRun}
-use Rattle.memory.specs.Area.{copyRun}
+use Rattle.laws.proofs.Lists.{sets-append, getD-sets-outside, getD-sets-inside}
+use Rattle.memory.specs.Words.{indexOf, AreaIn, load, store, loadRun, overwrite, storeRun, zeros, clearRun}
+use Rattle.memory.specs.Words.{copyRun}
 use Rattle.memory.proofs.Index.{Outside, outside-fewer}
+use Rattle.memory.proofs.Words.{store-swap}
 
 -- ---- zeros
 
@@ -100,6 +101,12 @@ pub store-run-sets : (size : ℕ) (m : List ℕ) (card offset : ℕ) (vs : List 
 unfolding storeRun
 store-run-sets size m card offset vs = overwrite-sets m (indexOf size card offset) vs
 
+-- a run of one word is that word
+pub store-run-one : (size : ℕ) (m : List ℕ) (card offset v : ℕ)
+    → storeRun size m card offset (v ∷ []) ≡ store size m card offset v
+unfolding store
+store-run-one size m card offset v = store-run-sets size m card offset (v ∷ [])
+
 module _ (size : ℕ) (m : List ℕ) (card offset : ℕ) (vs : List ℕ) where
   pub length-store-run : length (storeRun size m card offset vs) ≡ length m
   length-store-run = rw store-run-sets (length-sets m (indexOf size card offset) vs)
@@ -133,6 +140,28 @@ module _ (size : ℕ) (m : List ℕ) (card offset : ℕ) (vs : List ℕ) where
         let same = length-store-run in
         load-run-is size (storeRun size m card offset vs) card offset n vs long (omega arith) (omega arith)
         (λ j h. load-store-run-inside j (omega arith))
+
+-- two runs, one after the other
+pub store-run-append : (size : ℕ) (m : List ℕ) (card offset : ℕ) (us vs : List ℕ)
+    → storeRun size m card offset (us ++ vs)
+    ≡ storeRun size (storeRun size m card offset us) card (offset + length us) vs
+store-run-append size m card offset us vs =
+    let next : indexOf size card offset + length us ≡ indexOf size card (offset + length us) = omega arith in
+    rw (store-run-sets, store-run-sets, store-run-sets) (sets-append us vs m (indexOf size card offset) ∙ rw next)
+
+-- a word stored before a run of any card, and the run, in either order
+pub store-run-swap : (size : ℕ) (m : List ℕ) (card offset u card′ offset′ : ℕ) (vs : List ℕ) → offset < offset′
+    → offset′ + length vs ≤ size
+    → storeRun size (store size m card offset u) card′ offset′ vs
+    ≡ store size (storeRun size m card′ offset′ vs) card offset u
+store-run-swap size m card offset u card′ offset′ [] before fits = rw (store-run-sets, store-run-sets)
+store-run-swap size m card offset u card′ offset′ (v ∷ vs) before fits =
+    store-run-cons size (store size m card offset u) card′ offset′ vs v
+    ∙ ap (λ (x : List ℕ). storeRun size x card′ (offset′ + 1) vs)
+    (store-swap size m card offset u card′ offset′ v (omega arith) (omega arith) (omega arith))
+    ∙ store-run-swap size (store size m card′ offset′ v) card offset u card′ (offset′ + 1) vs (omega arith)
+    (omega arith)
+    ∙ ap (λ (x : List ℕ). store size x card offset u) (sym (store-run-cons size m card′ offset′ vs v))
 
 -- ---- a run cleared
 

@@ -2,8 +2,8 @@
 use Rattle.laws.proofs.Prelude.{ℕ, zero, suc, _<_, _≡_, refl, ap, _≢_, List, [], _∷_, length, set}
 use lib.ListN.{length-set}
 use lib.Seq.{getD-set-same, getD-set-other, set-getD, set-set}
-use Rattle.memory.specs.Area.{indexOf, AreaIn, load, store}
-use Rattle.memory.proofs.Index.{index-in, index-same-card, index-same-offset}
+use Rattle.memory.specs.Words.{indexOf, AreaIn, load, store}
+use Rattle.memory.proofs.Index.{index-in, index-same-offset}
 
 module _ (size : ℕ) (m : List ℕ) (card offset v : ℕ) where
   pub length-store : length (store size m card offset v) ≡ length m
@@ -20,17 +20,6 @@ module _ (size : ℕ) (m : List ℕ) (card offset v : ℕ) where
         → load size (store size m card offset v) card′ offset′ ≡ load size m card′ offset′
     unfolding load store
     load-store-elsewhere = getD-set-other m (indexOf size card offset) (indexOf size card′ offset′) v 0
-
-    module _ (inside : offset < size) (inside′ : offset′ < size) where
-      pub load-store-other-card : card′ ≢ card
-          → load size (store size m card offset v) card′ offset′ ≡ load size m card′ offset′
-      load-store-other-card other =
-          load-store-elsewhere (λ e. other (index-same-card size card′ offset′ card offset inside′ inside e))
-
-      pub load-store-other-offset : offset′ ≢ offset
-          → load size (store size m card offset v) card′ offset′ ≡ load size m card′ offset′
-      load-store-other-offset other =
-          load-store-elsewhere (λ e. other (index-same-offset size card′ offset′ card offset inside′ inside e))
 
 -- ---- two stores
 

@@ -1,4 +1,3 @@
 -- What the contracts on the lent memory cite.
-pub mod Layout
-pub mod Area
+pub mod Words
 pub mod Examples

@@ -1,44 +1,12 @@
 // The lent memory: one area per card, ascending (document 01, "Cards, pages, memory"). Words and
-// runs of words are loaded, stored, copied and cleared here; a card's area, and a page in it, are
-// lent on as parts of the memory.
+// runs of words of an area are loaded, stored, copied and cleared here; what stands where in an
+// area is told by `area`.
 ghost use Rattle.laws.specs.Prelude.{_≡_, _+_, _*_, _<_, _≤_, length, set};
 ghost use lib.Seq.{sets};
 ghost use Rattle.laws.specs.Examples.{AllHold};
-ghost use Rattle.memory.specs.Layout.{areaSize};
-ghost use Rattle.memory.specs.Area.{AreaIn, load, store, loadRun, storeRun, zeros, clearRun};
-ghost use Rattle.memory.specs.Area.{copyRun};
+ghost use Rattle.memory.specs.Words.{AreaIn, load, store, loadRun, storeRun, zeros, clearRun};
+ghost use Rattle.memory.specs.Words.{copyRun};
 ghost use Rattle.memory.specs.Examples.{examples};
-
-// specs/Layout.antt has the same table.
-pub const OWN_STAMP: usize = 0;
-
-pub const OWN_DESK: usize = 1;
-
-pub const OPEN_FLAG: usize = 9;
-
-pub const STEPS_MADE: usize = 10;
-
-pub const RELEASE_NUMBER: usize = 11;
-
-pub const RELEASE_DESK: usize = 12;
-
-pub const RECORDS_START: usize = 20;
-
-pub const RECORD_SIZE: usize = 18;
-
-pub const LIST_START: usize = 164;
-
-pub const LIST_SIZE: usize = 512;
-
-pub const PAGES_START: usize = 676;
-
-// The number of words of one area.
-pub fn area_size(pages: u32) -> usize
-    requires { ⌜ pages ≤ 64 ⌝ }
-    ensures { λ r. ⌜ r ≡ areaSize pages ⌝ }
-{
-    676 + 64 * (pages as usize)
-}
 
 // ---- slices of words
 
@@ -136,7 +104,7 @@ pub fn clear_run(memory: &mut [u32], size: usize, card: usize, offset: usize, n:
 
 // Copies a run to another card's area, or to another place of the same area, through a buffer of
 // its length: words of two slices are copied as a block.
-fn copy_run(
+pub fn copy_run(
     memory: &mut [u32],
     size: usize,
     from: usize,
@@ -157,79 +125,8 @@ fn copy_run(
     store_run(memory, size, to, target, buffer);
 }
 
-// Copies the 18 words of a record from one card's area to another's.
-pub fn copy_record(memory: &mut [u32], size: usize, from: usize, to: usize, offset: usize)
-    requires { ⌜ AreaIn (length (now memory)) size from ⌝ }
-    requires { ⌜ AreaIn (length (now memory)) size to ⌝ }
-    requires { ⌜ offset + 18 ≤ size ⌝ }
-    ensures { λ _. ⌜ now (memory .exit)
-        ≡ copyRun size (now (memory .entry)) from offset to offset 18 ⌝ }
-{
-    let mut words = [0u32; 18];
-    copy_run(memory, size, from, offset, to, offset, &mut words);
-}
-
-// ---- a page's 64 words: the card's area is lent on as a part of the memory, and the page as a
-// part of it. `page` is the page's offset in the area; words 0 to 31 are its tentative ones, 32 to
-// 63 its committed ones.
-
-fn store_in_page(page: &mut [u32], word: usize, v: u32)
-    requires { ⌜ word < length (now page) ⌝ }
-    ensures { λ _. ⌜ now (page .exit) ≡ set (now (page .entry)) word v ⌝ }
-{
-    page[word] = v;
-}
-
-fn store_price_in(area: &mut [u32], page: usize, word: usize, v: u32)
-    requires { ⌜ (page + 64 ≤ length (now area)) × (word < 64) ⌝ }
-    ensures { λ _. ⌜ now (area .exit) ≡ set (now (area .entry)) (page + word) v ⌝ }
-{
-    let end = page + 64;
-    store_in_page(&mut area[page..end], word, v);
-}
-
-pub fn store_price(memory: &mut [u32], size: usize, card: usize, page: usize, word: usize, v: u32)
-    requires { ⌜ AreaIn (length (now memory)) size card ⌝ }
-    requires { ⌜ (page + 64 ≤ size) × (word < 64) ⌝ }
-    ensures { λ _. ⌜ now (memory .exit) ≡ store size (now (memory .entry)) card (page + word) v ⌝ }
-{
-    let area = card * size;
-    let end = area + size;
-    store_price_in(&mut memory[area..end], page, word, v);
-}
-
-// Copies a page from one card's area to another's.
-pub fn copy_page(memory: &mut [u32], size: usize, from: usize, to: usize, page: usize)
-    requires { ⌜ AreaIn (length (now memory)) size from ⌝ }
-    requires { ⌜ AreaIn (length (now memory)) size to ⌝ }
-    requires { ⌜ page + 64 ≤ size ⌝ }
-    ensures { λ _. ⌜ now (memory .exit)
-        ≡ copyRun size (now (memory .entry)) from page to page 64 ⌝ }
-{
-    let mut words = [0u32; 64];
-    copy_run(memory, size, from, page, to, page, &mut words);
-}
-
-// Copies 32 words of a page to another place in it.
-pub fn copy_prices(
-    memory: &mut [u32],
-    size: usize,
-    card: usize,
-    page: usize,
-    from: usize,
-    to: usize,
-)
-    requires { ⌜ AreaIn (length (now memory)) size card ⌝ }
-    requires { ⌜ (page + 64 ≤ size) × (from + 32 ≤ 64) × (to + 32 ≤ 64) ⌝ }
-    ensures { λ _. ⌜ now (memory .exit)
-        ≡ copyRun size (now (memory .entry)) card (page + from) card (page + to) 32 ⌝ }
-{
-    let mut words = [0u32; 32];
-    copy_run(memory, size, card, page + from, card, page + to, &mut words);
-}
-
-// Worked examples of the layout and of words stored, computed from the definitions. It does
-// nothing when it is called.
+// Worked examples of words stored, computed from the definitions. It does nothing when it is
+// called.
 pub fn examples_hold()
     ensures { λ _. ⌜ AllHold examples ⌝ }
 {}

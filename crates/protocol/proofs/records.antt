@@ -1,6 +1,5 @@
 -- A card's record on another card: what it says, and how it is written.
 pub mod Recorded
-pub mod Reading
 pub mod Settled
 pub mod Failed
 pub mod Own

@@ -3,11 +3,10 @@
 -- Assumes nothing: these are definitions.
 use Rattle.laws.specs.Prelude.{ℕ, suc, List, Bool, cond, length, ltb, eqb}
 use Rattle.laws.specs.Search.{inTurn}
-use Rattle.memory.specs.Layout.{deskSize}
-use Rattle.memory.specs.Area.{zeros}
+use Rattle.area.specs.Prelude.{zeros, deskSize, Release}
 use Rattle.diff.specs.declared.Price.{Price}
 use Rattle.diff.specs.Prices.{pricesOf, appliedAt}
-use Rattle.protocol.specs.Release.{Release, countsAt, stepsIn}
+use Rattle.protocol.specs.Release.{countsAt, stepsIn}
 use Rattle.protocol.specs.Calls.{Call, open-release, make-step, fetch-page, fail-card, recover, join-card}
 use Rattle.protocol.specs.Calls.{ask-desk}
 

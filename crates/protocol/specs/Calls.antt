@@ -2,8 +2,8 @@
 -- their definitions and their checks here.
 -- Assumes nothing: these are definitions.
 use Rattle.laws.specs.Prelude.{ℕ, List}
-use Rattle.protocol.specs.Release.{Release}
 use Rattle.directory.specs.declared.Directory.{Directory}
+use Rattle.area.specs.Prelude.{Release}
 use Rattle.protocol.specs.Result.{Result}
 unfoldable pub use Rattle.protocol.specs.Formatting.{formatting}
 unfoldable pub use Rattle.protocol.specs.Opening.{opening, openingChecks}

@@ -5,16 +5,14 @@ use Rattle.laws.specs.Prelude.{leb, eqb}
 use Rattle.laws.specs.Search.{someBelow, countBelow}
 use Rattle.answer.specs.declared.Outcome.{Outcome}
 use Rattle.answer.specs.Outcome.{given, refusedAt, limits, unfit, noCard, recoveryAwaited}
-use Rattle.memory.specs.Layout.{areaSize, openFlag}
-use Rattle.memory.specs.Area.{load}
 use Rattle.directory.specs.declared.Directory.{Directory}
 use Rattle.directory.specs.declared.Status.{Status}
 use Rattle.directory.specs.declared.Status.the-variants.{Running, Awaiting}
 use Rattle.directory.specs.Directory.{liveAt, isLive, primaryOf, secondaryOf, awaitsCard}
+use Rattle.area.specs.Prelude.{load, areaSize, openFlag, openList, stepsOf}
 use Rattle.diff.specs.declared.Verdict.{Verdict}
 use Rattle.diff.specs.declared.Verdict.the-variants.{Good, Faulty}
 use Rattle.diff.specs.Reading.{readDiff}
-use Rattle.protocol.specs.Release.{openList, stepsOf}
 
 -- ---- checks in order
 

@@ -3,10 +3,9 @@
 -- Assumes nothing: these are definitions.
 use Rattle.laws.specs.Prelude.{ℕ, _≡_, List, [], _∷_, Bool, true, false, cond, length, eqb}
 use Rattle.answer.specs.declared.Outcome.{Outcome}
-use Rattle.memory.specs.Layout.{deskSize}
-use Rattle.memory.specs.Area.{zeros}
 use Rattle.directory.specs.declared.Directory.{Directory}
 use Rattle.directory.specs.Directory.{emptyDirectory}
+use Rattle.area.specs.Prelude.{zeros, deskSize}
 use Rattle.diff.specs.Making.{makeDiff, bufferAfter}
 use Rattle.protocol.specs.Result.{Result, accepted}
 use Rattle.protocol.specs.Formatting.{formatting}

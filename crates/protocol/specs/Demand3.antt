@@ -1,9 +1,8 @@
 -- Demand 3 (document 01, "The book of demand 3"): one claim about every list of calls on a newly formatted rack.
 use Rattle.laws.specs.Prelude.{ℕ, _+_, _*_, _<_, _≡_, List, [], _∷_, Bool, true, false, cond, length}
-use Rattle.memory.specs.Layout.{deskSize, pageSize}
-use Rattle.memory.specs.Area.{load}
 use Rattle.directory.specs.declared.Directory.{Directory}
 use Rattle.directory.specs.Directory.{table}
+use Rattle.area.specs.Prelude.{load, deskSize, pageSize}
 use Rattle.protocol.specs.Release.{sizeOf}
 use Rattle.protocol.specs.Result.{Result, accepted}
 use Rattle.protocol.specs.Formatting.{formatting}

@@ -3,12 +3,10 @@
 -- Assumes nothing: these are definitions.
 use Rattle.laws.specs.Prelude.{ℕ, List, cond}
 use Rattle.answer.specs.declared.Outcome.{Outcome}
-use Rattle.memory.specs.Layout.{deskSize}
-use Rattle.memory.specs.Area.{zeros}
 use Rattle.directory.specs.declared.Directory.{Directory}
 use Rattle.directory.specs.Directory.{isLive, nextLiveOf}
-use Rattle.protocol.specs.Release.{sizeOf, ownRelease}
-use Rattle.protocol.specs.Record.{recordedRelease}
+use Rattle.area.specs.Prelude.{zeros, deskSize, ownRelease, recordedRelease}
+use Rattle.protocol.specs.Release.{sizeOf}
 use Rattle.protocol.specs.Checks.{Check, firstRefusal, cardChecks}
 use Rattle.protocol.specs.Result.{Result, resultOf}
 

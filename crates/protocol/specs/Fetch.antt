@@ -4,12 +4,11 @@ use Rattle.laws.specs.Prelude.{ℕ, List, [], _∷_, _++_, Bool, true, false, c
 use Rattle.laws.specs.Search.{lowest, someBelow}
 use Rattle.answer.specs.declared.Outcome.{Outcome}
 use Rattle.answer.specs.Outcome.{noPage, pageInMotion, wrongBuffer}
-use Rattle.memory.specs.Layout.{areaSize, pageSize, committed}
-use Rattle.memory.specs.Area.{loadRun}
 use Rattle.directory.specs.declared.Directory.{Directory}
 use Rattle.directory.specs.Directory.{primaryOf}
+use Rattle.area.specs.Prelude.{loadRun, areaSize, pageSize, committed, stepsOf, isOpen}
 use Rattle.diff.specs.declared.Price.{Price}
-use Rattle.protocol.specs.Release.{sizeOf, openPrices, stepsOf, isOpen, countsAt}
+use Rattle.protocol.specs.Release.{sizeOf, openPrices, countsAt}
 use Rattle.protocol.specs.Checks.{Check, check, checkAt, firstRefusal, runningChecks}
 use Rattle.protocol.specs.Result.{Result, resultOf}
 

@@ -3,8 +3,8 @@
 use Rattle.laws.specs.Prelude.{ℕ, List, [], _∷_, length}
 use Rattle.answer.specs.declared.Outcome.{Outcome}
 use Rattle.answer.specs.Outcome.{limits}
-use Rattle.memory.specs.Area.{zeros}
 use Rattle.directory.specs.Directory.{formattedDirectory, emptyDirectory}
+use Rattle.area.specs.Prelude.{zeros}
 use Rattle.protocol.specs.Checks.{check, firstRefusal, outsideLimits}
 use Rattle.protocol.specs.Result.{Result, resultOf}
 

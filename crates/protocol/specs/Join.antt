@@ -4,12 +4,11 @@ use Rattle.laws.specs.Prelude.{ℕ, List, [], _∷_, _++_, Bool, cond, not, _&&
 use Rattle.laws.specs.Search.{someBelow, inTurn}
 use Rattle.answer.specs.declared.Outcome.{Outcome}
 use Rattle.answer.specs.Outcome.{cardLive, joinWhileOpen}
-use Rattle.memory.specs.Layout.{ownStamp, recordStamp, recordSize}
-use Rattle.memory.specs.Area.{storeRun, clearRun, copyRun}
 use Rattle.directory.specs.declared.Directory.{Directory}
 use Rattle.directory.specs.Directory.{isLive, nextLiveOf, backupOf, markedLive}
-use Rattle.protocol.specs.Release.{Release, sizeOf, isOpen}
-use Rattle.protocol.specs.Record.{recordedRelease, writeOwnRecord}
+use Rattle.area.specs.Prelude.{storeRun, clearRun, copyRun, ownStamp, recordSize, recordAt, Release, isOpen}
+use Rattle.area.specs.Prelude.{releaseWords, recordedRelease, writeOwnRecord}
+use Rattle.protocol.specs.Release.{sizeOf}
 use Rattle.protocol.specs.Checks.{Check, check, firstRefusal, cardChecks}
 use Rattle.protocol.specs.Result.{Result, resultOf}
 
@@ -24,13 +23,13 @@ joinChecks d m x =
 unfoldable pub resetArea : Directory → ℕ → List ℕ → List ℕ
 resetArea d x m =
     let r : Release = recordedRelease (sizeOf d) m (nextLiveOf d x) x in
-    storeRun (sizeOf d) (clearRun (sizeOf d) m x 0 (sizeOf d)) x ownStamp (r .number ∷ r .desk)
+    storeRun (sizeOf d) (clearRun (sizeOf d) m x 0 (sizeOf d)) x ownStamp (releaseWords r)
 
 -- "writes on it the other dead cards' records (whole, from where they stood before the join)"
 unfoldable pub copyDeadRecord : Directory → ℕ → ℕ → List ℕ → List ℕ
 copyDeadRecord d x c m =
     cond (not (isLive d c) && not (eqb c x))
-    (copyRun (sizeOf d) m (nextLiveOf d c) (recordStamp c) x (recordStamp c) recordSize)
+    (copyRun (sizeOf d) m (nextLiveOf d c) (recordAt c) x (recordAt c) recordSize)
     m
 
 -- "and, made as in recovery, that of the live card whose backup it now is"

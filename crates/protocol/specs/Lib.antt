@@ -1,6 +1,5 @@
 -- Every call of document 01 as a definition on a memory and a directory.
 pub mod Release
-pub mod Record
 pub mod Checks
 pub mod Result
 pub mod Formatting

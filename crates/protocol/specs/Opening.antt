@@ -4,13 +4,12 @@ use Rattle.laws.specs.Prelude.{ℕ, _+_, List, [], _∷_, _++_, Bool, true, fal
 use Rattle.laws.specs.Search.{lowest, someBelow}
 use Rattle.answer.specs.declared.Outcome.{Outcome}
 use Rattle.answer.specs.Outcome.{releaseOpen, numberUsed, numberAhead, faultyList, wordInUse}
-use Rattle.memory.specs.Layout.{openFlag, areaSize, listStart}
-use Rattle.memory.specs.Area.{storeRun}
 use Rattle.directory.specs.declared.Directory.{Directory}
+use Rattle.area.specs.Prelude.{storeRun, openFlag, areaSize, listStart, Release, ownRelease, isOpen, releaseWords}
 use Rattle.diff.specs.declared.Price.{Price}
 use Rattle.diff.specs.Prices.{labelOf, pricesOf, names}
 use Rattle.diff.specs.Reading.{checkDiff}
-use Rattle.protocol.specs.Release.{Release, sizeOf, ownRelease, openPrices, isOpen}
+use Rattle.protocol.specs.Release.{sizeOf, openPrices}
 use Rattle.protocol.specs.Checks.{Check, check, checkAt, firstRefusal, liveCardChecks}
 use Rattle.protocol.specs.Result.{Result, resultOf}
 
@@ -39,7 +38,7 @@ openingChecks d m c number list =
 -- "copies list, desk and number to the card's own area and sets steps to 0"
 unfoldable pub openMemory : ℕ → List ℕ → ℕ → Release → List ℕ → List ℕ
 openMemory size m c r list =
-    storeRun size (storeRun size m c openFlag (1 ∷ 0 ∷ r .number ∷ r .desk)) c listStart list
+    storeRun size (storeRun size m c openFlag (1 ∷ 0 ∷ releaseWords r)) c listStart list
 
 unfoldable pub opening : Directory → List ℕ → ℕ → Release → List ℕ → Result
 opening d m c r list =

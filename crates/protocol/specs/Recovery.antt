@@ -1,18 +1,17 @@
 -- Recovery of a failed card (document 01, "Failure, recovery, join"; refusals 1, 2, 12).
 -- Assumes nothing: these are definitions.
-use Rattle.laws.specs.Prelude.{ℕ, zero, suc, _+_, _-_, List, [], _∷_, _++_, Bool, cond, not, _&&_, _||_, length, eqb}
+use Rattle.laws.specs.Prelude.{ℕ, zero, suc, _-_, List, [], _∷_, _++_, Bool, cond, not, _&&_, _||_, length, eqb}
 use Rattle.laws.specs.Search.{inTurn}
 use Rattle.answer.specs.declared.Outcome.{Outcome}
 use Rattle.answer.specs.Outcome.{noneAwaited}
-use Rattle.memory.specs.Layout.{deskSize, pageSize, tentative, committed}
-use Rattle.memory.specs.Area.{copyRun, zeros}
 use Rattle.directory.specs.declared.Directory.{Directory}
 use Rattle.directory.specs.declared.Status.{Status}
 use Rattle.directory.specs.declared.Status.the-variants.{Running, Awaiting}
 use Rattle.directory.specs.Directory.{isLive, primaryOf, secondaryOf, nextLiveOf, backupOf, markedLive, withHomes}
 use Rattle.directory.specs.Directory.{withStatus}
-use Rattle.protocol.specs.Release.{Release, sizeOf, openPrices, stepsOf, isOpen, stepsIn, stepMemory}
-use Rattle.protocol.specs.Record.{recordedRelease, underWay, writeRecord, writeOwnRecord}
+use Rattle.area.specs.Prelude.{copyRun, zeros, deskSize, pageSize, tentative, committed, bothHalves, pageAt, Release}
+use Rattle.area.specs.Prelude.{stepsOf, isOpen, recordedRelease, underWay, writeRecord, writeOwnRecord}
+use Rattle.protocol.specs.Release.{sizeOf, openPrices, stepsIn, stepMemory}
 use Rattle.protocol.specs.Checks.{Check, check, firstRefusal, fittingChecks, awaitsRecovery}
 use Rattle.protocol.specs.Result.{Result, resultOf}
 
@@ -68,8 +67,8 @@ newHome d f page = nextLiveOf d (keptHome d f page)
 unfoldable pub copyToNewHome : Directory → ℕ → ℕ → List ℕ → List ℕ
 copyToNewHome d f page m =
     cond (lostHome d f page)
-    (copyRun (sizeOf d) m (keptHome d f page) (tentative page) (newHome d f page) (tentative page)
-    (pageSize + pageSize))
+    (copyRun (sizeOf d) m (keptHome d f page) (pageAt page) (newHome d f page) (pageAt page)
+    bothHalves)
     m
 
 unfoldable pub copyToNewHomes : Directory → ℕ → List ℕ → List ℕ

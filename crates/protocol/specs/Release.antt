@@ -1,63 +1,36 @@
 -- A release and its 4k + 11 steps (document 01, "A release and its 4k + 11 steps").
 -- Assumes nothing: these are definitions.
-use Rattle.laws.specs.Prelude.{ℕ, suc, _+_, _*_, List, [], _∷_, _++_, Bool, cond, _&&_, length, getD, ltb, eqb}
-use Rattle.memory.specs.Layout.{areaSize, deskSize, ownStamp, ownDesk, openFlag, stepsMade, releaseNumber, releaseDesk}
-use Rattle.memory.specs.Layout.{releaseSize, recordStamp, recordDone, recordDesk, listStart, listSize, pageStart}
-use Rattle.memory.specs.Layout.{tentativeHalf, committedHalf}
-use Rattle.memory.specs.Area.{load, store, loadRun, storeRun, clearRun}
+use Rattle.laws.specs.Prelude.{ℕ, suc, _+_, _*_, List, [], _∷_, _++_, Bool, cond, length, getD, ltb}
 use Rattle.directory.specs.declared.Directory.{Directory}
 use Rattle.directory.specs.Directory.{liveAt, primaryOf, secondaryOf}
+use Rattle.area.specs.Prelude.{store, storeRun, clearRun, areaSize, ownStamp, openFlag, stepsMade, releaseSize}
+use Rattle.area.specs.Prelude.{recordStamp, recordDone, recordDesk, listStart, listSize, pageAt, tentativeHalf}
+use Rattle.area.specs.Prelude.{committedHalf, numberWords, Release, releaseWords, openRelease, openList, stepsOf}
 use Rattle.diff.specs.declared.Price.{Price}
 use Rattle.diff.specs.Prices.{pricesOf}
 
--- ---- what a card's area says of its release
-
+-- the words of one card's area
 abbrev pub sizeOf : Directory → ℕ
 sizeOf d = areaSize (d .pages)
 
--- a release's number and the 8 words that its desk wants back
-pub record Release : Type 0 where
-  pub number : ℕ
-  pub desk : List ℕ
-
-abbrev pub releaseOf : ℕ → List ℕ → Release
-releaseOf number desk = record { number = number; desk = desk }
-
--- the last release that the card closed, as its own stamp and desk; number 0 if none
-unfoldable pub ownRelease : ℕ → List ℕ → ℕ → Release
-ownRelease size m c = record { number = load size m c ownStamp; desk = loadRun size m c ownDesk deskSize }
-
--- the open one
-unfoldable pub openRelease : ℕ → List ℕ → ℕ → Release
-openRelease size m c = record { number = load size m c releaseNumber; desk = loadRun size m c releaseDesk deskSize }
-
-unfoldable pub openList : ℕ → List ℕ → ℕ → List ℕ
-openList size m c = loadRun size m c listStart listSize
-
+-- the prices of the release open on a card, by its list
 abbrev pub openPrices : ℕ → List ℕ → ℕ → List Price
 openPrices pages m c = pricesOf pages (openList (areaSize pages) m c)
 
-unfoldable pub stepsOf : ℕ → List ℕ → ℕ → ℕ
-stepsOf size m c = load size m c stepsMade
-
--- "An open release always means one on a live card."
-unfoldable pub isOpen : List Bool → ℕ → List ℕ → ℕ → Bool
-isOpen marks size m c = liveAt marks c && eqb (load size m c openFlag) 1
-
 -- ---- its stores in order
 
--- a word to be stored in a card's area
+-- words to be stored in a card's area, from an offset on, all at once
 pub record Write : Type 0 where
   pub card : ℕ
   pub offset : ℕ
-  pub value : ℕ
+  pub words : List ℕ
 
-abbrev pub writeOf : ℕ → ℕ → ℕ → Write
-writeOf card offset value = record { card = card; offset = offset; value = value }
+abbrev pub writeOf : ℕ → ℕ → List ℕ → Write
+writeOf card offset words = record { card = card; offset = offset; words = words }
 
 -- a price at a home of its page, in the tentative or the committed half of the page
 abbrev pub priceWrite : (ℕ → ℕ) → ℕ → Price → Write
-priceWrite home half p = writeOf (home (p .page)) (pageStart (p .page) + (half + p .word)) (p .price)
+priceWrite home half p = writeOf (home (p .page)) (pageAt (p .page) + (half + p .word)) (p .price ∷ [])
 
 -- "for each price in order, the .. word at the secondary, then at the primary"
 abbrev pub priceWrites : Directory → ℕ → List Price → List Write
@@ -68,7 +41,7 @@ priceWrites d half (p ∷ ps) = priceWrite (secondaryOf d) half p ∷ priceWrite
 -- words stored at a card one after the other
 abbrev pub runWrites : ℕ → ℕ → List ℕ → List Write
 runWrites card offset [] = []
-runWrites card offset (v ∷ vs) = writeOf card offset v ∷ runWrites card (suc offset) vs
+runWrites card offset (v ∷ vs) = writeOf card offset (v ∷ []) ∷ runWrites card (suc offset) vs
 
 -- the stores of card c's release, numbered as document 01 numbers them
 unfoldable pub releaseWrites : Directory → ℕ → ℕ → Release → List Price → List Write
@@ -78,11 +51,11 @@ releaseWrites d backup c r ps =
     -- 2. "the desk words in order to the backup, even desk if the number is even, else odd"
     ++ (runWrites backup (recordDesk c (r .number)) (r .desk)
     -- 3. "the stamp at the backup (step 2k + 9; from here the release counts)"
-    ++ (runWrites backup (recordStamp c) (r .number ∷ [])
+    ++ (writeOf backup (recordStamp c) (numberWords (r .number))
     -- 4. the committed words
-    ++ (priceWrites d committedHalf ps
+    ∷ (priceWrites d committedHalf ps
     -- 5. "the done mark at the backup"
-    ++ runWrites backup (recordDone c) (r .number ∷ []))))
+    ++ writeOf backup (recordDone c) (numberWords (r .number)) ∷ [])))
 
 -- "step 2k + 9; from here the release counts"
 abbrev pub countsAt : ℕ → ℕ
@@ -97,19 +70,19 @@ stepsIn k = 4 * k + 11
 -- A store meant for a dead card is dropped ("Failure, recovery, join"). On a running rack the homes and the backup of
 -- a live card are live.
 unfoldable pub makeWrite : List Bool → ℕ → List ℕ → Write → List ℕ
-makeWrite marks size m w = cond (liveAt marks (w .card)) (store size m (w .card) (w .offset) (w .value)) m
+makeWrite marks size m w = cond (liveAt marks (w .card)) (storeRun size m (w .card) (w .offset) (w .words)) m
 
 -- 6. the close: "own stamp and desk are set and words 9 to 675 apart from 20 to 163 become 0"
 unfoldable pub close : ℕ → List ℕ → ℕ → List ℕ
 close size m c =
     clearRun size
     (clearRun size
-    (storeRun size m c ownStamp (openRelease size m c .number ∷ openRelease size m c .desk))
+    (storeRun size m c ownStamp (releaseWords (openRelease size m c)))
     c openFlag releaseSize)
     c listStart listSize
 
 abbrev pub noWrite : Write
-noWrite = writeOf 0 0 0
+noWrite = writeOf 0 0 []
 
 -- "Each step makes one store and, but for the close, adds 1 to word 10."
 unfoldable pub stepMemory : Directory → ℕ → List ℕ → ℕ → List ℕ

@@ -5,7 +5,8 @@ use Rattle.answer.specs.declared.Outcome.{Outcome}
 use Rattle.answer.specs.Outcome.{noneOpen}
 use Rattle.directory.specs.declared.Directory.{Directory}
 use Rattle.directory.specs.Directory.{backupOf}
-use Rattle.protocol.specs.Release.{sizeOf, isOpen, stepMemory}
+use Rattle.area.specs.Prelude.{isOpen}
+use Rattle.protocol.specs.Release.{sizeOf, stepMemory}
 use Rattle.protocol.specs.Checks.{Check, check, firstRefusal, liveCardChecks}
 use Rattle.protocol.specs.Result.{Result, resultOf}
 

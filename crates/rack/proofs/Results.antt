@@ -2,11 +2,10 @@
 use Rattle.laws.proofs.Prelude.{ℕ, _<_, _≡_, refl, sym, _∙_, _≢_, List, [], true, eq-eqb, ne-eqb, not-false, length}
 use Rattle.answer.specs.declared.Outcome.{Outcome}
 use Rattle.answer.specs.Outcome.{given, refused}
-use Rattle.memory.specs.Layout.{deskSize}
-use Rattle.memory.specs.Area.{zeros}
 use Rattle.directory.specs.declared.Directory.{Directory}
 use Rattle.directory.specs.Directory.{backupOf, markedLive}
-use Rattle.protocol.specs.Release.{Release, sizeOf, stepMemory}
+use Rattle.area.specs.Prelude.{zeros, deskSize, Release}
+use Rattle.protocol.specs.Release.{sizeOf, stepMemory}
 use Rattle.protocol.specs.Checks.{Check, firstRefusal, awaitsRecovery}
 use Rattle.protocol.specs.Result.{Result, resultOf}
 use Rattle.protocol.specs.Calls.{opening, openingChecks, step, stepChecks, fetch, fetchChecks, failure, failureChecks}

@@ -3,12 +3,11 @@ use Rattle.laws.proofs.Prelude.{ℕ, _<_, _≡_, List, Bool, true, false, arith
 use Rattle.laws.specs.Search.{someBelow}
 use Rattle.laws.proofs.Bools.{neither, and-first, and-second}
 use Rattle.laws.proofs.Search.{none-below}
-use Rattle.memory.specs.Layout.{areaSize, openFlag}
-use Rattle.memory.specs.Area.{load}
 use Rattle.directory.specs.declared.Directory.{Directory}
 use Rattle.directory.specs.Directory.{liveAt, primaryOf, secondaryOf, nextLiveOf}
 use Rattle.directory.proofs.Live.{next-live-below}
-use Rattle.protocol.specs.Release.{sizeOf, isOpen}
+use Rattle.area.specs.Prelude.{load, areaSize, openFlag, isOpen}
+use Rattle.protocol.specs.Release.{sizeOf}
 use Rattle.protocol.specs.Checks.{fewLive, badPage, badStatus, badCard, unfitRack, awaitsRecovery}
 use Rattle.protocol.specs.Recovery.{awaitedCard}
 use Rattle.protocol.proofs.checks.ByCall.{Fits}

@@ -3,11 +3,9 @@
 ghost use Rattle.laws.specs.Prelude.{_≡_, [], _*_, _<_, _≤_, length};
 ghost use Rattle.answer.specs.Outcome.{answerOf};
 ghost use Rattle.answer.specs.declared.Answer.the-variants.{Refused};
-ghost use Rattle.memory.specs.Layout.{areaSize, deskSize};
-ghost use Rattle.memory.specs.Area.{zeros};
 ghost use Rattle.directory.specs.declared.Status.the-variants.{Running};
 ghost use Rattle.directory.specs.Directory.{nextLive, directoryOf};
-ghost use Rattle.protocol.specs.Release.{releaseOf};
+ghost use Rattle.area.specs.Prelude.{zeros, areaSize, deskSize, releaseOf};
 ghost use Rattle.protocol.specs.Calls.{formatting, opening, openingChecks, step, fetch, failure};
 ghost use Rattle.protocol.specs.Calls.{recovery, join, deskQuestion};
 ghost use Rattle.protocol.specs.Checks.{firstRefusal};
@@ -108,7 +106,7 @@ pub fn open_release(
     if first.number != 0 {
         return Reply { directory, answer };
     }
-    let size = memory::area_size(directory.pages);
+    let size = area::layout::area_size(directory.pages);
     release::open_release(memory, size, card as usize, number, &desk, list);
     Reply { directory, answer }
 }
@@ -179,11 +177,10 @@ pub fn fetch_page(memory: &[u32], directory: Directory, page: u32, buffer: &mut 
     if first.number != 0 {
         return Reply { directory, answer };
     }
-    let size = memory::area_size(pages);
+    let size = area::layout::area_size(pages);
     let at = page as usize;
     let home = primary[at] as usize;
-    let start = memory::PAGES_START + 64 * at + 32;
-    memory::load_run(memory, size, home, start, buffer);
+    area::pages::load_committed(memory, size, home, at, buffer);
     Reply { directory, answer }
 }
 
@@ -359,14 +356,14 @@ fn load_desk(memory: &[u32], cards: u32, pages: u32, live: &[bool], card: u32, d
         ≡ deskOf (directoryOf cards pages (now (live .entry)) [] [] Running)
         (now (memory .entry)) card ⌝ }
 {
-    let size = memory::area_size(pages);
+    let size = area::layout::area_size(pages);
     let at = card as usize;
     if live[at] {
-        memory::load_run(memory, size, at, memory::OWN_DESK, desk);
+        memory::load_run(memory, size, at, area::layout::OWN_DESK, desk);
         return;
     }
     let holder = directory::next_live_after(live, cards, card) as usize;
-    recovery::load_record(memory, size, holder, at, desk);
+    area::records::load_record(memory, size, holder, at, desk);
 }
 
 // The desk words of a card's last release: its own, or for a dead card those of its record.

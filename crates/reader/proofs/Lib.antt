@@ -3,4 +3,4 @@ pub mod Turns
 pub mod Runs
 pub mod Keeping
 pub mod Listing
-pub mod Lent
+pub mod Walking

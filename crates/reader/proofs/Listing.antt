@@ -1,92 +1,85 @@
 -- The prices of a list written out, one number for each: what is left to write, written from here on, gives the whole.
 use Rattle.laws.proofs.Prelude.{ℕ, zero, suc, _+_, _≤_, _<_, _≡_, refl, ap, _∙_, List, [], _∷_, Bool, true, false, cond}
-use Rattle.laws.proofs.Prelude.{arith, length, drop, getD, set, ltb}
+use Rattle.laws.proofs.Prelude.{_++_, sym, arith, length, getD, ltb}
 use mathlib.Core.List.{map}
 use native.Mathlib.Nat.{zero-add}
-use native.Mathlib.Numerals.{add-one}
 use lib.ListN.{length-map, length-append}
-use lib.Seq.{sets}
-use Rattle.laws.proofs.Lists.{getD-sets-inside}
+use lib.Seq.{sets, length-sets}
+use Rattle.laws.proofs.Lists.{sets-append, getD-sets-inside}
 use Rattle.diff.specs.declared.Cursor.{Cursor}
 use Rattle.diff.specs.declared.Price.{Price}
 use Rattle.diff.specs.declared.Step.{Step}
 use Rattle.diff.specs.declared.Step.the-variants.{Next, End, Fault}
-use Rattle.diff.specs.Reading.{start, pastPrice, wordStep}
+use Rattle.diff.specs.Reading.{start, wordStep}
 use Rattle.diff.specs.Prices.{pricedWord, pricesAfter, pricesFrom, pricesOf}
-use Rattle.reader.proofs.Turns.{prices-end, prices-due, prices-turn}
+use Rattle.reader.specs.Walking.{Walk, atFirst, pastWord, priceDue}
+use Rattle.reader.proofs.Walking.{pricesLeft, left-first, left-turn, left-end, counts-word}
 
--- ---- one turn
+-- ---- one word
 
--- the prices of the words from an index on, as f has them, stored at the numbers that they have
-unfoldable pub listLeft : (Price → ℕ) → ℕ → List ℕ → ℕ → Cursor → List ℕ → List ℕ
-listLeft f pages list index s out = sets out (s .prices) (map f (pricesFrom pages (drop index list) index s))
+map-append : (f : Price → ℕ) (ps qs : List Price) → map f (ps ++ qs) ≡ map f ps ++ map f qs
+map-append f [] qs = refl
+map-append f (p ∷ ps) qs = ap (λ rest. f p ∷ rest) (map-append f ps qs)
 
-pub list-first : (f : Price → ℕ) (pages : ℕ) (list out : List ℕ)
-    → listLeft f pages list 0 start out ≡ sets out 0 (map f (pricesOf pages list))
-unfolding listLeft pricesOf
-list-first f pages list out = refl
+-- the prices that are left, as f has them, stored at the numbers that they have
+unfoldable pub listLeft : (Price → ℕ) → ℕ → List ℕ → Walk → List ℕ → List ℕ
+listLeft f pages list at out = sets out (at .cursor .prices) (map f (pricesLeft pages list at))
 
-module _ (f : Price → ℕ) (pages : ℕ) (list : List ℕ) (index : ℕ) (s : Cursor) (out : List ℕ) where
-  stored : {ps : List Price} → pricesFrom pages (drop index list) index s ≡ ps
-      → listLeft f pages list index s out ≡ sets out (s .prices) (map f ps)
+-- how far the listing is: what is left to write, written from here on, gives the whole
+pub record Listing (f : Price → ℕ) (pages : ℕ) (list before out : List ℕ) (at : Walk) : Type 0 where
+  pub same-length : length out ≡ length before
+  pub rest : listLeft f pages list at out ≡ sets before 0 (map f (pricesOf pages list))
+
+module _ (f : Price → ℕ) (pages : ℕ) (list before : List ℕ) where
+  pub listing-first : Listing f pages list before before atFirst
   unfolding listLeft
-  stored e = ap (λ ps. sets out (s .prices) (map f ps)) e
+  listing-first = record { same-length = refl; rest = rw left-first }
 
-  pub list-end : length list ≤ index → listLeft f pages list index s out ≡ out
-  list-end end = stored (prices-end pages list index s end)
-
-  pub list-due : index < length list → 0 < s .due
-      → listLeft f pages list index s out
-      ≡ listLeft f pages list (index + 1) (pastPrice s) (set out (s .prices) (f (pricedWord s (getD list index 0))))
+  pub listing-end : {out : List ℕ} {at : Walk} → Listing f pages list before out at → length list ≤ at .index
+      → out ≡ sets before 0 (map f (pricesOf pages list))
   unfolding listLeft
-  list-due within due = stored (prices-due pages list index s within due) ∙ rw (add-one index, add-one (s .prices))
+  listing-end {out} {at} far end =
+      sym (ap (λ ps. sets out (at .cursor .prices) (map f ps)) (left-end pages list at end)) ∙ far .rest
 
-  module _ (step : Step) (does : step ≡ wordStep pages s index (getD list index 0)) (within : index < length list)
-      (idle : s .due ≤ 0) where
-    turn : listLeft f pages list index s out
-        ≡ sets out (s .prices) (map f (pricesAfter (pricesFrom pages (drop (index + 1) list) (index + 1)) step))
-    turn = stored (prices-turn pages list index s step does within idle)
-
-    pub list-next : (t : Cursor) → step ≡ Next t → t .prices ≡ s .prices
-        → listLeft f pages list index s out ≡ listLeft f pages list (index + 1) t out
-    unfolding listLeft
-    list-next t is same = turn ∙ rw (is, same)
-
-    pub list-over : pricesAfter (pricesFrom pages (drop (index + 1) list) (index + 1)) step ≡ []
-        → listLeft f pages list index s out ≡ out
-    list-over none = turn ∙ rw none
+  pub listing-next : {out next : List ℕ} {at : Walk} → Listing f pages list before out at → at .index < length list
+      → next ≡ sets out (at .cursor .prices) (map f (priceDue (at .cursor) (getD list (at .index) 0)))
+      → Listing f pages list before next (pastWord pages list at)
+  unfolding listLeft
+  listing-next {out} {next} {at} far inside is =
+      let due = priceDue (at .cursor) (getD list (at .index) 0) in
+      let left = pricesLeft pages list (pastWord pages list at) in
+      let n = at .cursor .prices in
+      record {
+        same-length = ap length is ∙ length-sets out n (map f due) ∙ far .same-length;
+        rest =
+            ap (λ (k : ℕ). sets next k (map f left))
+            (counts-word pages list at inside ∙ ap (λ (k : ℕ). n + k) (sym (length-map due f)))
+            ∙ ap (λ (l : List ℕ). sets l (n + length (map f due)) (map f left)) is
+            ∙ sym (sets-append (map f due) (map f left) out n)
+            ∙ ap (sets out n) (sym (map-append f due left))
+            ∙ ap (λ ps. sets out n (map f ps)) (sym (left-turn pages list at inside))
+            ∙ far .rest;
+      }
 
 -- ---- how many they are
 
--- the prices that are read, and those of the words from an index on
-unfoldable pub countLeft : ℕ → List ℕ → ℕ → Cursor → ℕ
-countLeft pages list index s = s .prices + length (pricesFrom pages (drop index list) index s)
+-- the prices that are read, and those that are left
+unfoldable pub countLeft : ℕ → List ℕ → Walk → ℕ
+countLeft pages list at = at .cursor .prices + length (pricesLeft pages list at)
 
-pub count-first : (pages : ℕ) (list : List ℕ) → countLeft pages list 0 start ≡ length (pricesOf pages list)
-unfolding countLeft pricesOf
-count-first pages list = zero-add _
+pub count-first : (pages : ℕ) (list : List ℕ) → countLeft pages list atFirst ≡ length (pricesOf pages list)
+unfolding countLeft
+count-first pages list = rw left-first (zero-add _)
 
-module _ (pages : ℕ) (list : List ℕ) (index : ℕ) (s : Cursor) where
-  pub count-end : length list ≤ index → countLeft pages list index s ≡ s .prices
+module _ (pages : ℕ) (list : List ℕ) (at : Walk) where
+  pub count-end : length list ≤ at .index → countLeft pages list at ≡ at .cursor .prices
   unfolding countLeft
-  count-end end = rw (prices-end pages list index s end) (omega arith)
+  count-end end = rw (left-end pages list at end) (omega arith)
 
-  pub count-due : index < length list → 0 < s .due
-      → countLeft pages list index s ≡ countLeft pages list (index + 1) (pastPrice s)
+  pub count-next : at .index < length list → countLeft pages list at ≡ countLeft pages list (pastWord pages list at)
   unfolding countLeft
-  count-due within due = rw (prices-due pages list index s within due) (omega arith)
-
-  module _ (step : Step) (does : step ≡ wordStep pages s index (getD list index 0)) (within : index < length list)
-      (idle : s .due ≤ 0) where
-    pub count-next : (t : Cursor) → step ≡ Next t → t .prices ≡ s .prices
-        → countLeft pages list index s ≡ countLeft pages list (index + 1) t
-    unfolding countLeft
-    count-next t is same = rw (prices-turn pages list index s step does within idle, is, same)
-
-    pub count-over : pricesAfter (pricesFrom pages (drop (index + 1) list) (index + 1)) step ≡ []
-        → countLeft pages list index s ≡ s .prices
-    unfolding countLeft
-    count-over none = rw (prices-turn pages list index s step does within idle, none) (omega arith)
+  count-next inside =
+      rw (left-turn pages list at inside) (simp length-append (omega (arith, counts-word pages list at inside)))
 
 -- ---- what a caller finds in the list
 

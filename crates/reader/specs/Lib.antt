@@ -3,3 +3,4 @@ pub mod WellFormed
 pub mod Found
 pub mod Runs
 pub mod Listed
+pub mod Walking

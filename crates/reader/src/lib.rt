@@ -1,12 +1,10 @@
-// Reading a diff (document 01's list of changes): a list handed in, a list that stands in a card's
-// area, and one price.
+// Reading a diff (document 01's list of changes), whether it is handed in or stands in a card's
+// area: the whole of it, one price, and its prices as a table.
 ghost use Rattle.laws.specs.Prelude.{_≡_, _+_, _<_, _≤_, length};
 ghost use Prim.Native.Nat.{min};
 ghost use mathlib.Core.List.{map};
 ghost use lib.Seq.{sets};
 ghost use Rattle.answer.specs.Outcome.{answerOf};
-ghost use Rattle.memory.specs.Layout.{listStart, listSize};
-ghost use Rattle.memory.specs.Area.{AreaIn, loadRun};
 ghost use Rattle.diff.specs.Reading.{start, pastPrice, pageStep, runStep, endStep, wordStep};
 ghost use Rattle.diff.specs.Reading.{readDiff, checkDiff};
 ghost use Rattle.diff.specs.Prices.{labelOf, pricesOf};
@@ -14,6 +12,10 @@ ghost use Rattle.reader.specs.WellFormed.{WellFormed};
 ghost use Rattle.reader.specs.Found.{nthPrice};
 ghost use Rattle.reader.specs.Runs.{pastPrices, nthDue};
 ghost use Rattle.reader.specs.Listed.{priceOf};
+ghost use Rattle.reader.specs.Walking.{priceDue};
+
+pub mod walk;
+
 use answer::Answer;
 use diff::Cursor;
 use diff::Price;
@@ -175,16 +177,6 @@ pub fn read(list: &[u32], pages: u32) -> Verdict
     Verdict::Faulty(words as u32)
 }
 
-// Reads the list of the open release in a card's area, to its end word.
-pub fn read_stored(memory: &[u32], size: usize, card: usize, pages: u32) -> Verdict
-    requires { ⌜ (676 ≤ size) × AreaIn (length (now memory)) size card ⌝ }
-    ensures { λ r. ⌜ r ≡ readDiff pages (loadRun size (now (memory .entry)) card listStart listSize) ⌝ }
-{
-    let from = card * size + memory::LIST_START;
-    let end = from + memory::LIST_SIZE;
-    read(&memory[from..end], pages)
-}
-
 // Checks a list handed in: gives the number of its prices, or refusal 7 with its place.
 pub fn check(list: &[u32], pages: u32) -> Answer
     ensures { λ r. ⌜ r ≡ answerOf (checkDiff pages (now (list .entry))) ⌝ }
@@ -254,15 +246,21 @@ pub fn nth_price(list: &[u32], pages: u32, n: u32) -> Found
     Found::Nothing
 }
 
-// The price numbered `n` of the list of the open release in a card's area.
-pub fn nth_stored(memory: &[u32], size: usize, card: usize, pages: u32, n: u32) -> Found
-    requires { ⌜ (676 ≤ size) × AreaIn (length (now memory)) size card ⌝ }
-    ensures { λ r. ⌜ r
-        ≡ nthPrice (pricesOf pages (loadRun size (now (memory .entry)) card listStart listSize)) n ⌝ }
+// Stores label and price of the price that is due, if one is, at its number.
+fn put_due(s: Cursor, w: u32, labels: &mut [u32], prices: &mut [u32])
+    requires { ⌜ WellFormed s ⌝ }
+    requires { ⌜ (s .prices < length (now labels)) × (s .prices < length (now prices)) ⌝ }
+    requires { ⌜ s .next ≤ 64 ⌝ }
+    ensures labels { λ _. ⌜ now (labels .exit)
+        ≡ sets (now (labels .entry)) (s .prices) (map labelOf (priceDue s w)) ⌝ }
+    ensures prices { λ _. ⌜ now (prices .exit)
+        ≡ sets (now (prices .entry)) (s .prices) (map priceOf (priceDue s w)) ⌝ }
 {
-    let from = card * size + memory::LIST_START;
-    let end = from + memory::LIST_SIZE;
-    nth_price(&memory[from..end], pages, n)
+    if 0 < s.due {
+        let at = s.prices as usize;
+        labels[at] = 32 * (s.next - 1) + s.word;
+        prices[at] = w;
+    }
 }
 
 // Lists the prices of a diff, and answers how many they are: label j (32 × page + word) and price j,
@@ -276,57 +274,11 @@ pub fn list_prices(list: &[u32], pages: u32, labels: &mut [u32], prices: &mut [u
     ensures prices { λ _. ⌜ now (prices .exit)
         ≡ sets (now (prices .entry)) 0 (map priceOf (pricesOf pages (now (list .entry)))) ⌝ }
 {
-    let mut s = cursor();
-    let mut index: usize = 0;
-    while index < list.len() {
-        let w = list[index];
-        if 0 < s.due {
-            let at = s.prices as usize;
-            labels[at] = 32 * (s.next - 1) + s.word;
-            prices[at] = w;
-            s = price_read(s);
-            index += 1;
-        } else {
-            match read_word(s, w, index, pages) {
-                Step::Next(t) => {
-                    s = t;
-                    index += 1;
-                }
-                Step::End => {
-                    return s.prices;
-                }
-                Step::Fault => {
-                    return s.prices;
-                }
-            }
-        }
+    let mut at = walk::first_word();
+    while at.index < list.len() {
+        let index = at.index;
+        put_due(at.cursor, list[index], labels, prices);
+        at = walk::next_word(list, at, pages);
     }
-    s.prices
-}
-
-// Lists the prices of the list of the open release in a card's area.
-pub fn list_stored(
-    memory: &[u32],
-    size: usize,
-    card: usize,
-    pages: u32,
-    labels: &mut [u32],
-    prices: &mut [u32],
-) -> u32
-    requires { ⌜ (676 ≤ size) × AreaIn (length (now memory)) size card × (pages ≤ 64) ⌝ }
-    requires { ⌜ (length (now labels) ≡ 512) × (length (now prices) ≡ 512) ⌝ }
-    ensures count { λ r. ⌜ r
-        ≡ length (pricesOf pages (loadRun size (now (memory .entry)) card listStart listSize)) ⌝ }
-    ensures labels { λ _. ⌜ now (labels .exit)
-        ≡ sets (now (labels .entry)) 0
-        (map labelOf
-        (pricesOf pages (loadRun size (now (memory .entry)) card listStart listSize))) ⌝ }
-    ensures prices { λ _. ⌜ now (prices .exit)
-        ≡ sets (now (prices .entry)) 0
-        (map priceOf
-        (pricesOf pages (loadRun size (now (memory .entry)) card listStart listSize))) ⌝ }
-{
-    let from = card * size + memory::LIST_START;
-    let end = from + memory::LIST_SIZE;
-    list_prices(&memory[from..end], pages, labels, prices)
+    at.cursor.prices
 }

@@ -1,7 +1,7 @@
 -- What recovery and join rely on: each card of a rack has its mark and area, and the length of the
 -- memory alone counts.
 use Rattle.laws.proofs.Prelude.{ℕ, _<_, _≡_, List, Bool}
-use Rattle.memory.specs.Layout.{areaSize}
+use Rattle.area.specs.Prelude.{areaSize}
 use Rattle.release.specs.Stepping.{CardIn}
 use Rattle.release.proofs.Callers.{card-in}
 use Rattle.recovery.specs.Rack.{RackIn}

@@ -6,8 +6,8 @@ use Rattle.laws.specs.Search.{inTurn}
 use Rattle.laws.proofs.Bools.{and-second}
 use Rattle.directory.specs.declared.Directory.{Directory}
 use Rattle.directory.specs.Directory.{liveAt, nextLive}
-use Rattle.protocol.specs.Release.{sizeOf, ownRelease}
-use Rattle.protocol.specs.Record.{writeRecord, writeOwnRecord}
+use Rattle.area.specs.Prelude.{ownRelease, writeRecord, writeOwnRecord}
+use Rattle.protocol.specs.Release.{sizeOf}
 use Rattle.protocol.specs.Join.{resetArea, copyDeadRecord, joinedMemory}
 use Rattle.recovery.specs.Rack.{Covers, marksOf, backedBy}
 use Rattle.recovery.proofs.Turns.{in-turn-same}

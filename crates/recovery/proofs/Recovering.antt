@@ -3,8 +3,8 @@ use Rattle.laws.proofs.Prelude.{ℕ, _≡_, refl, sym, ap, _∙_, List, Bool, t
 use Rattle.laws.specs.Search.{inTurn}
 use Rattle.directory.specs.declared.Directory.{Directory}
 use Rattle.directory.specs.Directory.{backupOf}
-use Rattle.protocol.specs.Release.{Release, sizeOf}
-use Rattle.protocol.specs.Record.{writeOwnRecord}
+use Rattle.area.specs.Prelude.{Release, writeOwnRecord}
+use Rattle.protocol.specs.Release.{sizeOf}
 use Rattle.protocol.specs.Recovery.{restoreHome, restorePage, restorePages, lostHome, keptHome, newHome, copyToNewHome}
 use Rattle.protocol.specs.Recovery.{copyToNewHomes, writeFailed, writeRecords, runToClose, closeReleases, failedRelease}
 use Rattle.protocol.specs.Recovery.{restoredMemory, recoveredMemory, recoveredDirectory}

@@ -1,11 +1,10 @@
 -- Inner contracts only. What closing the open releases relies on, as a rack that passed its checks has it, and the
 -- memory after recovery.
 use Rattle.laws.specs.Prelude.{ℕ, _<_, _≡_, List, Bool, true}
-use Rattle.memory.specs.Layout.{areaSize}
 use Rattle.directory.specs.declared.Directory.{Directory}
 use Rattle.directory.specs.Directory.{nextLiveOf}
-use Rattle.protocol.specs.Release.{Release, sizeOf, isOpen}
-use Rattle.protocol.specs.Record.{recordedRelease, underWay}
+use Rattle.area.specs.Prelude.{areaSize, Release, isOpen, recordedRelease, underWay}
+use Rattle.protocol.specs.Release.{sizeOf}
 use Rattle.protocol.specs.Recovery.{restorePages, copyToNewHomes, writeRecords}
 use Rattle.release.specs.Stepping.{GoodRelease}
 

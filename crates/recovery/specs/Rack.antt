@@ -1,11 +1,10 @@
 -- Inner contracts only. What recovery and join rely on, as a rack that passed its checks has it; a directory as far as
 -- they look at it.
 use Rattle.laws.specs.Prelude.{ℕ, _*_, _<_, _≤_, _≡_, List, [], Bool, true, cond, _&&_, length, eqb}
-use Rattle.memory.specs.Layout.{areaSize, recordStamp}
-use Rattle.memory.specs.Area.{storeRun}
 use Rattle.directory.specs.declared.Directory.{Directory}
 use Rattle.directory.specs.declared.Status.the-variants.{Running}
 use Rattle.directory.specs.Directory.{liveAt, nextLive, directoryOf, isLive}
+use Rattle.area.specs.Prelude.{storeRun, areaSize, recordAt}
 use Rattle.protocol.specs.Release.{sizeOf}
 
 -- marks of at most 8 cards, and a memory of one area for each card
@@ -26,7 +25,7 @@ marksOf cards pages live = rackOf cards pages live [] []
 -- the record of a failed card, given by its words, stored on a card if that is live
 abbrev pub storeFailed : Directory → ℕ → List ℕ → ℕ → List ℕ → List ℕ
 storeFailed d failed words holder m =
-    cond (isLive d holder) (storeRun (sizeOf d) m holder (recordStamp failed) words) m
+    cond (isLive d holder) (storeRun (sizeOf d) m holder (recordAt failed) words) m
 
 -- homes alone
 abbrev pub homesOnly : List ℕ → List ℕ → Directory

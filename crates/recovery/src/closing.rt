@@ -1,7 +1,6 @@
 // Open releases, each run to its close.
 ghost use Rattle.laws.specs.Prelude.{_≡_, true, _<_, length};
-ghost use Rattle.protocol.specs.Release.{isOpen};
-ghost use Rattle.memory.specs.Layout.{areaSize};
+ghost use Rattle.area.specs.Prelude.{isOpen, areaSize};
 ghost use Rattle.protocol.specs.Recovery.{backupBefore, stepTimes, runToClose, closeReleases};
 ghost use Rattle.release.specs.Stepping.{CardIn, HomesIn, GoodRelease, homesOf, leftOf};
 ghost use Rattle.recovery.specs.Closing.{ReleasesIn};
@@ -69,7 +68,7 @@ fn run_to_close(
         failed card (now (memory .entry)) ⌝ }
 {
     let at = card as usize;
-    if conflict::is_open(memory, memory::area_size(pages), &live, at) {
+    if area::releases::is_open(memory, area::layout::area_size(pages), &live, at) {
         let backup = backup_before(live, cards, failed, card) as usize;
         run_release(memory, pages, &live, primary, secondary, backup, at);
     }

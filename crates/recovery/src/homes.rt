@@ -1,6 +1,6 @@
 // Pages that lost a home: the home that each keeps, and its copies and homes from then on.
 ghost use Rattle.laws.specs.Prelude.{_≡_, _<_, length};
-ghost use Rattle.memory.specs.Layout.{areaSize};
+ghost use Rattle.area.specs.Prelude.{areaSize};
 ghost use Rattle.protocol.specs.Recovery.{lostHome, keptHome, copyToNewHome, copyToNewHomes};
 ghost use Rattle.protocol.specs.Recovery.{moveHome, recoveredDirectory};
 ghost use Rattle.release.specs.Stepping.{CardIn, HomesIn};
@@ -62,9 +62,8 @@ fn move_home(
     if lost_home(primary, secondary, failed, page) {
         let kept = kept_home(primary, secondary, failed, page);
         let next = directory::next_live_after(live, cards, kept);
-        let start = memory::PAGES_START + 64 * page;
-        let size = memory::area_size(pages);
-        memory::copy_page(memory, size, kept as usize, next as usize, start);
+        let size = area::layout::area_size(pages);
+        area::pages::copy_page(memory, size, kept as usize, next as usize, page);
         primary[page] = kept;
         secondary[page] = next;
     }

@@ -3,7 +3,7 @@ ghost use Rattle.laws.specs.Prelude.{_≡_, _<_, length};
 ghost use Rattle.laws.specs.Search.{inTurn};
 ghost use Rattle.protocol.specs.Join.{resetArea, copyDeadRecord};
 ghost use Rattle.recovery.specs.Rack.{RackIn, SomeLive, marksOf};
-use crate::records;
+use area::layout;
 
 // Zeroes a dead card's area and gives it stamp and desk from its record.
 pub(crate) fn reset_area(memory: &mut [u32], cards: u32, pages: u32, live: &[bool], card: u32)
@@ -13,14 +13,14 @@ pub(crate) fn reset_area(memory: &mut [u32], cards: u32, pages: u32, live: &[boo
     ensures { λ _. ⌜ now (memory .exit)
         ≡ resetArea (marksOf cards pages (now (live .entry))) card (now (memory .entry)) ⌝ }
 {
-    let size = memory::area_size(pages);
+    let size = layout::area_size(pages);
     let at = card as usize;
     let holder = directory::next_live_after(live, cards, card) as usize;
-    let mut desk = [0u32; 8];
-    let number = records::load_record(memory, size, holder, at, &mut desk);
+    let mut desk = [0u32; layout::DESK_SIZE];
+    let number = area::records::load_record(memory, size, holder, at, &mut desk);
     memory::clear_run(memory, size, at, 0, size);
-    memory::store_word(memory, size, at, memory::OWN_STAMP, number);
-    memory::store_run(memory, size, at, memory::OWN_DESK, &desk);
+    area::numbers::store_number(memory, size, at, layout::OWN_STAMP, number);
+    memory::store_run(memory, size, at, layout::OWN_DESK, &desk);
 }
 
 // Copies the record of another dead card to the card that joins.
@@ -46,9 +46,8 @@ fn copy_dead_record(
         return;
     }
     let holder = directory::next_live_after(live, cards, card) as usize;
-    let record = memory::RECORDS_START + memory::RECORD_SIZE * card as usize;
-    let size = memory::area_size(pages);
-    memory::copy_record(memory, size, holder, joining as usize, record);
+    let size = layout::area_size(pages);
+    area::records::copy_record(memory, size, holder, joining as usize, card as usize);
 }
 
 // Copies the records of all other dead cards.

@@ -1,6 +1,7 @@
 // Recovery of a failed card, and a dead card that joins again: what they write in the memory of a
 // rack that passed its checks; which calls are refused is decided above.
 ghost use Rattle.laws.specs.Prelude.{_≡_, _<_, length};
+ghost use Rattle.area.specs.Prelude.{deskSize};
 ghost use Rattle.protocol.specs.Recovery.{failedRelease, recoveredMemory, recoveredDirectory};
 ghost use Rattle.protocol.specs.Join.{joinedMemory};
 ghost use Rattle.release.specs.Stepping.{HomesIn};
@@ -12,9 +13,6 @@ mod homes;
 mod joining;
 mod records;
 mod restoring;
-
-pub use records::load_record;
-pub use records::write_record;
 
 // Recovers a rack whose releases are closed: reads the failed card's record, rolls all pages
 // forward or back, gives those that lost a home their new ones, and writes the records. Gives the
@@ -32,7 +30,7 @@ fn recover_closed(
     requires { ⌜ RackIn live cards pages (length (now memory)) ⌝ }
     requires { ⌜ HomesIn live pages (now primary) (now secondary) (length (now memory)) ⌝ }
     requires { ⌜ SomeLive live cards ⌝ }
-    requires { ⌜ (failed < 8) × (length (now desk) ≡ 8) ⌝ }
+    requires { ⌜ (failed < 8) × (length (now desk) ≡ deskSize) ⌝ }
     ensures number { λ r. ⌜ r
         ≡ recordOf (marksOf cards pages live) failed (now (memory .entry)) .number ⌝ }
     ensures desk { λ _. ⌜ now (desk .exit)
@@ -44,11 +42,11 @@ fn recover_closed(
         ≡ recoveredDirectory
         (rackOf cards pages live (now (primary .entry)) (now (secondary .entry))) failed ⌝ }
 {
-    let size = memory::area_size(pages);
+    let size = area::layout::area_size(pages);
     let at = failed as usize;
     let holder = directory::next_live_after(&live, cards, failed) as usize;
-    let number = records::load_record(memory, size, holder, at, desk);
-    let forward = records::under_way(memory, size, holder, at);
+    let number = area::records::load_record(memory, size, holder, at, desk);
+    let forward = area::records::under_way(memory, size, holder, at);
     restoring::restore_pages(memory, pages, &live, primary, secondary, forward);
     homes::move_homes(memory, cards, pages, &live, primary, secondary, failed);
     records::write_records(memory, cards, pages, live, failed, number, desk);
@@ -70,7 +68,7 @@ pub fn recover_memory(
     requires { ⌜ RackIn live cards pages (length (now memory)) ⌝ }
     requires { ⌜ HomesIn live pages (now primary) (now secondary) (length (now memory)) ⌝ }
     requires { ⌜ SomeLive live cards ⌝ }
-    requires { ⌜ (failed < 8) × (length (now desk) ≡ 8) ⌝ }
+    requires { ⌜ (failed < 8) × (length (now desk) ≡ deskSize) ⌝ }
     requires { ⌜ ReleasesIn live cards pages (now memory) ⌝ }
     ensures number { λ r. ⌜ r
         ≡ failedRelease (rackOf cards pages live (now (primary .entry)) (now (secondary .entry)))

@@ -1,10 +1,11 @@
 // Pages rolled forward or back: at each live home tentative is copied to committed, or committed to
 // tentative.
 ghost use Rattle.laws.specs.Prelude.{_≡_, _<_, _≤_, length};
-ghost use Rattle.memory.specs.Layout.{areaSize};
+ghost use Rattle.area.specs.Prelude.{areaSize};
 ghost use Rattle.protocol.specs.Recovery.{restoreHome, restorePage, restorePages};
 ghost use Rattle.release.specs.Stepping.{CardIn, HomesIn, homesOf};
 ghost use Rattle.recovery.specs.Rack.{marksOf};
+use area::layout;
 
 // On a live home of a page: tentative to committed, or back.
 fn restore_home(
@@ -22,13 +23,14 @@ fn restore_home(
         (now (memory .entry)) ⌝ }
 {
     if live[home] {
-        let size = memory::area_size(pages);
-        let start = memory::PAGES_START + 64 * page;
+        let size = layout::area_size(pages);
+        let first = layout::TENTATIVE_HALF;
+        let second = layout::COMMITTED_HALF;
         if forward {
-            memory::copy_prices(memory, size, home, start, 0, 32);
+            area::pages::copy_half(memory, size, home, page, first, second);
             return;
         }
-        memory::copy_prices(memory, size, home, start, 32, 0);
+        area::pages::copy_half(memory, size, home, page, second, first);
     }
 }
 

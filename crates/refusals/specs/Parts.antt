@@ -4,9 +4,8 @@
 use Rattle.laws.specs.Prelude.{ℕ, _+_, List, [], _∷_, Bool, ltb, leb}
 use Rattle.laws.specs.Search.{lowest, someBelow}
 use Rattle.answer.specs.Outcome.{releaseOpen, numberUsed, numberAhead, faultyList, wordInUse}
-use Rattle.memory.specs.Layout.{areaSize}
+use Rattle.area.specs.Prelude.{areaSize, ownRelease, isOpen}
 use Rattle.diff.specs.Reading.{checkDiff}
-use Rattle.protocol.specs.Release.{ownRelease, isOpen}
 use Rattle.protocol.specs.Checks.{Check, check, checkAt}
 use Rattle.protocol.specs.Opening.{sharesWith}
 

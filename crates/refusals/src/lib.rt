@@ -3,8 +3,8 @@
 // arrays are lent one by one: a directory handed on by value would be copied at each call.
 ghost use Rattle.laws.specs.Prelude.{_≡_, _*_, _<_, _≤_, [], _∷_, length};
 ghost use Rattle.answer.specs.Outcome.{refusedAt};
-ghost use Rattle.memory.specs.Layout.{areaSize};
 ghost use Rattle.directory.specs.Directory.{directoryOf};
+ghost use Rattle.area.specs.Prelude.{areaSize};
 ghost use Rattle.diff.specs.Reading.{checkDiff};
 ghost use Rattle.protocol.specs.Checks.{check, firstRefusal};
 ghost use Rattle.protocol.specs.Calls.{openingChecks, stepChecks, fetchChecks, failureChecks};
@@ -87,12 +87,12 @@ fn number_refusal(
         (now (list .entry)))
         0 ⌝ }
 {
-    let size = memory::area_size(pages);
+    let size = area::layout::area_size(pages);
     let at = card as usize;
-    if conflict::is_open(memory, size, live, at) {
+    if area::releases::is_open(memory, size, live, at) {
         return refused(answer::RELEASE_OPEN, 0);
     }
-    let stamp = memory::load_word(memory, size, at, memory::OWN_STAMP);
+    let stamp = area::numbers::load_number(memory, size, at, area::layout::OWN_STAMP);
     if number <= stamp {
         return refused(answer::NUMBER_USED, stamp as u64);
     }
@@ -173,9 +173,9 @@ pub fn step(
     if first != 0 {
         return refused(first, 0);
     }
-    let size = memory::area_size(pages);
+    let size = area::layout::area_size(pages);
     last_check(
-        !conflict::is_open(memory, size, live, card as usize),
+        !area::releases::is_open(memory, size, live, card as usize),
         answer::NONE_OPEN,
     )
 }
@@ -212,7 +212,7 @@ pub fn fetch(
     if card < cards {
         return refused(answer::PAGE_IN_MOTION, card as u64);
     }
-    last_check(room != 32, answer::WRONG_BUFFER)
+    last_check(room != area::layout::PAGE_SIZE, answer::WRONG_BUFFER)
 }
 
 pub fn failure(

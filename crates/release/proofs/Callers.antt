@@ -1,16 +1,15 @@
 -- For those who call a step: what it relies on, from the checks of a rack; what it looks at in their directory.
 use Rattle.laws.proofs.Prelude.{ℕ, zero, suc, _*_, _<_, _≤_, _≡_, refl, ap, List, [], _∷_, Bool, false, true≢false}
 use Rattle.laws.proofs.Prelude.{arith, ltb-false, length}
-use Rattle.memory.specs.Layout.{areaSize}
-use Rattle.memory.proofs.Index.{area-in}
 use Rattle.directory.specs.declared.Directory.{Directory}
 use Rattle.directory.specs.Directory.{primaryOf, secondaryOf}
+use Rattle.area.specs.Prelude.{areaSize, Release, openList, stepsOf}
+use Rattle.area.proofs.Prelude.{area-in}
 use Rattle.diff.specs.declared.Price.{Price}
 use Rattle.diff.specs.declared.Verdict.{Verdict}
 use Rattle.diff.specs.declared.Verdict.the-variants.{Good, Faulty}
 use Rattle.diff.specs.Reading.{readDiff}
-use Rattle.protocol.specs.Release.{Release, openList, stepsOf, stepMemory, Write, priceWrite, priceWrites}
-use Rattle.protocol.specs.Release.{releaseWrites}
+use Rattle.protocol.specs.Release.{stepMemory, Write, priceWrite, priceWrites, releaseWrites}
 use Rattle.protocol.specs.Checks.{badRelease}
 use Rattle.protocol.specs.Recovery.{stepTimes}
 use Rattle.release.specs.Stepping.{CardIn, HomesIn, GoodRelease, homesOf}

@@ -3,13 +3,12 @@
 use Rattle.laws.proofs.Prelude.{ℕ, _+_, _-_, _*_, _/_, _<_, _≤_, _≡_, refl, sym, ap, _∙_, List, Bool, arith, length}
 use native.Mathlib.Nat.{add-zero, sub-zero}
 use Rattle.laws.proofs.Bools.{by-cond}
-use Rattle.memory.specs.Layout.{areaSize, stepsMade}
-use Rattle.memory.specs.Area.{AreaIn, store}
-use Rattle.memory.proofs.Words.{length-store, load-store-same, store-loaded, store-twice, store-swap}
 use Rattle.directory.specs.declared.Directory.{Directory}
 use Rattle.directory.specs.Directory.{liveAt}
+use Rattle.area.specs.Prelude.{AreaIn, store, areaSize, stepsMade, pagesStart, stepsOf}
+use Rattle.area.proofs.Prelude.{length-store, load-store-same, store-loaded, store-twice, store-run-swap}
 use Rattle.diff.specs.declared.Price.{Price}
-use Rattle.protocol.specs.Release.{sizeOf, openPrices, stepsOf, Write, makeWrite, stepMemory}
+use Rattle.protocol.specs.Release.{sizeOf, openPrices, Write, makeWrite, stepMemory}
 use Rattle.protocol.specs.Recovery.{stepTimes}
 use Rattle.protocol.proofs.release.OneWrite.{length-make-write}
 use Rattle.release.specs.Stepping.{StepsLeft, homesOf, storeAfter, NumberedPrice}
@@ -20,16 +19,16 @@ use Rattle.release.proofs.Left.{StepsMade, steps-none, steps-one, steps
 
 -- ---- a store to a page, before and after the count
 
-module _ (marks : List Bool) (size : ℕ) (m : List ℕ) (c steps : ℕ) (w : Write) (page : 676 ≤ w .offset)
-    (inside : w .offset < size) where
+module _ (marks : List Bool) (size : ℕ) (m : List ℕ) (c steps : ℕ) (w : Write)
+    (page : pagesStart ≤ w .offset) (inside : w .offset + length (w .words) ≤ size) where
   write-counted : makeWrite marks size (store size m c stepsMade steps) w
       ≡ store size (makeWrite marks size m w) c stepsMade steps
   unfolding makeWrite
   write-counted =
       by-cond
       (λ (m′ : List ℕ). m′ ≡ store size (makeWrite marks size m w) c stepsMade steps) (liveAt marks (w .card)) _ _
-      (λ live. rw live (store-swap size m c stepsMade steps (w .card) (w .offset) (w .value) (omega arith) inside
-      (omega arith)))
+      (λ live. rw live
+      (store-run-swap size m c stepsMade steps (w .card) (w .offset) (w .words) (omega arith) inside))
       (λ dead. rw dead)
 
 -- the next step of a counted memory is the store, counted
@@ -38,7 +37,8 @@ module _ (d : Directory) (backup c : ℕ) (m : List ℕ) (steps : ℕ) (area : A
   counted = store (sizeOf d) m c stepsMade steps
 
   next-counted : {w : Write} → steps < 4 * length (openPrices (d .pages) counted c) + 10
-      → w ≡ storeAfter d backup counted c steps → 676 ≤ w .offset → w .offset < sizeOf d
+      → w ≡ storeAfter d backup counted c steps → pagesStart ≤ w .offset
+      → w .offset + length (w .words) ≤ sizeOf d
       → store (sizeOf d) (makeWrite (d .live) (sizeOf d) m w) c stepsMade (steps + 1) ≡ stepMemory d backup counted c
   unfolding stepsOf
   next-counted {w} below is page inside =

@@ -1,6 +1,6 @@
 -- Which steps store a price: those of the tentative half, and after nine others those of the committed half.
 use Rattle.laws.proofs.Prelude.{ℕ, _+_, _-_, _*_, _<_, _≤_, _≡_, refl, decLt, arith, lt-ltb, le-ltb}
-use Rattle.memory.specs.Layout.{tentativeHalf, committedHalf}
+use Rattle.area.specs.Prelude.{tentativeHalf, committedHalf, pageSize}
 use Rattle.release.specs.Stepping.{pricesNext, halfNext, numberNext}
 
 module _ (k steps : ℕ) where
@@ -53,7 +53,7 @@ pub data HalfFrom (k first half : ℕ) : Type 0 where
   tentative : first ≡ 0 → half ≡ tentativeHalf → HalfFrom k first half
   committed : first ≡ 2 * k + 9 → half ≡ committedHalf → HalfFrom k first half
 
-pub half-bounds : {k first half : ℕ} → HalfFrom k first half → (first ≤ 2 * k + 9) × (half ≤ 32)
+pub half-bounds : {k first half : ℕ} → HalfFrom k first half → (first ≤ 2 * k + 9) × (half ≤ pageSize)
 half-bounds (tentative from is) = (omega arith, omega arith)
 half-bounds (committed from is) = (omega arith, omega arith)
 

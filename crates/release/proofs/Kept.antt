@@ -1,10 +1,11 @@
--- What a step of a release leaves as it was: the list and the words 0 to 19 of every card, but for its own steps.
+-- What a step of a release leaves as it was: the list of every card and what stands before its records, but for its
+-- own steps.
 use Rattle.laws.proofs.Prelude.{ℕ, _+_, _*_, _<_, _≤_, _≡_, refl, sym, _∙_, _≢_, inl, List, decLt, arith, length}
 use native.Mathlib.Numerals.{add-one}
-use Rattle.memory.specs.Area.{AreaIn}
 use Rattle.directory.specs.declared.Directory.{Directory}
-use Rattle.protocol.specs.Release.{sizeOf, openRelease, openPrices, stepsOf, close, stepMemory}
-use Rattle.protocol.proofs.release.Shape.{SameOwn, SameRelease}
+use Rattle.area.specs.Prelude.{AreaIn, openRelease, stepsOf}
+use Rattle.area.proofs.Prelude.{SameOwn, SameRelease}
+use Rattle.protocol.specs.Release.{sizeOf, openPrices, close, stepMemory}
 use Rattle.protocol.proofs.release.Step.{StandsIn, length-step, steps-step, step-keeps, step-keeps-other}
 use Rattle.protocol.proofs.release.Close.{length-close, load-close}
 use Rattle.release.proofs.Stores.{length-desk, stands-here, step-closed}
@@ -52,5 +53,5 @@ module _ (d : Directory) (backup : ℕ) (m : List ℕ) (c : ℕ) (few : c < 8) (
             record {
               same-length = length-close (sizeOf d) m c (omega arith);
               low = λ o small. load-close (sizeOf d) m c (omega arith) eight x o (omega arith) (inl other);
-              list = λ o above under. load-close (sizeOf d) m c (omega arith) eight x o (omega arith) (inl other);
+              list = λ o inside. load-close (sizeOf d) m c (omega arith) eight x o (omega arith) (inl other);
             }

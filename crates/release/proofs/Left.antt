@@ -2,13 +2,12 @@
 use Rattle.laws.proofs.Prelude.{ℕ, zero, suc, _+_, _-_, _<_, _≤_, _≡_, refl, sym, ap, _∙_, List, arith, length}
 use Prim.Native.Nat.{min}
 use native.Mathlib.Nat.{sub-zero}
-use Rattle.memory.specs.Layout.{areaSize, listStart, listSize}
-use Rattle.memory.specs.Area.{AreaIn, loadRun}
 use Rattle.directory.specs.declared.Directory.{Directory}
+use Rattle.area.specs.Prelude.{AreaIn, areaSize, openList}
+use Rattle.area.proofs.Prelude.{SameOwn, same-own-release, list-kept, steps-kept}
 use Rattle.diff.specs.Prices.{pricesOf}
-use Rattle.protocol.specs.Release.{sizeOf, openList, stepMemory}
+use Rattle.protocol.specs.Release.{sizeOf, stepMemory}
 use Rattle.protocol.specs.Recovery.{stepTimes}
-use Rattle.protocol.proofs.release.Shape.{SameOwn, same-own-release, list-kept, steps-kept}
 use Rattle.release.specs.Stepping.{GoodRelease, Counted, StepsLeft, leftOf}
 use Rattle.release.proofs.Prices.{read-counts}
 use Rattle.release.proofs.Kept.{steps-more, step-keeps-own, step-length}
@@ -16,7 +15,7 @@ use Rattle.release.proofs.Kept.{steps-more, step-keeps-own, step-length
 -- ---- what stays of a card's own words
 
 pub same-own : (size : ℕ) (m : List ℕ) (c : ℕ) → SameOwn size m m c
-same-own size m c = record { same-length = refl; low = λ o small. refl; list = λ o above under. refl }
+same-own size m c = record { same-length = refl; low = λ o small. refl; list = λ o inside. refl }
 
 pub same-then : {size : ℕ} {m m′ m″ : List ℕ} {c : ℕ} → SameOwn size m m′ c → SameOwn size m′ m″ c
     → SameOwn size m m″ c
@@ -24,7 +23,7 @@ same-then first then =
     record {
       same-length = then .same-length ∙ first .same-length;
       low = λ o small. then .low o small ∙ first .low o small;
-      list = λ o above under. then .list o above under ∙ first .list o above under;
+      list = λ o inside. then .list o inside ∙ first .list o inside;
     }
 
 module _ (pages : ℕ) (m m′ : List ℕ) (c : ℕ) (same : SameOwn (areaSize pages) m m′ c) where
@@ -46,7 +45,7 @@ counted pages m c good = read-counts pages (areaSize pages) m c refl good refl (
 
 -- and so many are listed
 pub listed-counts : (pages size : ℕ) (m : List ℕ) (c : ℕ) → size ≡ areaSize pages → GoodRelease pages m c → {k : ℕ}
-    → k ≡ length (pricesOf pages (loadRun size m c listStart listSize)) → Counted pages m c k
+    → k ≡ length (pricesOf pages (openList size m c)) → Counted pages m c k
 unfolding openList
 listed-counts pages size m c sized good {k} is =
     let all = counted pages m c good in

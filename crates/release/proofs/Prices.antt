@@ -3,10 +3,10 @@ use Rattle.laws.proofs.Prelude.{ℕ, zero, suc, _/_, _%_, _<_, _≤_, _≡_, re
 use Rattle.laws.proofs.Prelude.{false, arith, ltb-true, ltb-false, length, getD, ltb}
 use mathlib.Core.List.{map}
 use lib.ListN.{List·getD-eq-default}
-use lib.Seq.{sets}
-use Rattle.memory.specs.Layout.{areaSize, listStart, listSize}
-use Rattle.memory.specs.Area.{AreaIn, loadRun}
-use Rattle.memory.proofs.Runs.{length-load-run}
+use lib.Seq.{length-sets, sets}
+use Rattle.laws.proofs.Lists.{getD-within}
+use Rattle.area.specs.Prelude.{AreaIn, areaSize, listStart, listSize, pagesStart, pageSize, openList}
+use Rattle.area.proofs.Prelude.{length-load-run}
 use Rattle.diff.specs.declared.Price.{Price}
 use Rattle.diff.specs.declared.Verdict.{Verdict}
 use Rattle.diff.specs.declared.Verdict.the-variants.{Good, Faulty}
@@ -14,18 +14,18 @@ use Rattle.diff.specs.Reading.{start, readDiff}
 use Rattle.diff.specs.Prices.{labelOf, pricesOf}
 use Rattle.diff.proofs.Derivation.{not-good, good-prices}
 use Rattle.diff.proofs.Stored.{good-counts, good-few, prices-on-pages, price-on-page}
+use Rattle.protocol.specs.Release.{openPrices}
+use Rattle.protocol.proofs.release.Writes.{noPrice}
 use Rattle.reader.specs.declared.Found.{Found}
 use Rattle.reader.specs.declared.Found.the-variants.{Priced, Nothing}
 use Rattle.reader.specs.Found.{nthPrice}
 use Rattle.reader.specs.Listed.{priceOf}
 use Rattle.reader.proofs.Listing.{listed-at, few-prices}
-use Rattle.protocol.specs.Release.{openList, openPrices}
-use Rattle.protocol.proofs.release.Writes.{noPrice}
 use Rattle.release.specs.Stepping.{GoodRelease, Counted, Listed, NumberedPrice, listedPrice}
 
 -- what reading the list of a good release finds: as many prices as it says, and they are few
 module _ (pages size : ℕ) (m : List ℕ) (card : ℕ) (sized : size ≡ areaSize pages) (good : GoodRelease pages m card)
-    {verdict : Verdict} (reads : verdict ≡ readDiff pages (loadRun size m card listStart listSize)) where
+    {verdict : Verdict} (reads : verdict ≡ readDiff pages (openList size m card)) where
   reads-good : verdict ≡ Good (good .k) (good .words)
   unfolding openList
   reads-good = (rw sized at reads) ∙ good .reads
@@ -57,14 +57,9 @@ module _ (p : Price) where
   past-last (q ∷ ps) zero is = absurd (let z : _≡_ {A = ℕ} 0 1 = cc in omega arith)
   past-last (q ∷ ps) (suc n) is = past-last ps n is
 
-  any-default : (ps : List Price) (n : ℕ) (q : Price) → n < length ps → getD ps n p ≡ getD ps n q
-  any-default [] n q within = absurd (omega arith)
-  any-default (r ∷ ps) zero q within = refl
-  any-default (r ∷ ps) (suc n) q within = any-default ps n q (omega arith)
-
 -- what a search for price n of the open release finds
 module _ (pages size : ℕ) (m : List ℕ) (card n : ℕ) (sized : size ≡ areaSize pages) {found : Found}
-    (finds : found ≡ nthPrice (pricesOf pages (loadRun size m card listStart listSize)) n) (p : Price) where
+    (finds : found ≡ nthPrice (pricesOf pages (openList size m card)) n) (p : Price) where
   pub found-price : found ≡ Priced p → NumberedPrice pages m card n p
   unfolding openList
   found-price is = numbered p (openPrices pages m card) n (sym (rw sized at finds) ∙ is)
@@ -83,13 +78,13 @@ module _ (pages : ℕ) (m : List ℕ) (card : ℕ) where
   pub record PriceAt (n : ℕ) (p : Price) : Type 0 where
     pub is : p ≡ getD prices n noPrice
     pub on-page : p .page < pages
-    pub in-page : p .word < 32
+    pub in-page : p .word < pageSize
 
   pub price-at : (n : ℕ) (p : Price) → n < length prices → NumberedPrice pages m card n p → PriceAt n p
   price-at n p within numbered =
       let on = price-on-page pages prices n p (prices-on-pages pages (openList (areaSize pages) m card)) within in
       record {
-        is = sym numbered ∙ any-default p prices n noPrice within;
+        is = sym numbered ∙ getD-within prices n p noPrice within;
         on-page = rw numbered at (on .0);
         in-page = rw numbered at (on .1);
       }
@@ -97,7 +92,7 @@ module _ (pages : ℕ) (m : List ℕ) (card : ℕ) where
 -- ---- a table of prices
 
 -- label and price of the same number are a price
-from-label : (p : Price) (label price : ℕ) → p .word < 32 → label ≡ labelOf p → price ≡ priceOf p
+from-label : (p : Price) (label price : ℕ) → p .word < pageSize → label ≡ labelOf p → price ≡ priceOf p
     → p ≡ record { page = label / 32; word = label % 32; price = price }
 from-label p label price in-page of-label of-price =
     let page : label / 32 ≡ p .page = omega arith in
@@ -105,14 +100,13 @@ from-label p label price in-page of-label of-price =
     rw (page, word, of-price)
 
 module _ (pages size : ℕ) (m : List ℕ) (card : ℕ) (sized : size ≡ areaSize pages) (out : List ℕ)
-    (long : length out ≡ 512) {labels prices : List ℕ} (long-labels : length labels ≡ 512)
-    (long-prices : length prices ≡ 512)
-    (of-labels : labels ≡ sets out 0 (map labelOf (pricesOf pages (loadRun size m card listStart listSize))))
-    (of-prices : prices ≡ sets out 0 (map priceOf (pricesOf pages (loadRun size m card listStart listSize)))) where
+    (long : length out ≡ listSize) {labels prices : List ℕ}
+    (of-labels : labels ≡ sets out 0 (map labelOf (pricesOf pages (openList size m card))))
+    (of-prices : prices ≡ sets out 0 (map priceOf (pricesOf pages (openList size m card)))) where
   abbrev ps : List Price
   ps = openPrices pages m card
 
-  listed-price : AreaIn (length m) size card → 676 ≤ size → (n : ℕ) (below : Bool) → ltb n (length ps) ≡ below
+  listed-price : AreaIn (length m) size card → pagesStart ≤ size → (n : ℕ) (below : Bool) → ltb n (length ps) ≡ below
       → NumberedPrice pages m card n (listedPrice labels prices n)
   unfolding openList
   listed-price area big n true test =
@@ -120,18 +114,18 @@ module _ (pages size : ℕ) (m : List ℕ) (card : ℕ) (sized : size ≡ areaSi
       let q = listedPrice labels prices n in
       let run = length-load-run size m card listStart listSize area (omega arith) in
       let most = few-prices pages (openList (areaSize pages) m card) in
-      let few : length ps ≤ 512 = omega (arith, rw sized at run, most) in
+      let few : length ps ≤ listSize = omega (arith, rw sized at run, most) in
       let on = price-on-page pages ps n q (prices-on-pages pages (openList (areaSize pages) m card)) within in
       let label = ap (λ xs. getD xs n 0) (rw sized at of-labels) ∙ listed-at labelOf ps out n q (omega arith) within in
       let price = ap (λ xs. getD xs n 0) (rw sized at of-prices) ∙ listed-at priceOf ps out n q (omega arith) within in
       from-label (getD ps n q) _ _ (on .1) label price
   listed-price area big n false test = List·getD-eq-default ps _ (ltb-false n (length ps) test)
 
-  pub listed : AreaIn (length m) size card → 676 ≤ size → Listed pages m card labels prices
+  pub listed : AreaIn (length m) size card → pagesStart ≤ size → Listed pages m card labels prices
   listed area big =
       record {
-        labels-long = long-labels;
-        prices-long = long-prices;
+        labels-long = rw of-labels (length-sets out 0 (map labelOf (pricesOf pages (openList size m card))) ∙ long);
+        prices-long = rw of-prices (length-sets out 0 (map priceOf (pricesOf pages (openList size m card))) ∙ long);
         is = λ n. listed-price area big n (ltb n (length ps)) refl;
       }
 

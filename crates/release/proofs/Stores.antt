@@ -1,17 +1,16 @@
 -- The store of each step: the store that the code makes is the one that the definition has at this place.
-use Rattle.laws.proofs.Prelude.{ℕ, _+_, _*_, _/_, _%_, _<_, _≤_, _≡_, refl, sym, _∙_, List, Bool, true, false, arith}
-use Rattle.laws.proofs.Prelude.{ltb-true, ltb-false, length, getD, ltb, eqb}
-use native.Mathlib.Nat.{add-zero}
+use Rattle.laws.proofs.Prelude.{ℕ, _+_, _*_, _/_, _%_, _<_, _≤_, _≡_, refl, sym, _∙_, List, [], _∷_, Bool, true, false}
+use Rattle.laws.proofs.Prelude.{arith, ltb-true, ltb-false, length, getD, ltb, eqb}
 use Rattle.laws.proofs.Bools.{by-cond}
-use Rattle.memory.specs.Layout.{areaSize, deskSize, stepsMade, releaseDesk, recordStamp, recordDone, pageStart}
-use Rattle.memory.specs.Layout.{tentativeHalf, committedHalf}
-use Rattle.memory.specs.Area.{AreaIn, load, store}
-use Rattle.memory.proofs.Runs.{getD-load-run, length-load-run}
 use Rattle.directory.specs.declared.Directory.{Directory}
 use Rattle.directory.specs.Directory.{liveAt}
+use Rattle.area.specs.Prelude.{AreaIn, load, store, storeRun, areaSize, deskSize, stepsMade, releaseDesk, recordDone}
+use Rattle.area.specs.Prelude.{pageAt, pagesStart, tentativeHalf, committedHalf, Release, openRelease, stepsOf}
+use Rattle.area.specs.Prelude.{numberWords}
+use Rattle.area.proofs.Prelude.{getD-load-run, length-load-run, store-run-one}
 use Rattle.diff.specs.declared.Price.{Price}
-use Rattle.protocol.specs.Release.{sizeOf, Release, openRelease, openPrices, stepsOf, Write, writeOf, noWrite}
-use Rattle.protocol.specs.Release.{priceWrites, makeWrite, close, stepMemory}
+use Rattle.protocol.specs.Release.{sizeOf, openPrices, Write, writeOf, noWrite, priceWrites, makeWrite, close}
+use Rattle.protocol.specs.Release.{stepMemory}
 use Rattle.protocol.proofs.release.Writes.{noPrice, price-write-at, write-tentative, write-desk, write-stamp}
 use Rattle.protocol.proofs.release.Writes.{write-committed, write-done}
 use Rattle.protocol.proofs.release.Step.{StandsIn, step-writes, step-closes}
@@ -23,22 +22,27 @@ use Rattle.release.proofs.Prices.{PriceAt}
 
 module _ (marks : List Bool) (size : ℕ) (m : List ℕ) (w : Write) where
   pub write-made : liveAt marks (w .card) ≡ true
-      → makeWrite marks size m w ≡ store size m (w .card) (w .offset) (w .value)
+      → makeWrite marks size m w ≡ storeRun size m (w .card) (w .offset) (w .words)
   unfolding makeWrite
   write-made live = rw live
+
+  -- of one word
+  pub word-made : (v : ℕ) → w .words ≡ v ∷ [] → liveAt marks (w .card) ≡ true
+      → makeWrite marks size m w ≡ store size m (w .card) (w .offset) v
+  word-made v one live = write-made live ∙ rw one (store-run-one size m (w .card) (w .offset) v)
 
   pub write-dropped : liveAt marks (w .card) ≡ false → makeWrite marks size m w ≡ m
   unfolding makeWrite
   write-dropped dead = rw dead
 
--- ---- the desk of the open release: 8 words, from word 12 on
+-- ---- the desk of the open release
 
 module _ (size : ℕ) (m : List ℕ) (card : ℕ) where
-  pub length-desk : 676 ≤ size → AreaIn (length m) size card → length (openRelease size m card .desk) ≡ 8
+  pub length-desk : pagesStart ≤ size → AreaIn (length m) size card → length (openRelease size m card .desk) ≡ deskSize
   unfolding openRelease
   length-desk big area = length-load-run size m card releaseDesk deskSize area (omega arith)
 
-  pub desk-word : (j : ℕ) → j < 8 → getD (openRelease size m card .desk) j 0 ≡ load size m card (releaseDesk + j)
+  pub desk-word : (j : ℕ) → j < deskSize → getD (openRelease size m card .desk) j 0 ≡ load size m card (releaseDesk + j)
   unfolding openRelease
   desk-word j within = getD-load-run size m card releaseDesk deskSize j within
 
@@ -53,7 +57,7 @@ module _ (pages : ℕ) (live : List Bool) (primary secondary : List ℕ) where
 
   price-store : (half : ℕ) (ps : List Price) (number : ℕ) {p : Price} {home : ℕ} → number < 2 * length ps
       → p ≡ getD ps (number / 2) noPrice → home ≡ homeAt primary secondary number (p .page)
-      → writeOf home (pageStart (p .page) + (half + p .word)) (p .price)
+      → writeOf home (pageAt (p .page) + (half + p .word)) (p .price ∷ [])
       ≡ getD (priceWrites (homesOf pages live primary secondary) half ps) number noWrite
   price-store half ps number within is at-home =
       rw (at-home, is) (sym (price-write-at (homesOf pages live primary secondary) half ps number within))
@@ -75,15 +79,15 @@ module _ (d : Directory) (backup : ℕ) (m : List ℕ) (card steps : ℕ) (area 
   abbrev stored : Write
   stored = storeAfter d backup m card steps
 
-  eight : length (release .desk) ≡ 8
+  eight : length (release .desk) ≡ deskSize
   eight = length-desk (sizeOf d) m card (omega arith) area
 
-  pub record-store : (at : ℕ) → steps ≡ 2 * length prices + at → at < 9 → recordWrite backup card release at ≡ stored
+  pub record-store : (at : ℕ) → steps ≡ 2 * length prices + at → at ≤ deskSize
+      → recordWrite backup card release at ≡ stored
   record-store at is within =
-      by-cond (λ (w : Write). w ≡ stored) (ltb at 8) _ _
-      (λ below. sym (write-desk d backup card release prices eight steps at is (ltb-true at 8 below)))
-      (λ past.
-      rw add-zero (sym (write-stamp d backup card release prices eight steps (omega (arith, ltb-false at 8 past)))))
+      by-cond (λ (w : Write). w ≡ stored) (ltb at deskSize) _ _
+      (λ below. sym (write-desk d backup card release prices eight steps at is (ltb-true at deskSize below)))
+      (λ past. sym (write-stamp d backup card release prices eight steps (omega (arith, ltb-false at deskSize past))))
 
   -- a price in its half
   half-store : {first half : ℕ} (at : ℕ) → HalfFrom (length prices) first half → steps ≡ first + at
@@ -98,10 +102,9 @@ module _ (d : Directory) (backup : ℕ) (m : List ℕ) (card steps : ℕ) (area 
       (price-write-at d committedHalf prices at within
       ∙ sym (write-committed d backup card release prices eight steps at (omega arith) within))
 
-  pub done-store : steps ≡ 4 * length prices + 9 → writeOf backup (recordStamp card + 1) (release .number) ≡ stored
-  done-store at =
-      let mark : recordStamp card + 1 ≡ recordDone card = omega arith in
-      rw mark (sym (write-done d backup card release prices eight steps at))
+  pub done-store : steps ≡ 4 * length prices + 9
+      → writeOf backup (recordDone card) (numberWords (release .number)) ≡ stored
+  done-store at = sym (write-done d backup card release prices eight steps at)
 
   module _ (made : steps ≡ stepsOf (sizeOf d) m card) where
     -- the store that is due, counted
@@ -119,7 +122,7 @@ module _ (pages : ℕ) (live : List Bool) (primary secondary : List ℕ) where
   -- the store numbered `at` of a half
   abbrev pub storeOf : ℕ → ℕ → Price → Write
   storeOf at half p =
-      writeOf (homeAt primary secondary at (p .page)) (pageStart (p .page) + (half + p .word)) (p .price)
+      writeOf (homeAt primary secondary at (p .page)) (pageAt (p .page) + (half + p .word)) (p .price ∷ [])
 
   pub price-due : (backup : ℕ) (m : List ℕ) (c steps : ℕ) (p : Price) (at : ℕ) {k first half : ℕ}
       → AreaIn (length m) (areaSize pages) c → k ≡ length (openPrices pages m c) → HalfFrom k first half

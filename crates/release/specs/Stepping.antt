@@ -1,16 +1,17 @@
 -- Inner contracts only. What a step relies on: a memory of its stated length, homes that are cards, and a release whose
 -- list reads well. A rack that passed its checks has it.
-use Rattle.laws.specs.Prelude.{ℕ, _*_, _+_, _-_, _/_, _%_, _<_, _≤_, _≡_, List, Bool, cond, length, getD, ltb, eqb}
-use Rattle.memory.specs.Layout.{areaSize, recordStamp, recordDesk, tentativeHalf, committedHalf}
-use Rattle.memory.specs.Area.{AreaIn}
+use Rattle.laws.specs.Prelude.{ℕ, _*_, _+_, _-_, _/_, _%_, _<_, _≤_, _≡_, List, [], _∷_, Bool, cond, length, getD, ltb}
+use Rattle.laws.specs.Prelude.{eqb}
 use Rattle.directory.specs.declared.Directory.{Directory}
 use Rattle.directory.specs.declared.Status.the-variants.{Running}
 use Rattle.directory.specs.Directory.{directoryOf}
+use Rattle.area.specs.Prelude.{AreaIn, areaSize, recordStamp, recordDesk, tentativeHalf, committedHalf, deskSize}
+use Rattle.area.specs.Prelude.{listSize, openRelease, openList, stepsOf, Release, numberWords}
 use Rattle.diff.specs.declared.Price.{Price}
 use Rattle.diff.specs.declared.Verdict.the-variants.{Good}
 use Rattle.diff.specs.Reading.{readDiff}
-use Rattle.protocol.specs.Release.{sizeOf, openRelease, openList, openPrices, stepsOf, stepsIn, Release, Write, writeOf}
-use Rattle.protocol.specs.Release.{noWrite, releaseWrites, makeWrite, stepMemory}
+use Rattle.protocol.specs.Release.{sizeOf, openPrices, stepsIn, Write, writeOf, noWrite, releaseWrites, makeWrite}
+use Rattle.protocol.specs.Release.{stepMemory}
 use Rattle.protocol.specs.Recovery.{stepTimes}
 
 -- a card with a mark, and with an area in a memory of so many words
@@ -37,13 +38,13 @@ pub record GoodRelease (pages : ℕ) (m : List ℕ) (card : ℕ) : Type 0 where
 -- a release of k prices, by its list
 pub record Counted (pages : ℕ) (m : List ℕ) (card k : ℕ) : Type 0 where
   pub prices : k ≡ length (openPrices pages m card)
-  pub few : k < 512
+  pub few : k < listSize
   pub under : stepsOf (areaSize pages) m card ≤ 4 * k + 10
 
 -- one that has so many steps left at least, the close among them
 pub record StepsLeft (pages : ℕ) (m : List ℕ) (card k left : ℕ) : Type 0 where
   pub prices : k ≡ length (openPrices pages m card)
-  pub few : k < 512
+  pub few : k < listSize
   pub counts : stepsOf (areaSize pages) m card + left ≤ 4 * k + 11
 
 -- how many it has left
@@ -75,8 +76,8 @@ afterSteps pages live primary secondary = stepTimes (homesOf pages live primary 
 -- the store of this number among the nine between the prices, in the record at the backup: the desk, then the stamp
 abbrev pub recordWrite : ℕ → ℕ → Release → ℕ → Write
 recordWrite backup card r at =
-    cond (ltb at 8) (writeOf backup (recordDesk card (r .number) + at) (getD (r .desk) at 0))
-    (writeOf backup (recordStamp card + 0) (r .number))
+    cond (ltb at deskSize) (writeOf backup (recordDesk card (r .number) + at) (getD (r .desk) at 0 ∷ []))
+    (writeOf backup (recordStamp card) (numberWords (r .number)))
 
 -- how many of the steps after so many store a price, one after the other, of a release of k prices
 unfoldable pub pricesNext : ℕ → ℕ → ℕ
@@ -101,8 +102,8 @@ listedPrice labels prices n =
 
 -- a table of the prices of the release open on a card
 pub record Listed (pages : ℕ) (m : List ℕ) (card : ℕ) (labels prices : List ℕ) : Type 0 where
-  pub labels-long : length labels ≡ 512
-  pub prices-long : length prices ≡ 512
+  pub labels-long : length labels ≡ listSize
+  pub prices-long : length prices ≡ listSize
   pub is : (n : ℕ) → NumberedPrice pages m card n (listedPrice labels prices n)
 
 -- the home of a page that the store of this number goes to, among those of one half: secondary if even, else primary

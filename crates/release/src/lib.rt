@@ -1,10 +1,10 @@
 // A release on its card: opening it, one step of it, its close. These write the memory of a rack
 // that passed its checks; which calls are refused is decided above.
-ghost use Rattle.laws.specs.Prelude.{_≡_, List, ℕ, _+_, _*_, _<_, _≤_, length, getD};
-ghost use Rattle.memory.specs.Layout.{areaSize, stepsMade, pageStart, recordStamp, recordDesk};
-ghost use Rattle.memory.specs.Area.{AreaIn, store};
-ghost use Rattle.protocol.specs.Release.{releaseOf, openRelease, openPrices, stepsOf, writeOf};
-ghost use Rattle.protocol.specs.Release.{makeWrite, close};
+ghost use Rattle.laws.specs.Prelude.{_≡_, List, [], _∷_, ℕ, _+_, _*_, _<_, _≤_, length, getD};
+ghost use Rattle.area.specs.Prelude.{AreaIn, store, areaSize, stepsMade, pageAt, recordDesk};
+ghost use Rattle.area.specs.Prelude.{numberSize, deskSize, listSize, pageSize, bothHalves};
+ghost use Rattle.area.specs.Prelude.{pagesStart, releaseOf, openRelease, stepsOf, numberWords};
+ghost use Rattle.protocol.specs.Release.{openPrices, writeOf, makeWrite, close};
 ghost use Rattle.protocol.specs.Opening.{openMemory};
 ghost use Rattle.release.specs.Stepping.{CardIn, HomesIn, GoodRelease, Counted, homeAt};
 ghost use Rattle.release.specs.Stepping.{afterStore, afterStep, recordWrite, pricesNext};
@@ -12,6 +12,8 @@ ghost use Rattle.release.specs.Stepping.{halfNext, numberNext, NumberedP
 
 mod steps;
 
+use area::layout;
+use area::numbers;
 use diff::Price;
 use reader::Found;
 pub use steps::make_steps;
@@ -26,30 +28,31 @@ pub fn open_release(
     list: &[u32],
 )
     requires { ⌜ AreaIn (length (now memory)) size card ⌝ }
-    requires { ⌜ (676 ≤ size) × (length (now desk) ≡ 8) × (length (now list) ≤ 512) ⌝ }
+    requires { ⌜ (pagesStart ≤ size) × (length (now desk) ≡ deskSize)
+        × (length (now list) ≤ listSize) ⌝ }
     ensures { λ _. ⌜ now (memory .exit)
         ≡ openMemory size (now (memory .entry)) card (releaseOf number (now (desk .entry)))
         (now (list .entry)) ⌝ }
 {
-    memory::store_word(memory, size, card, memory::OPEN_FLAG, 1);
-    memory::store_word(memory, size, card, memory::STEPS_MADE, 0);
-    memory::store_word(memory, size, card, memory::RELEASE_NUMBER, number);
-    memory::store_run(memory, size, card, memory::RELEASE_DESK, desk);
-    memory::store_run(memory, size, card, memory::LIST_START, list);
+    memory::store_word(memory, size, card, layout::OPEN_FLAG, 1);
+    memory::store_word(memory, size, card, layout::STEPS_MADE, 0);
+    numbers::store_number(memory, size, card, layout::RELEASE_NUMBER, number);
+    memory::store_run(memory, size, card, layout::RELEASE_DESK, desk);
+    memory::store_run(memory, size, card, layout::LIST_START, list);
 }
 
 // Sets the card's own stamp and desk, and clears the release.
 pub fn close_release(memory: &mut [u32], size: usize, card: usize)
-    requires { ⌜ (676 ≤ size) × AreaIn (length (now memory)) size card ⌝ }
+    requires { ⌜ (pagesStart ≤ size) × AreaIn (length (now memory)) size card ⌝ }
     ensures { λ _. ⌜ now (memory .exit) ≡ close size (now (memory .entry)) card ⌝ }
 {
-    let number = memory::load_word(memory, size, card, memory::RELEASE_NUMBER);
-    let mut desk = [0u32; 8];
-    memory::load_run(memory, size, card, memory::RELEASE_DESK, &mut desk);
-    memory::store_word(memory, size, card, memory::OWN_STAMP, number);
-    memory::store_run(memory, size, card, memory::OWN_DESK, &desk);
-    memory::clear_run(memory, size, card, memory::OPEN_FLAG, 11);
-    memory::clear_run(memory, size, card, memory::LIST_START, 512);
+    let number = numbers::load_number(memory, size, card, layout::RELEASE_NUMBER);
+    let mut desk = [0u32; layout::DESK_SIZE];
+    memory::load_run(memory, size, card, layout::RELEASE_DESK, &mut desk);
+    numbers::store_number(memory, size, card, layout::OWN_STAMP, number);
+    memory::store_run(memory, size, card, layout::OWN_DESK, &desk);
+    memory::clear_run(memory, size, card, layout::OPEN_FLAG, layout::RELEASE_SIZE);
+    memory::clear_run(memory, size, card, layout::LIST_START, layout::LIST_SIZE);
 }
 
 // ---- one store, dropped if its card is dead
@@ -64,13 +67,13 @@ fn write_price(
     price: u32,
 )
     requires { ⌜ CardIn (now live) (length (now memory)) size home ⌝ }
-    requires { ⌜ (page + 64 ≤ size) × (word < 64) ⌝ }
+    requires { ⌜ (page < 64) × (pageAt page + bothHalves ≤ size) × (word < bothHalves) ⌝ }
     ensures { λ _. ⌜ now (memory .exit)
         ≡ makeWrite (now (live .entry)) size (now (memory .entry))
-        (writeOf home (page + word) price) ⌝ }
+        (writeOf home (pageAt page + word) (price ∷ [])) ⌝ }
 {
     if live[home] {
-        memory::store_price(memory, size, home, page, word, price);
+        area::pages::store_price(memory, size, home, page, word, price);
     }
 }
 
@@ -78,10 +81,30 @@ fn write_word(memory: &mut [u32], size: usize, live: &[bool], backup: usize, off
     requires { ⌜ CardIn (now live) (length (now memory)) size backup ⌝ }
     requires { ⌜ offset < size ⌝ }
     ensures { λ _. ⌜ now (memory .exit)
-        ≡ makeWrite (now (live .entry)) size (now (memory .entry)) (writeOf backup offset v) ⌝ }
+        ≡ makeWrite (now (live .entry)) size (now (memory .entry))
+        (writeOf backup offset (v ∷ [])) ⌝ }
 {
     if live[backup] {
         memory::store_word(memory, size, backup, offset, v);
+    }
+}
+
+fn write_number(
+    memory: &mut [u32],
+    size: usize,
+    live: &[bool],
+    holder: usize,
+    offset: usize,
+    number: u32,
+)
+    requires { ⌜ CardIn (now live) (length (now memory)) size holder ⌝ }
+    requires { ⌜ offset + numberSize ≤ size ⌝ }
+    ensures { λ _. ⌜ now (memory .exit)
+        ≡ makeWrite (now (live .entry)) size (now (memory .entry))
+        (writeOf holder offset (numberWords number)) ⌝ }
+{
+    if live[holder] {
+        numbers::store_number(memory, size, holder, offset, number);
     }
 }
 
@@ -111,18 +134,17 @@ fn step_price(
     half: usize,
 )
     requires { ⌜ HomesIn (now live) pages (now primary) (now secondary) (length (now memory)) ⌝ }
-    requires { ⌜ (p .page < pages) × (p .word < 32) × (half ≤ 32) ⌝ }
+    requires { ⌜ (p .page < pages) × (p .word < pageSize) × (half ≤ pageSize) ⌝ }
     ensures { λ _. ⌜ now (memory .exit)
         ≡ makeWrite (now (live .entry)) (areaSize pages) (now (memory .entry))
         (writeOf (homeAt (now (primary .entry)) (now (secondary .entry)) at (p .page))
-        (pageStart (p .page) + (half + p .word)) (p .price)) ⌝ }
+        (pageAt (p .page) + (half + p .word)) (p .price ∷ [])) ⌝ }
 {
-    let size = memory::area_size(pages);
+    let size = layout::area_size(pages);
     let page = p.page as usize;
     let home = home_at(primary, secondary, page, at) as usize;
-    let start = memory::PAGES_START + 64 * page;
     let word = half + p.word as usize;
-    write_price(memory, size, live, home, start, word, p.price);
+    write_price(memory, size, live, home, page, word, p.price);
 }
 
 // Word j of the release's desk, in the even desk of its record at the backup if its number is
@@ -130,40 +152,38 @@ fn step_price(
 fn step_desk(memory: &mut [u32], size: usize, live: &[bool], backup: usize, card: usize, j: usize)
     requires { ⌜ CardIn (now live) (length (now memory)) size card ⌝ }
     requires { ⌜ CardIn (now live) (length (now memory)) size backup ⌝ }
-    requires { ⌜ (676 ≤ size) × (j < 8) ⌝ }
+    requires { ⌜ (pagesStart ≤ size) × (j < deskSize) ⌝ }
     ensures { λ _. ⌜ now (memory .exit)
         ≡ makeWrite (now (live .entry)) size (now (memory .entry))
         (writeOf backup
         (recordDesk card (openRelease size (now (memory .entry)) card .number) + j)
-        (getD (openRelease size (now (memory .entry)) card .desk) j 0)) ⌝ }
+        (getD (openRelease size (now (memory .entry)) card .desk) j 0 ∷ [])) ⌝ }
 {
-    let number = memory::load_word(memory, size, card, memory::RELEASE_NUMBER);
-    let word = memory::load_word(memory, size, card, memory::RELEASE_DESK + j);
-    let record = memory::RECORDS_START + memory::RECORD_SIZE * card;
-    let desk = record + 2 + 8 * (number % 2) as usize;
+    let number = numbers::load_number(memory, size, card, layout::RELEASE_NUMBER);
+    let word = memory::load_word(memory, size, card, layout::RELEASE_DESK + j);
+    let desk = layout::record_at(card) + layout::desk_in_record(number);
     write_word(memory, size, live, backup, desk + j, word);
 }
 
-// The release's number in its record at the backup: as the stamp at 0, as the done mark at 1.
-fn step_mark(
+// The release's number at an offset of the backup's area, where its stamp or its done mark stands.
+fn step_number(
     memory: &mut [u32],
     size: usize,
     live: &[bool],
     backup: usize,
     card: usize,
-    mark: usize,
+    offset: usize,
 )
     requires { ⌜ CardIn (now live) (length (now memory)) size card ⌝ }
     requires { ⌜ CardIn (now live) (length (now memory)) size backup ⌝ }
-    requires { ⌜ (676 ≤ size) × (mark < 2) ⌝ }
+    requires { ⌜ (pagesStart ≤ size) × (offset + numberSize ≤ size) ⌝ }
     ensures { λ _. ⌜ now (memory .exit)
         ≡ makeWrite (now (live .entry)) size (now (memory .entry))
-        (writeOf backup (recordStamp card + mark)
-        (openRelease size (now (memory .entry)) card .number)) ⌝ }
+        (writeOf backup offset
+        (numberWords (openRelease size (now (memory .entry)) card .number))) ⌝ }
 {
-    let number = memory::load_word(memory, size, card, memory::RELEASE_NUMBER);
-    let record = memory::RECORDS_START + memory::RECORD_SIZE * card;
-    write_word(memory, size, live, backup, record + mark, number);
+    let number = numbers::load_number(memory, size, card, layout::RELEASE_NUMBER);
+    write_number(memory, size, live, backup, offset, number);
 }
 
 // The store numbered `at` of the nine between the prices: the eight words of the desk, then the
@@ -178,16 +198,16 @@ fn step_record(
 )
     requires { ⌜ CardIn (now live) (length (now memory)) size card ⌝ }
     requires { ⌜ CardIn (now live) (length (now memory)) size backup ⌝ }
-    requires { ⌜ (676 ≤ size) × (at < 9) ⌝ }
+    requires { ⌜ (pagesStart ≤ size) × (at ≤ deskSize) ⌝ }
     ensures { λ _. ⌜ now (memory .exit)
         ≡ makeWrite (now (live .entry)) size (now (memory .entry))
         (recordWrite backup card (openRelease size (now (memory .entry)) card) at) ⌝ }
 {
-    if at < 8 {
+    if at < layout::DESK_SIZE {
         step_desk(memory, size, live, backup, card, at);
         return;
     }
-    step_mark(memory, size, live, backup, card, 0);
+    step_number(memory, size, live, backup, card, layout::record_at(card));
 }
 
 // ---- which steps store a price
@@ -195,7 +215,7 @@ fn step_record(
 // How many of the next steps store a price, one after the other: `steps` are made, of a release of
 // k prices.
 fn prices_next(k: u32, steps: u32) -> u32
-    requires { ⌜ k < 512 ⌝ }
+    requires { ⌜ k < listSize ⌝ }
     ensures { λ r. ⌜ r ≡ pricesNext k steps ⌝ }
 {
     if steps < 2 * k {
@@ -212,15 +232,19 @@ fn prices_next(k: u32, steps: u32) -> u32
 
 // The half of the pages that they go to, by its offset in a page.
 fn half_next(k: u32, steps: u32) -> usize
-    requires { ⌜ k < 512 ⌝ }
+    requires { ⌜ k < listSize ⌝ }
     ensures { λ r. ⌜ r ≡ halfNext k steps ⌝ }
 {
-    if steps < 2 * k { 0 } else { 32 }
+    if steps < 2 * k {
+        layout::TENTATIVE_HALF
+    } else {
+        layout::COMMITTED_HALF
+    }
 }
 
 // The number of the next store among the 2k of this half.
 fn number_next(k: u32, steps: u32) -> u32
-    requires { ⌜ (k < 512) × (0 < pricesNext k steps) ⌝ }
+    requires { ⌜ (k < listSize) × (0 < pricesNext k steps) ⌝ }
     ensures { λ r. ⌜ r ≡ numberNext k steps ⌝ }
 {
     if steps < 2 * k {
@@ -234,11 +258,12 @@ fn number_next(k: u32, steps: u32) -> u32
 // So many more in word 10. A release has fewer than 512 prices, so that its steps stay below
 // 4 × 512 + 10.
 fn count_steps(memory: &mut [u32], size: usize, card: usize, steps: u32, more: u32)
-    requires { ⌜ (676 ≤ size) × AreaIn (length (now memory)) size card × (steps + more ≤ 2058) ⌝ }
+    requires { ⌜ (pagesStart ≤ size) × AreaIn (length (now memory)) size card
+        × (steps + more ≤ 4 * listSize + 10) ⌝ }
     ensures { λ _. ⌜ now (memory .exit)
         ≡ store size (now (memory .entry)) card stepsMade (steps + more) ⌝ }
 {
-    memory::store_word(memory, size, card, memory::STEPS_MADE, steps + more);
+    memory::store_word(memory, size, card, layout::STEPS_MADE, steps + more);
 }
 
 // The store of a step in the record at the backup: the nine between the prices, or the done mark.
@@ -253,19 +278,21 @@ fn step_word(
 )
     requires { ⌜ CardIn (now live) (length (now memory)) (areaSize pages) card ⌝ }
     requires { ⌜ CardIn (now live) (length (now memory)) (areaSize pages) backup ⌝ }
-    requires { ⌜ (pages ≤ 64) × (k ≡ length (openPrices pages (now memory) card)) × (k < 512) ⌝ }
+    requires { ⌜ (pages ≤ 64) × (k ≡ length (openPrices pages (now memory) card))
+        × (k < listSize) ⌝ }
     requires { ⌜ (steps < 4 * k + 10) × (pricesNext k steps ≡ 0) ⌝ }
     ensures { λ _. ⌜ ((primary : List ℕ) (secondary : List ℕ) → now (memory .exit)
         ≡ afterStore pages (now (live .entry)) primary secondary backup (now (memory .entry)) card
         steps) ⌝ }
 {
-    let size = memory::area_size(pages);
+    let size = layout::area_size(pages);
     if steps < 2 * k + 9 {
         let at = (steps - 2 * k) as usize;
         step_record(memory, size, live, backup, card, at);
         return;
     }
-    step_mark(memory, size, live, backup, card, 1);
+    let done = layout::record_at(card) + layout::NUMBER_SIZE;
+    step_number(memory, size, live, backup, card, done);
 }
 
 // A step of a release of k prices that stores none: a store in the record, counted, or the close.
@@ -286,7 +313,7 @@ fn other_step(
         ≡ afterStep pages (now (live .entry)) primary secondary backup (now (memory .entry))
         card) ⌝ }
 {
-    let size = memory::area_size(pages);
+    let size = layout::area_size(pages);
     if steps == 4 * k + 10 {
         close_release(memory, size, card);
         return;
@@ -300,7 +327,7 @@ fn find_price(memory: &[u32], size: usize, pages: u32, card: usize, n: u32) -> P
     requires { ⌜ (size ≡ areaSize pages) × AreaIn (length (now memory)) size card ⌝ }
     ensures { λ r. ⌜ NumberedPrice pages (now (memory .entry)) card n r ⌝ }
 {
-    match reader::nth_stored(memory, size, card, pages, n) {
+    match reader::nth_price(area::releases::open_list(memory, size, card), pages, n) {
         Found::Priced(p) => p,
         Found::Nothing => Price {
             page: 0,
@@ -328,9 +355,9 @@ pub fn step_release(
         ≡ afterStep pages (now (live .entry)) (now (primary .entry)) (now (secondary .entry)) backup
         (now (memory .entry)) card ⌝ }
 {
-    let size = memory::area_size(pages);
+    let size = layout::area_size(pages);
     let k = steps::count_prices(memory, size, pages, card);
-    let steps = memory::load_word(memory, size, card, memory::STEPS_MADE);
+    let steps = area::releases::steps_made(memory, size, card);
     if 0 < prices_next(k, steps) {
         let at = number_next(k, steps);
         let p = find_price(memory, size, pages, card, at / 2);

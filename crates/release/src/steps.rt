@@ -1,11 +1,11 @@
 // Several steps of a release.
 ghost use Rattle.laws.specs.Prelude.{_≡_, ℕ, _+_, _-_, _*_, _<_, _≤_, length};
 ghost use Prim.Native.Nat.{min};
-ghost use Rattle.memory.specs.Layout.{areaSize};
-ghost use Rattle.memory.specs.Area.{AreaIn};
-ghost use Rattle.protocol.specs.Release.{stepsOf, stepsIn};
+ghost use Rattle.area.specs.Prelude.{AreaIn, areaSize, pagesStart, listSize, stepsOf};
+ghost use Rattle.protocol.specs.Release.{stepsIn};
 ghost use Rattle.release.specs.Stepping.{CardIn, HomesIn, GoodRelease, Counted, StepsLeft};
 ghost use Rattle.release.specs.Stepping.{pricesNext, Listed, leftOf, listedPrice, afterSteps};
+use area::layout;
 use diff::Price;
 use diff::Verdict;
 
@@ -15,7 +15,7 @@ pub(crate) fn count_prices(memory: &[u32], size: usize, pages: u32, card: usize)
     requires { ⌜ GoodRelease pages (now memory) card ⌝ }
     ensures { λ r. ⌜ Counted pages (now (memory .entry)) card r ⌝ }
 {
-    match reader::read_stored(memory, size, card, pages) {
+    match reader::read(area::releases::open_list(memory, size, card), pages) {
         Verdict::Good(k, _) => k,
         Verdict::Faulty(_) => 0,
     }
@@ -23,11 +23,11 @@ pub(crate) fn count_prices(memory: &[u32], size: usize, pages: u32, card: usize)
 
 // How many steps a release of k prices has left, the close among them.
 fn steps_left(memory: &[u32], size: usize, card: usize, k: u32) -> u32
-    requires { ⌜ (676 ≤ size) × AreaIn (length (now memory)) size card ⌝ }
-    requires { ⌜ (stepsOf size (now memory) card ≤ 4 * k + 10) × (k < 512) ⌝ }
+    requires { ⌜ (pagesStart ≤ size) × AreaIn (length (now memory)) size card ⌝ }
+    requires { ⌜ (stepsOf size (now memory) card ≤ 4 * k + 10) × (k < listSize) ⌝ }
     ensures { λ r. ⌜ r ≡ stepsIn k - stepsOf size (now (memory .entry)) card ⌝ }
 {
-    let made = memory::load_word(memory, size, card, memory::STEPS_MADE);
+    let made = area::releases::steps_made(memory, size, card);
     4 * k + 11 - made
 }
 
@@ -75,7 +75,7 @@ fn store_prices(
         ≡ afterSteps pages (now (live .entry)) (now (primary .entry)) (now (secondary .entry))
         backup card count (now (memory .entry))) ⌝ }
 {
-    let size = memory::area_size(pages);
+    let size = layout::area_size(pages);
     let half = crate::half_next(k, steps);
     let first = crate::number_next(k, steps);
     let mut made: u32 = 0;
@@ -111,10 +111,10 @@ fn make_listed(
         ≡ afterSteps pages (now (live .entry)) (now (primary .entry)) (now (secondary .entry))
         backup card steps (now (memory .entry)) ⌝ }
 {
-    let size = memory::area_size(pages);
+    let size = layout::area_size(pages);
     let mut left = steps;
     while 0 < left {
-        let made = memory::load_word(memory, size, card, memory::STEPS_MADE);
+        let made = area::releases::steps_made(memory, size, card);
         let run = smaller(left, crate::prices_next(k, made));
         if 0 < run {
             store_prices(
@@ -159,10 +159,11 @@ pub fn make_steps(
         ≡ afterSteps pages (now (live .entry)) (now (primary .entry)) (now (secondary .entry))
         backup card r (now (memory .entry)) ⌝ }
 {
-    let size = memory::area_size(pages);
-    let mut labels = [0u32; 512];
-    let mut prices = [0u32; 512];
-    let k = reader::list_stored(memory, size, card, pages, &mut labels, &mut prices);
+    let size = layout::area_size(pages);
+    let mut labels = [0u32; layout::LIST_SIZE];
+    let mut prices = [0u32; layout::LIST_SIZE];
+    let list = area::releases::open_list(memory, size, card);
+    let k = reader::list_prices(list, pages, &mut labels, &mut prices);
     let steps = smaller(count, steps_left(memory, size, card, k));
     make_listed(
         memory,

@@ -6,15 +6,15 @@ use Rattle.laws.specs.Examples.{AllHold, sameWords, failuresFrom, Claims}
 use Rattle.laws.proofs.Examples.{all-hold}
 use Rattle.answer.specs.declared.Outcome.{Outcome}
 use Rattle.answer.specs.Outcome.{refusedAt, numberUsed}
-use Rattle.memory.specs.Area.{load, store, loadRun, overwrite, storeRun, clearRun, copyRun, zeros}
 use Rattle.directory.specs.declared.Directory.{Directory}
 use Rattle.directory.specs.Directory.{formattedDirectory, emptyDirectory, tableFrom, nextLive}
+use Rattle.area.specs.Prelude.{load, store, loadRun, overwrite, storeRun, clearRun, copyRun, zeros, Release, ownRelease}
+use Rattle.area.specs.Prelude.{openRelease, openList, stepsOf, isOpen, recordedRelease, underWay, settledRecord}
+use Rattle.area.specs.Prelude.{writeRecord, writeOwnRecord, numberWords, numberAt}
 use Rattle.diff.specs.Making.{differencesFrom, encodeFrom, madeDiff, runLength, runHeader, lentPages, makeDiff}
 use Rattle.diff.specs.Prices.{pricesOf, pricesFrom, names}
 use Rattle.diff.specs.Reading.{readFrom, wordStep, checkDiff}
-use Rattle.protocol.specs.Release.{Release, sizeOf, ownRelease, openRelease, openList, stepsOf, isOpen, releaseWrites}
-use Rattle.protocol.specs.Release.{makeWrite, close, stepMemory}
-use Rattle.protocol.specs.Record.{recordedRelease, underWay, settledRecord, writeRecord, writeOwnRecord}
+use Rattle.protocol.specs.Release.{sizeOf, releaseWrites, makeWrite, close, stepMemory}
 use Rattle.protocol.specs.Checks.{firstRefusal, outsideLimits, fewLive, badHome, badPage, badStatus, badRelease}
 use Rattle.protocol.specs.Checks.{badCard, unfitRack, awaitsRecovery}
 use Rattle.protocol.specs.Result.{Result}
@@ -53,16 +53,16 @@ used d m card r list idle low =
 -- ---- the lists, computed at once
 
 all-shown : AllHold (completed ∷ rows)
-unfolding sameWords failuresFrom Claims lowestFrom countBelow inTurn load store loadRun overwrite storeRun clearRun
-    copyRun zeros formattedDirectory emptyDirectory tableFrom nextLive differencesFrom encodeFrom madeDiff runLength
-    runHeader lentPages makeDiff pricesOf pricesFrom names readFrom wordStep checkDiff ownRelease openRelease openList
-    stepsOf isOpen releaseWrites makeWrite close stepMemory recordedRelease underWay settledRecord writeRecord
-    writeOwnRecord firstRefusal outsideLimits fewLive badHome badPage badStatus badRelease badCard unfitRack
-    awaitsRecovery formatting shareWord sharesWith openMemory opening step namesPage inMotion committedPage fetch
-    failure stepTimes runToClose closeReleases restoreHome restorePage restorePages lostHome keptHome newHome
+unfolding sameWords failuresFrom Claims numberWords numberAt lowestFrom countBelow inTurn load store loadRun overwrite
+    storeRun clearRun copyRun zeros formattedDirectory emptyDirectory tableFrom nextLive differencesFrom encodeFrom
+    madeDiff runLength runHeader lentPages makeDiff pricesOf pricesFrom names readFrom wordStep checkDiff ownRelease
+    openRelease openList stepsOf isOpen releaseWrites makeWrite close stepMemory recordedRelease underWay settledRecord
+    writeRecord writeOwnRecord firstRefusal outsideLimits fewLive badHome badPage badStatus badRelease badCard
+    unfitRack awaitsRecovery formatting shareWord sharesWith openMemory opening step namesPage inMotion committedPage
+    fetch failure stepTimes runToClose closeReleases restoreHome restorePage restorePages lostHome keptHome newHome
     copyToNewHome copyToNewHomes moveHome recoveredDirectory writeFailed writeRecords failedRelease restoredMemory
-    recoveredMemory awaitedCard recovery newRack changedPages twoPrices noPrice opened stepped recoveredFrom
-    shownAfter homesAfter
+    recoveredMemory awaitedCard recovery newRack changedPages twoPrices noPrice opened stepped recoveredFrom shownAfter
+    homesAfter
 all-shown =
     all-hold (completed ∷ rows) refl (
       (λ d m card r list idle stamp small. used d m card r list idle (omega arith) ∙ ap (refusedAt numberUsed) stamp),

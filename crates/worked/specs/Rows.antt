@@ -6,13 +6,12 @@ use Rattle.laws.specs.Prelude.{ℕ, zero, suc, _≤_, _<_, _≡_, List, [], _�
 use Rattle.laws.specs.Prelude.{replicate}
 use Rattle.laws.specs.Examples.{Example, computed, claimed}
 use Rattle.answer.specs.Outcome.{inWords, refusedAt, numberUsed}
-use Rattle.memory.specs.Layout.{recordStamp, openFlag}
-use Rattle.memory.specs.Area.{load, loadRun, zeros}
 use Rattle.directory.specs.declared.Directory.{Directory}
 use Rattle.directory.specs.declared.Status.the-variants.{Running}
 use Rattle.directory.specs.Directory.{isLive, tableFrom}
+use Rattle.area.specs.Prelude.{load, loadRun, zeros, recordStamp, openFlag, Release, releaseOf, ownRelease, isOpen}
 use Rattle.diff.specs.Making.{makeDiff, bufferAfter}
-use Rattle.protocol.specs.Release.{Release, releaseOf, sizeOf, ownRelease, isOpen}
+use Rattle.protocol.specs.Release.{sizeOf}
 use Rattle.protocol.specs.Checks.{outsideLimits, unfitRack}
 use Rattle.protocol.specs.Result.{Result}
 use Rattle.protocol.specs.Calls.{formatting, opening, step, fetch, failure, recovery}

@@ -1,7 +1,7 @@
 -- Rests on the call of the rack.
 use mathlib.Core.Path.{_∙_}
 use borrow.Author.Needs.{needs}
-use Rattle.protocol.specs.Release.{releaseOf}
+use Rattle.area.specs.Releases.{releaseOf}
 use Rattle.protocol.specs.Opening.{opening}
 use Rattle.bandsawpink.specs.Words.{directoryIn}
 use Rattle.bandsawpink.proofs.Exported.{answer-exported}

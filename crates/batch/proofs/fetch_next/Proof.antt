@@ -1,9 +1,9 @@
 -- Rests on its test, and on `sets-all-part`: the page's part of the buffer is lent, and all its words are new.
+use borrow.Author.Needs.{needs}
 use Prim.Native.Nat.{_*_}
 use native.Mathlib.Omega.{arith}
-use borrow.Author.Needs.{needs}
 use lib.ListN.{getD}
-use Rattle.memory.specs.Layout.{areaSize, committed}
+use Rattle.area.specs.Layout.{areaSize, pageSize, committed}
 use Rattle.memory.proofs.Index.{area-in}
 use Rattle.memory.proofs.Parts.{length-part, sets-all-part}
 use Rattle.memory.proofs.Runs.{length-load-run}
@@ -14,14 +14,14 @@ use Rattle.batch.proofs.fetch_next.Tie as tie
 returns : tie.Need-returns
 returns c = (rw (c .if1 .taken), rw (c .if1 .taken))
 
-load-run-requires : tie.Need-load-run-requires
-load-run-requires c κs =
+load-committed-requires : tie.Need-load-committed-requires
+load-committed-requires c κs =
     let sized = c .before .before in
     let start = sized .before .before .before .before .before .before .before in
     let a = start .args in
     let pre = start .pre in
-    let long = length-part (a .buffer .now) (32 * a .page) 32 (omega arith) in
-    rw (sized .area-size .ensures) (area-in _ (pre .1 .1 .0) (pre .0 .1), omega arith)
+    let long = length-part (a .buffer .now) (pageSize * a .page) pageSize (omega arith) in
+    rw (sized .area-size .ensures) (area-in _ (pre .1 .1 .0) (pre .0 .1), ((omega arith, omega arith), omega arith))
 
 returns-2 : tie.Need-returns-2
 unfolding committedPage
@@ -33,18 +33,17 @@ returns-2 c =
     let a = start .args in
     let pre = start .pre in
     let still = test .if1 .left in
-    let long = length-part (a .buffer .now) (32 * a .page) 32 (omega arith) in
-    let words = rw (sized .area-size .ensures, long) at (loaded .load-run .ensures) in
+    let words = rw (sized .area-size .ensures) at (loaded .load-committed .ensures) in
     let size = areaSize (a .pages) in
     let area = area-in size (pre .1 .1 .0) (pre .0 .1) in
-    let run = length-load-run size (a .memory .now) (getD (a .primary .now) (a .page) 0) (committed (a .page)) 32 area
+    let run =
+    length-load-run size (a .memory .now) (getD (a .primary .now) (a .page) 0) (committed (a .page)) pageSize area
     (omega arith) in
-    (rw still, rw still (sets-all-part (a .buffer .now) (32 * a .page) 32 _ words run (omega arith)))
+    (rw still, rw still (sets-all-part (a .buffer .now) (pageSize * a .page) pageSize _ words run (omega arith)))
 
 pub fetch-next-spec : {M : Type 1} → statement M
 fetch-next-spec =
     tie.close
     (tie.spec (λ c. search needs) returns (λ c κs. search needs) (λ c. search needs) (λ c. search needs)
     (λ c. search needs) (λ c. search needs) (λ c. search needs) (λ c. search needs) (λ c. search needs)
-    (λ c. search needs) (λ c. search needs) (λ c. search needs) (λ c. search needs) (λ c. search needs)
-    load-run-requires (λ c. search needs) returns-2)
+    (λ c. search needs) (λ c. search needs) load-committed-requires (λ c. search needs) returns-2)

@@ -2,7 +2,6 @@
 use native.Mathlib.Omega.{arith}
 use borrow.Author.Needs.{needs}
 use borrow.Author.Tests.{eq-eqb, ne-eqb, lt-ltb, le-ltb}
-use Rattle.protocol.specs.Release.{openList, stepsOf}
 use Rattle.protocol.specs.Checks.{badCard}
 use Rattle.checks.proofs.bad_card.Statement.{statement}
 use Rattle.checks.proofs.bad_card.Tie as tie
@@ -17,27 +16,30 @@ returns c =
     rw (← opened .before .area-size .ensures, ← opened .load-word .ensures)
     (simp (opened .before .before .if1 .taken, lt-ltb _ _ (c .if2 .taken)))
 
-load-word-requires-2 : tie.Need-load-word-requires-2
-load-word-requires-2 c κs =
+steps-made-requires : tie.Need-steps-made-requires
+steps-made-requires c κs =
     let sized = c .before .before .before in
-    rw (sized .area-size .ensures) (omega arith)
+    rw (sized .area-size .ensures) (omega arith, search needs)
 
-read-stored-requires : tie.Need-read-stored-requires
-read-stored-requires c κs =
+open-list-requires : tie.Need-open-list-requires
+open-list-requires c κs =
     let sized = c .before .before .before .before in
-    rw (sized .area-size .ensures) (omega arith)
+    rw (sized .area-size .ensures) (omega arith, search needs)
 
 returns-2 : tie.Need-returns-2
-unfolding badCard openList stepsOf
+unfolding badCard
 returns-2 c =
-    let test = c .before .before .before in
+    let lent = c .before .before in
+    let stepped = lent .before in
+    let test = stepped .before in
     let test-2 = test .before in
     let opened = test-2 .before in
     rw (
       ← opened .before .area-size .ensures,
       ← opened .load-word .ensures,
-      ← c .before .before .load-word2 .ensures,
-      ← c .before .read-stored .ensures,
+      ← stepped .steps-made .ensures,
+      ← lent .open-list .ensures .0,
+      ← c .before .read .ensures,
     )
     (simp (
       opened .before .before .if1 .taken,
@@ -60,5 +62,5 @@ returns-4 c = rw (c .if1 .left)
 pub bad-card-spec : {M : Type 1} → statement M
 bad-card-spec =
     tie.close
-    (tie.spec (λ c. search needs) (λ c κs. search needs) load-word-requires returns load-word-requires-2
-    read-stored-requires (λ c κs. search needs) returns-2 returns-3 returns-4)
+    (tie.spec (λ c. search needs) (λ c κs. search needs) load-word-requires returns steps-made-requires
+    open-list-requires (λ c κs. search needs) (λ c κs. search needs) returns-2 returns-3 returns-4)

@@ -4,7 +4,7 @@ use mathlib.Core.Path.{sym, _∙_}
 use native.Mathlib.Omega.{arith}
 use borrow.Author.Needs.{needs}
 use Rattle.laws.proofs.Search.{Passed, passed-none, passed-more, some-found, none-found}
-use Rattle.memory.specs.Layout.{areaSize}
+use Rattle.area.specs.Layout.{areaSize}
 use Rattle.memory.proofs.Index.{area-in}
 use Rattle.protocol.specs.Checks.{badCard}
 use Rattle.checks.proofs.bad_cards.Statement.{statement}

@@ -3,9 +3,9 @@ use mathlib.Core.Path.{_∙_}
 use borrow.Author.Tests.{eq-eqb, ne-eqb}
 use borrow.Author.Needs.{needs}
 use Rattle.answer.proofs.RoundTrip.{answer-outcome}
-use Rattle.memory.specs.Layout.{pageSize}
+use Rattle.area.specs.Layout.{pageSize}
 use Rattle.protocol.specs.Fetch.{fetch}
-use Rattle.memory.specs.Area.{zeros}
+use Rattle.memory.specs.Words.{zeros}
 use Rattle.commands.specs.Execute.{fetchWord}
 use Rattle.commands.proofs.fetch_word.Statement.{statement}
 use Rattle.commands.proofs.fetch_word.Tie as tie

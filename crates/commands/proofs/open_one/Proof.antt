@@ -2,7 +2,7 @@
 use mathlib.Core.Path.{_∙_}
 use borrow.Author.Needs.{needs}
 use Rattle.answer.proofs.RoundTrip.{answer-outcome}
-use Rattle.memory.specs.Area.{zeros}
+use Rattle.memory.specs.Words.{zeros}
 use Rattle.commands.specs.Execute.{openOne}
 use Rattle.commands.proofs.open_one.Statement.{statement}
 use Rattle.commands.proofs.open_one.Tie as tie

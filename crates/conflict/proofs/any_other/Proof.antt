@@ -4,7 +4,7 @@ use mathlib.Core.Path.{sym, _∙_}
 use native.Mathlib.Omega.{arith}
 use borrow.Author.Needs.{needs}
 use Rattle.laws.proofs.Search.{Passed, passed-none, passed-more, some-found, none-found}
-use Rattle.memory.specs.Layout.{areaSize}
+use Rattle.area.specs.Layout.{areaSize}
 use Rattle.memory.proofs.Index.{area-in}
 use Rattle.conflict.specs.Others.{isOther}
 use Rattle.conflict.proofs.any_other.Statement.{statement}

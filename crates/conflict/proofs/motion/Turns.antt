@@ -2,16 +2,17 @@
 use Rattle.laws.proofs.Prelude.{ℕ, _+_, _<_, _≤_, _≡_, refl, ap, _∙_, List, [], _∷_, _++_, Bool, true, false, cond}
 use Rattle.laws.proofs.Prelude.{_||_, _&&_, arith, length, ltb, leb, eqb}
 use lib.ListN.{length-append}
-use Rattle.memory.specs.Layout.{areaSize}
+use Rattle.area.specs.Prelude.{areaSize, openList, stepsOf, isOpen}
 use Rattle.diff.specs.declared.Cursor.{Cursor}
 use Rattle.diff.specs.declared.Price.{Price}
 use Rattle.diff.specs.Prices.{pricedWord, pricesOf}
-use Rattle.protocol.specs.Release.{openList, stepsOf, isOpen, countsAt}
+use Rattle.protocol.specs.Release.{countsAt}
 use Rattle.protocol.specs.Fetch.{namesPage, inMotion}
-use Rattle.conflict.specs.Walking.{Walk, pastWord}
+use Rattle.reader.specs.declared.walk.Walk.{Walk}
+use Rattle.reader.specs.Walking.{pastWord, priceDue}
+use Rattle.reader.proofs.Walking.{pricesLeft, counts-word, left-turn, left-end}
 use Rattle.conflict.specs.Marks.{marked}
 use Rattle.conflict.specs.Motion.{pageOf, pageDue, onPage, Tally, tallyOf, markMotion}
-use Rattle.conflict.proofs.Walking.{priceDue, pricesLeft, counts-word, left-turn, left-end}
 
 page-due : (s : Cursor) (w : ℕ) (ps : List Price) (page : ℕ)
     → namesPage (priceDue s w ++ ps) page ≡ (onPage s page || namesPage ps page)

@@ -1,15 +1,15 @@
 -- One turn of the walk over another card's list: what the price that is due finds, and what is left finds the rest.
 use Rattle.laws.proofs.Prelude.{ℕ, _<_, _≤_, _≡_, refl, ap, _∙_, List, [], _∷_, _++_, Bool, true, false, cond, _||_}
 use Rattle.laws.proofs.Prelude.{length, getD, ltb}
-use Rattle.memory.specs.Layout.{areaSize}
+use Rattle.area.specs.Prelude.{areaSize, openList}
 use Rattle.diff.specs.declared.Cursor.{Cursor}
 use Rattle.diff.specs.declared.Price.{Price}
 use Rattle.diff.specs.Prices.{pricedWord, pricesOf}
-use Rattle.protocol.specs.Release.{openList}
-use Rattle.conflict.specs.Walking.{Walk, pastWord}
+use Rattle.reader.specs.declared.walk.Walk.{Walk}
+use Rattle.reader.specs.Walking.{pastWord, priceDue}
+use Rattle.reader.proofs.Walking.{pricesLeft, left-turn, left-end}
 use Rattle.conflict.specs.Others.{isOther}
 use Rattle.conflict.specs.Sharing.{labelDue, anyMarked, hitsDue, marksWith}
-use Rattle.conflict.proofs.Walking.{priceDue, pricesLeft, left-turn, left-end}
 
 any-due : (s : Cursor) (w : ℕ) (ps : List Price) (marks : List Bool)
     → anyMarked (priceDue s w ++ ps) marks ≡ (hitsDue s marks || anyMarked ps marks)

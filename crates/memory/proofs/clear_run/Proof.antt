@@ -2,7 +2,7 @@
 use Prim.Native.Nat.{_*_}
 use native.Mathlib.Omega.{arith}
 use borrow.Author.Needs.{needs}
-use Rattle.memory.specs.Area.{zeros, clearRun}
+use Rattle.memory.specs.Words.{zeros, clearRun}
 use Rattle.memory.proofs.Parts.{sets-part}
 use Rattle.memory.proofs.Runs.{length-zeros, store-run-sets}
 use Rattle.memory.proofs.clear_run.Statement.{statement}

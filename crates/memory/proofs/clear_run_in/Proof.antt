@@ -1,6 +1,6 @@
 -- Rests on `sets-all-part`: the run is lent as a part, and all its words are new.
 use borrow.Author.Needs.{needs}
-use Rattle.memory.specs.Area.{zeros}
+use Rattle.memory.specs.Words.{zeros}
 use Rattle.memory.proofs.Parts.{length-part, sets-all-part}
 use Rattle.memory.proofs.Runs.{length-zeros}
 use Rattle.memory.proofs.clear_run_in.Statement.{statement}

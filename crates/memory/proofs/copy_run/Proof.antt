@@ -1,6 +1,6 @@
 -- Rests on what `load_run` and `store_run` ensure: the words stored are those loaded.
 use borrow.Author.Needs.{needs}
-use Rattle.memory.specs.Area.{copyRun}
+use Rattle.memory.specs.Words.{copyRun}
 use Rattle.memory.proofs.copy_run.Statement.{statement}
 use Rattle.memory.proofs.copy_run.Tie as tie
 

@@ -4,7 +4,7 @@ use mathlib.Core.Path.{_≡_}
 use native.Mathlib.Omega.{arith}
 use lib.ListN.{length}
 use borrow.Author.Needs.{needs}
-use Rattle.memory.specs.Area.{loadRun}
+use Rattle.memory.specs.Words.{loadRun}
 use Rattle.memory.proofs.load_run.Statement.{statement}
 use Rattle.memory.proofs.load_run.Tie as tie
 

@@ -1,7 +1,7 @@
 -- Rests on computing: the index is the definition's.
 use mathlib.Core.Path.{refl}
 use borrow.Author.Needs.{needs}
-use Rattle.memory.specs.Area.{load}
+use Rattle.memory.specs.Words.{load}
 use Rattle.memory.proofs.load_word.Statement.{statement}
 use Rattle.memory.proofs.load_word.Tie as tie
 

@@ -1,7 +1,7 @@
 -- Rests on computing: the index is the definition's.
 use mathlib.Core.Path.{refl}
 use borrow.Author.Needs.{needs}
-use Rattle.memory.specs.Area.{store}
+use Rattle.memory.specs.Words.{store}
 use Rattle.memory.proofs.store_word.Statement.{statement}
 use Rattle.memory.proofs.store_word.Tie as tie
 

@@ -7,7 +7,7 @@ use lib.ListN.{length, drop, replicate, length-set}
 use lib.Seq.{drop-length}
 use borrow.Author.Fill.{fill-more}
 use borrow.Author.Needs.{needs}
-use Rattle.memory.specs.Area.{zeros}
+use Rattle.memory.specs.Words.{zeros}
 use Rattle.memory.proofs.zero_words.Statement.{statement}
 use Rattle.memory.proofs.zero_words.Tie as tie
 

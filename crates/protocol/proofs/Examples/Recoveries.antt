@@ -3,13 +3,13 @@ use Rattle.laws.proofs.Prelude.{refl}
 use Rattle.laws.specs.Search.{lowestFrom, countBelow, inTurn}
 use Rattle.laws.specs.Examples.{AllHold, sameWords, failuresFrom, Claims}
 use Rattle.laws.proofs.Examples.{all-hold}
-use Rattle.memory.specs.Area.{load, store, loadRun, overwrite, storeRun, clearRun, copyRun, zeros}
 use Rattle.directory.specs.Directory.{formattedDirectory, tableFrom, nextLive}
+use Rattle.area.specs.Prelude.{load, store, loadRun, overwrite, storeRun, clearRun, copyRun, zeros, ownRelease}
+use Rattle.area.specs.Prelude.{openRelease, openList, stepsOf, isOpen, recordedRelease, underWay, settledRecord}
+use Rattle.area.specs.Prelude.{writeRecord, writeOwnRecord, numberWords, numberAt}
 use Rattle.diff.specs.Reading.{wordStep, readFrom}
 use Rattle.diff.specs.Prices.{pricesFrom, pricesOf}
-use Rattle.protocol.specs.Release.{ownRelease, openRelease, openList, stepsOf, isOpen, releaseWrites, makeWrite}
-use Rattle.protocol.specs.Release.{close, stepMemory}
-use Rattle.protocol.specs.Record.{recordedRelease, underWay, settledRecord, writeRecord, writeOwnRecord}
+use Rattle.protocol.specs.Release.{releaseWrites, makeWrite, close, stepMemory}
 use Rattle.protocol.specs.Checks.{firstRefusal, outsideLimits, fewLive, badHome, badPage, badStatus, badRelease}
 use Rattle.protocol.specs.Checks.{badCard, unfitRack, awaitsRecovery}
 use Rattle.protocol.specs.Opening.{openMemory}
@@ -22,12 +22,12 @@ use Rattle.protocol.specs.Examples.Recoveries.{rolledForward, rolledBack
 use Rattle.protocol.specs.Examples.Recoveries.{recovered, recoveryExamples}
 
 pub recoveries-hold : AllHold recoveryExamples
-unfolding sameWords failuresFrom Claims lowestFrom countBelow inTurn load store loadRun overwrite storeRun clearRun
-    copyRun zeros formattedDirectory tableFrom nextLive wordStep readFrom pricesFrom pricesOf ownRelease openRelease
-    openList stepsOf isOpen releaseWrites makeWrite close stepMemory recordedRelease underWay settledRecord
-    writeRecord writeOwnRecord firstRefusal outsideLimits fewLive badHome badPage badStatus badRelease badCard
-    unfitRack awaitsRecovery openMemory stepTimes runToClose closeReleases restoreHome restorePage restorePages
+unfolding sameWords failuresFrom Claims numberWords numberAt lowestFrom countBelow inTurn load store loadRun overwrite
+    storeRun clearRun copyRun zeros formattedDirectory tableFrom nextLive wordStep readFrom pricesFrom pricesOf
+    ownRelease openRelease openList stepsOf isOpen releaseWrites makeWrite close stepMemory recordedRelease underWay
+    settledRecord writeRecord writeOwnRecord firstRefusal outsideLimits fewLive badHome badPage badStatus badRelease
+    badCard unfitRack awaitsRecovery openMemory stepTimes runToClose closeReleases restoreHome restorePage restorePages
     lostHome keptHome newHome copyToNewHome copyToNewHomes moveHome recoveredDirectory writeFailed writeRecords
-    failedRelease restoredMemory recoveredMemory awaitedCard recovery smallMemory rolledForward rolledBack
-    deadArea closedWithout1 closedInTurn recovered
+    failedRelease restoredMemory recoveredMemory awaitedCard recovery smallMemory rolledForward rolledBack deadArea
+    closedWithout1 closedInTurn recovered
 recoveries-hold = all-hold recoveryExamples refl tt

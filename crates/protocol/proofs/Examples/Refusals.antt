@@ -3,13 +3,12 @@ use Rattle.laws.proofs.Prelude.{refl}
 use Rattle.laws.specs.Search.{lowestFrom, countBelow, inTurn}
 use Rattle.laws.specs.Examples.{AllHold, sameWords, failuresFrom, Claims}
 use Rattle.laws.proofs.Examples.{all-hold}
-use Rattle.memory.specs.Area.{load, store, loadRun, overwrite, storeRun, clearRun, copyRun, zeros}
 use Rattle.directory.specs.Directory.{formattedDirectory, emptyDirectory, tableFrom, nextLive}
+use Rattle.area.specs.Prelude.{load, store, loadRun, overwrite, storeRun, clearRun, copyRun, zeros, ownRelease}
+use Rattle.area.specs.Prelude.{openRelease, openList, stepsOf, isOpen, recordedRelease, numberWords, numberAt}
 use Rattle.diff.specs.Reading.{wordStep, readFrom, checkDiff}
 use Rattle.diff.specs.Prices.{pricesFrom, pricesOf, names}
-use Rattle.protocol.specs.Release.{ownRelease, openRelease, openList, stepsOf, isOpen, releaseWrites, makeWrite}
-use Rattle.protocol.specs.Release.{close, stepMemory}
-use Rattle.protocol.specs.Record.{recordedRelease}
+use Rattle.protocol.specs.Release.{releaseWrites, makeWrite, close, stepMemory}
 use Rattle.protocol.specs.Checks.{firstRefusal, outsideLimits, fewLive, badHome, badPage, badStatus, badRelease}
 use Rattle.protocol.specs.Checks.{badCard, unfitRack, awaitsRecovery}
 use Rattle.protocol.specs.Calls.{formatting, opening, step, fetch, failure, recovery, join, deskQuestion}
@@ -19,12 +18,10 @@ use Rattle.protocol.specs.Examples.Racks.{smallMemory}
 use Rattle.protocol.specs.Examples.Refusals.{twoOpen, nineClosed, fourCopies, refusalExamples}
 
 pub refusals-hold : AllHold refusalExamples
-unfolding sameWords failuresFrom Claims lowestFrom countBelow inTurn load store loadRun overwrite storeRun clearRun
-    copyRun zeros formattedDirectory emptyDirectory tableFrom nextLive wordStep readFrom checkDiff pricesFrom pricesOf
-    names
-    ownRelease openRelease openList stepsOf isOpen releaseWrites makeWrite close stepMemory recordedRelease
-    firstRefusal outsideLimits fewLive badHome badPage badStatus badRelease badCard unfitRack awaitsRecovery
-    formatting shareWord
-    sharesWith openMemory opening step namesPage inMotion committedPage fetch failure recovery join deskQuestion
-    smallMemory twoOpen nineClosed fourCopies
+unfolding sameWords failuresFrom Claims numberWords numberAt lowestFrom countBelow inTurn load store loadRun overwrite
+    storeRun clearRun copyRun zeros formattedDirectory emptyDirectory tableFrom nextLive wordStep readFrom checkDiff
+    pricesFrom pricesOf names ownRelease openRelease openList stepsOf isOpen releaseWrites makeWrite close stepMemory
+    recordedRelease firstRefusal outsideLimits fewLive badHome badPage badStatus badRelease badCard unfitRack
+    awaitsRecovery formatting shareWord sharesWith openMemory opening step namesPage inMotion committedPage fetch
+    failure recovery join deskQuestion smallMemory twoOpen nineClosed fourCopies
 refusals-hold = all-hold refusalExamples refl tt

@@ -2,8 +2,9 @@
 use Rattle.laws.proofs.Prelude.{ℕ, suc, _≤_, _<_, _≡_, refl, sym, _∙_, subst, _≢_, List, [], cond, arith, ℕ-discrete}
 use Rattle.laws.proofs.Prelude.{lt-ltb, le-ltb, eq-eqb, ne-eqb, length, ltb}
 use mathlib.Core.Path.{fun-ext}
+use Rattle.area.specs.Prelude.{Release, deskSize}
 use Rattle.diff.specs.declared.Price.{Price}
-use Rattle.protocol.specs.Release.{Release, countsAt, stepsIn}
+use Rattle.protocol.specs.Release.{countsAt, stepsIn}
 use Rattle.protocol.specs.Book.{Opened, none, opened, Book, update, listPrices, count, setOpen, stepBook}
 
 -- ---- a value for one card
@@ -44,7 +45,7 @@ pricesIn (opened r list steps) = listPrices list
 -- a release with a desk of eight words
 abbrev pub EightWords : Opened → Type 0
 EightWords none = Unit {0}
-EightWords (opened r list s) = length (r .desk) ≡ 8
+EightWords (opened r list s) = length (r .desk) ≡ deskSize
 
 -- those of its prices that the book has not yet
 unfoldable pub uncounted : Opened → List Price

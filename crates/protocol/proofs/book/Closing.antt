@@ -5,7 +5,8 @@ use Rattle.laws.proofs.Prelude.{arith, ℕ-discrete, decLt, lt-ltb, le-ltb, len
 use mathlib.Core.Path.{fun-ext}
 use native.Mathlib.Nat.{add-zero}
 use Rattle.laws.specs.Search.{inTurn}
-use Rattle.protocol.specs.Release.{Release, countsAt, stepsIn}
+use Rattle.area.specs.Prelude.{Release}
+use Rattle.protocol.specs.Release.{countsAt, stepsIn}
 use Rattle.protocol.specs.Book.{Opened, none, opened, listPrices, Book, count, setOpen, stepBook, countUncounted}
 use Rattle.protocol.specs.Book.{countOpen, clearOpen}
 use Rattle.protocol.proofs.book.Changes.{update-same, update-other, update-update, update-unchanged}

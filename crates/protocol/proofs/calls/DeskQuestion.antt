@@ -2,17 +2,17 @@
 use Rattle.laws.proofs.Prelude.{ℕ, _≡_, refl, ap, List, Bool, true, false, cond, arith, _<_}
 use Rattle.directory.specs.declared.Directory.{Directory}
 use Rattle.directory.specs.Directory.{isLive, nextLiveOf}
-use Rattle.protocol.specs.Release.{Release, sizeOf, ownRelease}
+use Rattle.area.specs.Prelude.{Release, ownRelease, recordedRelease}
+use Rattle.area.proofs.Prelude.{recorded-is}
+use Rattle.protocol.specs.Release.{sizeOf}
 use Rattle.protocol.specs.Book.{none, Book, transition}
 use Rattle.protocol.specs.Calls.{ask-desk}
-use Rattle.protocol.proofs.invariant.Rack.{RunningRack, next-is-live, Rack, LiveOnline}
-use Rattle.protocol.specs.Record.{recordedRelease}
 use Rattle.protocol.specs.DeskQuestion.{deskOf, deskQuestion, deskChecks}
-use Rattle.protocol.proofs.release.Shape.{area-of-live}
-use Rattle.protocol.proofs.records.Reading.{recorded-is}
-use Rattle.protocol.proofs.invariant.Running.{own-is-last}
 use Rattle.protocol.specs.Result.{accepted}
 use Rattle.protocol.specs.Demand3.{offlineAfter, Conforms}
+use Rattle.protocol.proofs.invariant.Rack.{RunningRack, next-is-live, Rack, LiveOnline}
+use Rattle.protocol.proofs.release.Shape.{area-of-live}
+use Rattle.protocol.proofs.invariant.Running.{own-is-last}
 use Rattle.protocol.proofs.checks.ByCall.{desk-passed}
 use Rattle.protocol.proofs.calls.Accepted.{AcceptedCall, accepted-by-checks, running-if-passed}
 

@@ -5,8 +5,8 @@ use Rattle.protocol.specs.Book.{Book, transition}
 use Rattle.protocol.specs.Calls.{fetch-page}
 use Rattle.protocol.specs.Fetch.{fetch, fetchChecks}
 use Rattle.protocol.specs.Demand3.{offlineAfter, Conforms}
-use Rattle.protocol.proofs.checks.ByCall.{fetch-passed}
 use Rattle.protocol.specs.Result.{accepted}
+use Rattle.protocol.proofs.checks.ByCall.{fetch-passed}
 use Rattle.protocol.proofs.invariant.Rack.{Rack, LiveOnline}
 use Rattle.protocol.proofs.calls.Accepted.{AcceptedCall, accepted-by-checks, running-if-passed}
 use Rattle.protocol.proofs.invariant.Shown.{fetched}

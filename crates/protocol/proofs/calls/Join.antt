@@ -3,7 +3,8 @@ use Rattle.laws.proofs.Prelude.{ℕ, _<_, _≡_, refl, sym, _∙_, inl, List, [
 use Rattle.directory.specs.declared.Directory.{Directory}
 use Rattle.directory.specs.Directory.{isLive, markedLive}
 use Rattle.directory.proofs.Changes.{live-of-other}
-use Rattle.protocol.specs.Release.{sizeOf, isOpen}
+use Rattle.area.specs.Prelude.{isOpen}
+use Rattle.protocol.specs.Release.{sizeOf}
 use Rattle.protocol.specs.Result.{accepted}
 use Rattle.protocol.specs.Join.{join, joinChecks}
 use Rattle.protocol.specs.Calls.{join-card}

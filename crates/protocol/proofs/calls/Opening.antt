@@ -5,14 +5,17 @@ use mathlib.Core.List.{append-nil}
 use Rattle.laws.proofs.Bools.{and-rest}
 use Rattle.directory.specs.declared.Directory.{Directory}
 use Rattle.directory.specs.Directory.{isLive, backupOf}
+use Rattle.area.specs.Prelude.{Release, deskSize, listSize}
 use Rattle.diff.specs.declared.Price.{Price}
 use Rattle.diff.specs.Prices.{labelOf, names, pricesOf}
 use Rattle.diff.proofs.Prices.{names-none}
 use Rattle.diff.proofs.OnlyDiff.{allowed-few}
-use Rattle.protocol.specs.Release.{Release, sizeOf}
+use Rattle.protocol.specs.Release.{sizeOf}
 use Rattle.protocol.specs.Opening.{shareWord, sharesWith, openMemory, opening, openingChecks}
 use Rattle.protocol.specs.Book.{Opened, none, opened, listPrices, Book, setOpen, transition}
 use Rattle.protocol.specs.Calls.{open-release}
+use Rattle.protocol.specs.Result.{accepted}
+use Rattle.protocol.specs.Demand3.{offlineAfter, Conforms}
 use Rattle.protocol.proofs.book.Changes.{pricesIn}
 use Rattle.protocol.proofs.invariant.Core.{OpenStands}
 use Rattle.protocol.proofs.release.Opening.{stored-prices}
@@ -20,8 +23,6 @@ use Rattle.protocol.proofs.invariant.Opening.{open-core}
 use Rattle.protocol.proofs.invariant.Rack.{RunningRack, Rack, LiveOnline}
 use Rattle.protocol.proofs.checks.ByCall.{OpeningPassed, opening-passed}
 use Rattle.protocol.proofs.invariant.Running.{stands-open, is-open, none-if-idle, own-is-last, runs-on}
-use Rattle.protocol.specs.Result.{accepted}
-use Rattle.protocol.specs.Demand3.{offlineAfter, Conforms}
 use Rattle.protocol.proofs.calls.Accepted.{AcceptedCall, accepted-by-checks, running-if-passed}
 
 -- lists that share no word
@@ -40,11 +41,11 @@ unshared-names (p ∷ ps) others label apart named =
         rw (ne-eqb (labelOf p) label (λ same. true≢false (sym named ∙ (rw same at other)))) (rest apart)
 
 module _ (d : Directory) (m : List ℕ) (b : Book) (rack : RunningRack d m b) (c : ℕ) (r : Release) (list : List ℕ)
-    (eight : length (r .desk) ≡ 8) (passed : OpeningPassed d m c (r .number) list) where
+    (eight : length (r .desk) ≡ deskSize) (passed : OpeningPassed d m c (r .number) list) where
   idle : b .release c ≡ none
   idle = none-if-idle d m b rack c (passed .idle)
 
-  few : length list ≤ 512
+  few : length list ≤ listSize
   few = allowed-few (d .pages) list (passed .allowed)
 
   list-prices : pricesOf (d .pages) list ≡ listPrices list
@@ -79,7 +80,7 @@ module _ (d : Directory) (m : List ℕ) (b : Book) (rack : RunningRack d m b) (c
 
 module _ (d : Directory) (m : List ℕ) (b : Book) (offline : ℕ → Bool) (rack : Rack d m b)
     (online : LiveOnline d offline) where
-  pub opening-accepted : (c : ℕ) (r : Release) (list : List ℕ) → length (r .desk) ≡ 8
+  pub opening-accepted : (c : ℕ) (r : Release) (list : List ℕ) → length (r .desk) ≡ deskSize
       → accepted (opening d m c r list .outcome) ≡ true
       → AcceptedCall (open-release c r list) offline b (opening d m c r list)
   unfolding opening Conforms transition offlineAfter

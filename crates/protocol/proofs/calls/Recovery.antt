@@ -4,7 +4,7 @@ use Rattle.answer.specs.declared.Outcome.{Outcome}
 use Rattle.answer.specs.Outcome.{given}
 use Rattle.directory.specs.declared.Directory.{Directory}
 use Rattle.directory.specs.Directory.{liveAt}
-use Rattle.protocol.specs.Release.{Release}
+use Rattle.area.specs.Prelude.{Release}
 use Rattle.protocol.specs.Checks.{firstRefusal, awaitsRecovery}
 use Rattle.protocol.specs.Result.{accepted}
 use Rattle.protocol.specs.Recovery.{recovery, recoveryChecks, failedRelease, awaitedCard, recoveredDirectory}

@@ -1,9 +1,8 @@
 -- A refused call leaves memory, directory and buffers as they were: it rests on the order of its checks.
 use Rattle.laws.proofs.Prelude.{ℕ, _≡_, refl, List, [], false, length}
-use Rattle.memory.specs.Layout.{deskSize}
-use Rattle.memory.specs.Area.{zeros}
 use Rattle.answer.specs.Outcome.{refused}
 use Rattle.directory.specs.declared.Directory.{Directory}
+use Rattle.area.specs.Prelude.{zeros, deskSize}
 use Rattle.protocol.specs.Checks.{Check, firstRefusal}
 use Rattle.protocol.specs.Result.{Result, accepted, resultOf}
 use Rattle.protocol.specs.Calls.{opening, openingChecks, step, stepChecks, fetch, fetchChecks, failure}

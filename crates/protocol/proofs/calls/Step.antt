@@ -6,14 +6,14 @@ use Rattle.directory.specs.Directory.{backupOf}
 use Rattle.protocol.specs.Release.{stepMemory, countsAt}
 use Rattle.protocol.specs.Book.{Opened, none, opened, listPrices, Book, count, stepBook, transition}
 use Rattle.protocol.specs.Calls.{make-step}
+use Rattle.protocol.specs.Result.{accepted}
+use Rattle.protocol.specs.Step.{step, stepChecks}
+use Rattle.protocol.specs.Demand3.{offlineAfter, Conforms}
 use Rattle.protocol.proofs.book.Changes.{update-other}
 use Rattle.protocol.proofs.invariant.Step.{step-core}
 use Rattle.protocol.proofs.invariant.Rack.{RunningRack, Rack, LiveOnline}
 use Rattle.protocol.proofs.checks.ByCall.{StepPassed, step-passed}
 use Rattle.protocol.proofs.invariant.Running.{is-open, idle-word, runs-on}
-use Rattle.protocol.specs.Result.{accepted}
-use Rattle.protocol.specs.Step.{step, stepChecks}
-use Rattle.protocol.specs.Demand3.{offlineAfter, Conforms}
 use Rattle.protocol.proofs.calls.Accepted.{AcceptedCall, accepted-by-checks, running-if-passed}
 
 step-last : (b : Book) (c g : ℕ) (R : Opened) → g ≢ c → stepBook b c R .last g ≡ b .last g

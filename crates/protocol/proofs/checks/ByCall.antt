@@ -4,14 +4,14 @@ use Rattle.laws.proofs.Prelude.{leb-false, not-false, length, eqb, leb}
 use Rattle.laws.specs.Search.{countBelow}
 use Rattle.laws.proofs.Bools.{neither}
 use Rattle.laws.proofs.Search.{none-below}
-use Rattle.memory.specs.Layout.{pageSize}
 use Rattle.directory.specs.declared.Directory.{Directory}
 use Rattle.directory.specs.declared.Status.{Status}
 use Rattle.directory.specs.declared.Status.the-variants.{Running, Awaiting}
 use Rattle.directory.specs.Directory.{isLive}
+use Rattle.area.specs.Prelude.{pageSize, ownRelease, isOpen}
 use Rattle.diff.specs.Reading.{checkDiff}
 use Rattle.diff.specs.OnlyDiff.{Allowed}
-use Rattle.protocol.specs.Release.{sizeOf, ownRelease, isOpen}
+use Rattle.protocol.specs.Release.{sizeOf}
 use Rattle.protocol.specs.Checks.{outsideLimits, unfitRack, awaitsRecovery, noLiveCard}
 use Rattle.protocol.specs.Calls.{openingChecks, stepChecks, fetchChecks, failureChecks, joinChecks, deskChecks}
 use Rattle.protocol.specs.Opening.{sharesWith}

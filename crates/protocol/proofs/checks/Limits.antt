@@ -1,7 +1,7 @@
 -- What a rack that passes check 1 keeps to.
 use Rattle.laws.proofs.Prelude.{ℕ, _*_, _≤_, _≡_, false, ltb-false, eqb-true, not-false, ltb, eqb}
 use Rattle.laws.proofs.Bools.{neither}
-use Rattle.memory.specs.Layout.{areaSize}
+use Rattle.area.specs.Prelude.{areaSize}
 use Rattle.protocol.specs.Checks.{outsideLimits}
 
 pub record Within (words cards pages : ℕ) : Type 0 where

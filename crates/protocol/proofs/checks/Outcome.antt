@@ -4,10 +4,10 @@ use Rattle.laws.proofs.Prelude.{ℕ, _≡_, refl, sym, _∙_, List, [], _∷_, 
 use Rattle.laws.proofs.Prelude.{not-true, eqb, eq-eqb}
 use Rattle.laws.proofs.Bools.{and-first, and-second}
 use Rattle.answer.specs.declared.Outcome.{Outcome}
+use Rattle.answer.specs.Outcome.{refusedAt, given, refused}
 use Rattle.directory.specs.declared.Directory.{Directory}
 use Rattle.protocol.specs.Checks.{Check, firstRefusal}
 use Rattle.protocol.specs.Result.{Result, accepted, resultOf}
-use Rattle.answer.specs.Outcome.{refusedAt, given, refused}
 use Rattle.protocol.specs.Demand1.{isAmong}
 
 -- ---- checks that all passed

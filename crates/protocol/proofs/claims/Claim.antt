@@ -2,10 +2,9 @@
 -- no other card's open list names, give the book's price of it, with the prices that the book has not yet.
 use Rattle.laws.proofs.Prelude.{ℕ, _+_, _*_, _<_, _≡_, refl, sym, _∙_, _≢_, List, [], Bool, true, false, arith}
 use Rattle.laws.proofs.Prelude.{ℕ-discrete}
-use Rattle.memory.specs.Layout.{pageStart}
-use Rattle.memory.specs.Area.{load}
 use Rattle.directory.specs.declared.Directory.{Directory}
 use Rattle.directory.specs.Directory.{isLive}
+use Rattle.area.specs.Prelude.{load, pageAt, pageSize}
 use Rattle.diff.specs.declared.Price.{Price}
 use Rattle.diff.specs.Prices.{names, appliedAt}
 use Rattle.diff.proofs.Prices.{names-none, applied-none}
@@ -28,7 +27,7 @@ pub record HomeWord (d : Directory) (h p w : ℕ) : Type 0 where
   pub live : isLive d h ≡ true
   pub home : HomeOf d h p
   pub page : p < d .pages
-  pub word : w < 32
+  pub word : w < pageSize
 
 -- One half of the pages, tentative or committed: where it stands, what a card's release has still to write (the half's
 -- words among it), and the prices that the book has not yet. Neither speaks of a label that the release does not name.
@@ -38,19 +37,19 @@ pub record Half (d : Directory) : Type 0 where
   pub due : Opened → List Price
   pub todo-none : (c : ℕ) → todo c none ≡ []
   pub due-none : due none ≡ []
-  pub todo-unnamed : (c h p w v : ℕ) (R : Opened) → c < 8 → EightWords R → w < 32
+  pub todo-unnamed : (c h p w v : ℕ) (R : Opened) → c < 8 → EightWords R → w < pageSize
       → names (pricesIn R) (32 * p + w) ≡ false
-      → wordAfter (todo c R) h (pageStart p + (half + w)) v ≡ v
+      → wordAfter (todo c R) h (pageAt p + (half + w)) v ≡ v
   pub due-unnamed : (label v : ℕ) (R : Opened) → names (pricesIn R) label ≡ false → appliedAt (due R) label v ≡ v
 
 -- the word, as memory has it
 abbrev pub wordIn : (d : Directory) → Half d → List ℕ → ℕ → ℕ → ℕ → ℕ
-wordIn d H m h p w = load (sizeOf d) m h (pageStart p + (H .half + w))
+wordIn d H m h p w = load (sizeOf d) m h (pageAt p + (H .half + w))
 
 -- the claim on one word by one card
 abbrev pub Agrees : (d : Directory) → Half d → ℕ → Opened → (ℕ → ℕ) → ℕ → ℕ → ℕ → ℕ → Type 0
 Agrees d H c R price h p w v =
-    wordAfter (H .todo c R) h (pageStart p + (H .half + w)) v ≡ appliedAt (H .due R) (32 * p + w) (price (32 * p + w))
+    wordAfter (H .todo c R) h (pageAt p + (H .half + w)) v ≡ appliedAt (H .due R) (32 * p + w) (price (32 * p + w))
 
 pub record Claim (d : Directory) (H : Half d) (release : ℕ → Opened) (price : ℕ → ℕ) (m : List ℕ) : Type 0 where
   pub agrees : (c h p w : ℕ) → c < 8 → HomeWord d h p w → Unshared release c (32 * p + w)
@@ -122,7 +121,7 @@ module _ (d : Directory) (H : Half d) (release : ℕ → Opened) (price price′
 
 module _ (d : Directory) (H : Half d) (release : ℕ → Opened) (price : ℕ → ℕ) (m : List ℕ) (c : ℕ) where
   pub claim-cleared : c < 8 → ((x : ℕ) → EightWords (release x)) → Disjoint release
-      → ((h p w v : ℕ) → w < 32 → wordAfter (H .todo c (release c)) h (pageStart p + (H .half + w)) v ≡ v)
+      → ((h p w v : ℕ) → w < pageSize → wordAfter (H .todo c (release c)) h (pageAt p + (H .half + w)) v ≡ v)
       → H .due (release c) ≡ []
       → Claim d H release price m → Claim d H (update release c none) price m
   claim-cleared card eights apart written-all counted claim =
@@ -148,7 +147,7 @@ module _ (d : Directory) (H : Half d) (release : ℕ → Opened) (price : ℕ �
           → Agrees d H x (update release c none x) price h p w (wordIn d H m h p w)
       at x h p w few word unshared named is (yes same) =
           rw (same, update-same release c none, H .todo-none c, H .due-none)
-          (word-after-none h (pageStart p + (H .half + w)) (wordIn d H m h p w)
+          (word-after-none h (pageAt p + (H .half + w)) (wordIn d H m h p w)
           ∙ settled h p w word (λ y elsewhere. others x y (32 * p + w) unshared (λ e. elsewhere (e ∙ same)) elsewhere)
           ∙ sym (applied-none (32 * p + w) (price (32 * p + w))))
       at x h p w few word unshared true named (no other) =

@@ -1,9 +1,9 @@
 -- Directories with the same homes have the same stores still to make.
 use Rattle.laws.proofs.Prelude.{ℕ, _≡_, refl, List, [], _∷_}
-use Rattle.memory.specs.Layout.{tentativeHalf, committedHalf}
 use Rattle.directory.specs.declared.Directory.{Directory}
+use Rattle.area.specs.Prelude.{tentativeHalf, committedHalf, Release}
 use Rattle.diff.specs.declared.Price.{Price}
-use Rattle.protocol.specs.Release.{Release, priceWrites, releaseWrites}
+use Rattle.protocol.specs.Release.{priceWrites, releaseWrites}
 use Rattle.protocol.specs.Book.{Opened, none, opened, listPrices}
 use Rattle.protocol.proofs.claims.Halves.{pending, pendingCommitted}
 

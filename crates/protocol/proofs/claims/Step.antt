@@ -1,18 +1,19 @@
 -- The claims on both halves survive a step of a release.
 use Rattle.laws.proofs.Prelude.{ℕ, suc, _+_, _*_, _/_, _≤_, _<_, _≡_, refl, sym, ap, _∙_, _≢_, List, false, arith}
 use Rattle.laws.proofs.Prelude.{ℕ-discrete, decLt, length}
-use Rattle.memory.specs.Layout.{pageStart, tentativeHalf, committedHalf}
 use Rattle.directory.specs.declared.Directory.{Directory}
+use Rattle.area.specs.Prelude.{pageAt, tentativeHalf, committedHalf, deskSize, pageSize, Release}
+use Rattle.area.proofs.Prelude.{length-number, NotIn}
 use Rattle.diff.specs.Prices.{names, appliedAt}
 use Rattle.diff.proofs.Prices.{applied-none, applied-unnamed}
 use Rattle.diff.proofs.Stored.{price-on-page}
-use Rattle.protocol.specs.Release.{Release, releaseWrites, countsAt}
+use Rattle.protocol.specs.Release.{releaseWrites, countsAt}
 use Rattle.protocol.specs.Book.{Opened, none, opened, listPrices, update}
 use Rattle.protocol.proofs.release.Writes.{noPrice, length-writes, Phase, phase, to-tentative, to-desk, to-stamp}
 use Rattle.protocol.proofs.release.Writes.{to-committed, to-done, to-close, write-tentative, write-desk}
 use Rattle.protocol.proofs.release.Writes.{write-stamp}
-use Rattle.protocol.proofs.release.WordAfter.{word-after-none, written, written-miss, written-other-offset}
-use Rattle.protocol.proofs.release.WordAfter.{misses-at}
+use Rattle.protocol.proofs.release.WordAfter.{target, word-after-none, written, written-miss}
+use Rattle.protocol.proofs.release.WordAfter.{written-other-offset, misses-at}
 use Rattle.protocol.proofs.release.Step.{stepWrite}
 use Rattle.protocol.proofs.book.Changes.{EightWords, uncounted, uncounted-early, uncounted-late}
 use Rattle.protocol.proofs.claims.Claim.{Disjoint, HomeWord, Half, wordIn, Agrees, Claim, Moves, claim-moves}
@@ -28,7 +29,7 @@ pub record PricesAfter (k s : ℕ) (price price′ : ℕ → ℕ) (applied : ℕ
 
 module _ (d : Directory) (backup : ℕ → ℕ) (release : ℕ → Opened) (price price′ : ℕ → ℕ) (m m′ : List ℕ) (c : ℕ)
     (few : c < 8)
-    (r : Release) (list : List ℕ) (s : ℕ) (is : release c ≡ opened r list s) (eight : length (r .desk) ≡ 8)
+    (r : Release) (list : List ℕ) (s : ℕ) (is : release c ≡ opened r list s) (eight : length (r .desk) ≡ deskSize)
     (before : s < 4 * length (listPrices list) + 10)
     (after : PricesAfter (length (listPrices list)) s price price′
     (λ label. appliedAt (listPrices list) label (price label))) where
@@ -66,12 +67,12 @@ module _ (d : Directory) (backup : ℕ → ℕ) (release : ℕ → Opened) (pric
 
   module _ (H : Half d) (wrote : (h p w : ℕ) → HomeWord d h p w
       → wordIn d H m′ h p w
-      ≡ written (stepWrite d (backup c) c r (listPrices list) s) h (pageStart p + (H .half + w)) (wordIn d H m h p w))
+      ≡ written (stepWrite d (backup c) c r (listPrices list) s) h (pageAt p + (H .half + w)) (wordIn d H m h p w))
     where
       -- what a step's moves need beside its effect on c's own words
       moves : ((h p w : ℕ) → HomeWord d h p w → names (listPrices list) (32 * p + w) ≡ false
           → stepWrite d (backup c) c r (listPrices list) s .card ≡ h
-          → stepWrite d (backup c) c r (listPrices list) s .offset ≢ pageStart p + (H .half + w))
+          → NotIn (target (stepWrite d (backup c) c r (listPrices list) s)) (pageAt p + (H .half + w)))
           → ((h p w : ℕ) → HomeWord d h p w → Agrees d H c (opened r list s) price h p w (wordIn d H m h p w)
           → Agrees d H c (opened r list (suc s)) price′ h p w (wordIn d H m′ h p w))
           → Moves d H release price price′ m m′ c (opened r list (suc s))
@@ -89,7 +90,7 @@ module _ (d : Directory) (backup : ℕ → ℕ) (release : ℕ → Opened) (pric
 
   pub step-tentatives : ((h p w : ℕ) → HomeWord d h p w
       → wordIn d (tentatives d backup) m′ h p w
-      ≡ written (stepWrite d (backup c) c r (listPrices list) s) h (pageStart p + (tentativeHalf + w))
+      ≡ written (stepWrite d (backup c) c r (listPrices list) s) h (pageAt p + (tentativeHalf + w))
       (wordIn d (tentatives d backup) m h p w))
       → Claim d (tentatives d backup) release price m
       → Claim d (tentatives d backup) (update release c (opened r list (suc s))) price′ m′
@@ -103,25 +104,27 @@ module _ (d : Directory) (backup : ℕ → ℕ) (release : ℕ → Opened) (pric
       (sym (pending-first d backup c r list s eight h _ _ before) ∙ agrees ∙ sym (due-kept (32 * p + w)))))
 
   -- before the count no committed word is written
-  early-apart : suc s ≤ countsAt (length (listPrices list)) → (p w : ℕ) → w < 32
-      → stepWrite d (backup c) c r (listPrices list) s .offset ≢ pageStart p + (committedHalf + w)
+  early-apart : suc s ≤ countsAt (length (listPrices list)) → (p w : ℕ) → w < pageSize
+      → NotIn (target (stepWrite d (backup c) c r (listPrices list) s)) (pageAt p + (committedHalf + w))
   early-apart early p w within = go (phase (length (listPrices list)) s (omega arith))
     where
       go : Phase (length (listPrices list)) s
-          → stepWrite d (backup c) c r (listPrices list) s .offset ≢ pageStart p + (committedHalf + w)
+          → NotIn (target (stepWrite d (backup c) c r (listPrices list) s)) (pageAt p + (committedHalf + w))
       go (to-tentative low) =
           let on = price-on-page 64 (listPrices list) (s / 2) noPrice (on-pages list) (omega arith) in
-          rw (write-tentative d (backup c) c r (listPrices list) eight s low) (λ e. omega arith)
+          rw (write-tentative d (backup c) c r (listPrices list) eight s low) (λ here. omega arith)
       go (to-desk j at inside) =
-          rw (write-desk d (backup c) c r (listPrices list) eight s j at inside) (λ e. omega (arith, few))
-      go (to-stamp at) = rw (write-stamp d (backup c) c r (listPrices list) eight s at) (λ e. omega (arith, few))
+          rw (write-desk d (backup c) c r (listPrices list) eight s j at inside) (λ here. omega (arith, few))
+      go (to-stamp at) =
+          let long = length-number (r .number) in
+          rw (write-stamp d (backup c) c r (listPrices list) eight s at) (λ here. omega (arith, few))
       go (to-committed j at inside) = absurd (omega arith)
       go (to-done at) = absurd (omega arith)
       go (to-close at) = absurd (omega arith)
 
   pub step-committeds : ((h p w : ℕ) → HomeWord d h p w
       → wordIn d (committeds d backup) m′ h p w
-      ≡ written (stepWrite d (backup c) c r (listPrices list) s) h (pageStart p + (committedHalf + w))
+      ≡ written (stepWrite d (backup c) c r (listPrices list) s) h (pageAt p + (committedHalf + w))
       (wordIn d (committeds d backup) m h p w))
       → Claim d (committeds d backup) release price m
       → Claim d (committeds d backup) (update release c (opened r list (suc s))) price′ m′
@@ -177,7 +180,7 @@ module _ (d : Directory) (backup : ℕ → ℕ) (release : ℕ → Opened) (pric
 module _ (d : Directory) (backup : ℕ → ℕ) (release : ℕ → Opened) (price : ℕ → ℕ) (m m′ : List ℕ) (c : ℕ) (few : c < 8)
     (eights : (x : ℕ) → EightWords (release x)) (apart : Disjoint release) (r : Release) (list : List ℕ) (s : ℕ)
     (is : release c ≡ opened r list s) (past : 4 * length (listPrices list) + 10 ≤ s) where
-  eight : length (r .desk) ≡ 8
+  eight : length (r .desk) ≡ deskSize
   eight = rw is at (eights c)
 
   same-words : (H : Half d) → ((h p w : ℕ) → HomeWord d h p w → wordIn d H m′ h p w ≡ wordIn d H m h p w)

@@ -1,10 +1,9 @@
 -- No call on a rack that agrees with its book is refused with 2.
 use Rattle.laws.proofs.Prelude.{ℕ, _≡_, refl, sym, _∙_, _≢_, List, [], Bool, true, false, true≢false, arith, eqb-true}
 use Rattle.laws.proofs.Prelude.{length, drop}
-use Rattle.memory.specs.Layout.{deskSize}
-use Rattle.memory.specs.Area.{zeros}
 use Rattle.answer.specs.Outcome.{unfit}
 use Rattle.directory.specs.declared.Directory.{Directory}
+use Rattle.area.specs.Prelude.{zeros, deskSize}
 use Rattle.protocol.specs.Checks.{Check, firstRefusal}
 use Rattle.protocol.specs.Result.{Result, accepted, resultOf}
 use Rattle.protocol.specs.Calls.{opening, openingChecks, step, stepChecks, fetch, fetchChecks, failure}

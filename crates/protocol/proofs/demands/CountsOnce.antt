@@ -3,7 +3,8 @@ use Rattle.laws.proofs.Prelude.{ℕ, zero, suc, _<_, _≡_, refl, _⊎_, inl, i
 use Rattle.laws.proofs.Prelude.{eqb-true, ltb-true, length, eqb, ltb}
 use Rattle.laws.specs.Search.{inTurn}
 use Rattle.directory.specs.declared.Directory.{Directory}
-use Rattle.protocol.specs.Release.{Release, countsAt}
+use Rattle.area.specs.Prelude.{Release}
+use Rattle.protocol.specs.Release.{countsAt}
 use Rattle.protocol.specs.Result.{accepted}
 use Rattle.protocol.specs.Calls.{Call, open-release, make-step, fetch-page, fail-card, recover, join-card}
 use Rattle.protocol.specs.Calls.{ask-desk}

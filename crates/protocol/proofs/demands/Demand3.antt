@@ -1,7 +1,7 @@
 -- The proof of demand 3: the invariant holds of a formatted rack, is found again by each call, and each call keeps it.
 use Rattle.laws.proofs.Prelude.{ℕ, _≡_, refl, inl, List, [], _∷_, Bool, true, false, cond, length}
-use Rattle.directory.specs.declared.Directory.{Directory}
 use Rattle.answer.specs.Outcome.{limits}
+use Rattle.directory.specs.declared.Directory.{Directory}
 use Rattle.protocol.specs.Checks.{Check, check, firstRefusal, outsideLimits}
 use Rattle.protocol.specs.Result.{accepted}
 use Rattle.protocol.specs.Formatting.{formatting}

@@ -3,7 +3,8 @@ use Rattle.laws.proofs.Prelude.{ℕ, _≤_, _≡_, refl, ap, _⊎_, inl, List, 
 use Rattle.answer.specs.declared.Outcome.{Outcome}
 use Rattle.directory.specs.declared.Directory.{Directory}
 use Rattle.directory.specs.Directory.{isLive}
-use Rattle.protocol.specs.Release.{Release, sizeOf, ownRelease}
+use Rattle.area.specs.Prelude.{Release, ownRelease}
+use Rattle.protocol.specs.Release.{sizeOf}
 use Rattle.protocol.specs.Checks.{firstRefusal, awaitsRecovery}
 use Rattle.protocol.specs.Result.{Result}
 use Rattle.protocol.specs.Opening.{opening, openingChecks, openMemory}

@@ -3,17 +3,17 @@
 -- tentative and the committed words are made. `old` is what the records of dead cards say.
 use Rattle.laws.proofs.Prelude.{ℕ, suc, _+_, _*_, _≤_, _<_, _≡_, refl, sym, ap, _∙_, _≢_, List, true, false, true≢false}
 use Rattle.laws.proofs.Prelude.{arith, ℕ-discrete, length}
-use Rattle.memory.specs.Layout.{areaSize, openFlag}
-use Rattle.memory.specs.Area.{AreaIn, load}
 use Rattle.directory.specs.declared.Directory.{Directory}
 use Rattle.directory.specs.Directory.{isLive}
+use Rattle.area.specs.Prelude.{AreaIn, load, areaSize, openFlag, deskSize, recordsStart, Release, ownRelease, openList}
+use Rattle.area.proofs.Prelude.{SameOwn, SameRelease, own-kept, open-kept, list-kept, steps-kept, same-own-release, In}
+use Rattle.area.proofs.Prelude.{recordRegion}
 use Rattle.diff.specs.declared.Verdict.the-variants.{Good}
 use Rattle.diff.specs.Reading.{readDiff}
 use Rattle.diff.specs.Prices.{appliedAt}
-use Rattle.protocol.specs.Release.{Release, sizeOf, ownRelease, openList, stepMemory, countsAt, stepsIn}
+use Rattle.protocol.specs.Release.{sizeOf, stepMemory, countsAt, stepsIn}
 use Rattle.protocol.specs.Book.{Opened, none, opened, listPrices, Book, update}
-use Rattle.protocol.proofs.release.Shape.{Shape, SameOwn, SameRelease, shape-kept, own-kept, open-kept}
-use Rattle.protocol.proofs.release.Shape.{list-kept, area-of-live, steps-kept, same-own-release}
+use Rattle.protocol.proofs.release.Shape.{Shape, shape-kept, area-of-live}
 use Rattle.protocol.proofs.release.WordAfter.{written}
 use Rattle.protocol.proofs.release.Step.{StandsIn, stepWrite, load-step, steps-step, step-keeps}
 use Rattle.protocol.proofs.release.Step.{step-keeps-other, step-keeps-record}
@@ -28,7 +28,7 @@ use Rattle.protocol.proofs.records.Recorded.{step-recorded}
 
 -- a release that stands open in memory as the book has it
 pub record OpenStands (pages : ℕ) (m : List ℕ) (c : ℕ) (r : Release) (list : List ℕ) (s : ℕ) : Type 0 where
-  pub word-9 : load (areaSize pages) m c openFlag ≡ 1
+  pub flagged : load (areaSize pages) m c openFlag ≡ 1
   pub stands : StandsIn pages m c r (listPrices list) s
   pub words : ℕ
   pub reads : readDiff pages (openList (areaSize pages) m c) ≡ Good (length (listPrices list)) words
@@ -49,7 +49,7 @@ pub record Core (d : Directory) (backup : ℕ → ℕ) (old : ℕ → ℕ → �
     pub gone : (c : ℕ) → isLive d c ≡ false → b .release c ≡ none
     pub under : (c : ℕ) → Under (b .release c)
     pub eights : (c : ℕ) → EightWords (b .release c)
-    pub last-eight : (c : ℕ) → length (b .last c .desk) ≡ 8
+    pub last-eight : (c : ℕ) → length (b .last c .desk) ≡ deskSize
     pub disjoint : Disjoint (b .release)
     pub numbers : (c : ℕ) → Numbers (b .release c) (b .last c)
     pub owns : (c : ℕ) → isLive d c ≡ true → Own (b .release c) (ownRelease (sizeOf d) m c) (b .last c)
@@ -58,7 +58,7 @@ pub record Core (d : Directory) (backup : ℕ → ℕ) (old : ℕ → ℕ → �
     -- the record of each live card on its backup, and those of dead cards on every live card
     pub recorded : (c : ℕ) → isLive d c ≡ true → isLive d (backup c) ≡ true
         → Recorded c (b .release c) (b .last c) (load (sizeOf d) m (backup c))
-    pub dead : (g h o : ℕ) → isLive d g ≡ false → g < d .cards → isLive d h ≡ true → 20 + 18 * g ≤ o → o < 38 + 18 * g
+    pub dead : (g h o : ℕ) → isLive d g ≡ false → g < d .cards → isLive d h ≡ true → In (recordRegion g) o
         → load (sizeOf d) m h o ≡ old h o
 
 -- ---- a step before the close
@@ -71,7 +71,7 @@ standing-kept pages m m′ c none same standing = same .low openFlag (omega arit
 standing-kept pages m m′ c (opened r list s) same standing =
     let kept = same-own-release (areaSize pages) m m′ c same in
     record {
-      word-9 = same .low openFlag (omega arith) ∙ standing .word-9;
+      flagged = same .low openFlag (omega arith) ∙ standing .flagged;
       stands = record {
         release = open-kept (areaSize pages) m m′ c kept ∙ standing .stands .release;
         prices = rw (list-kept (areaSize pages) m m′ c kept) (standing .stands .prices);
@@ -98,7 +98,7 @@ module _ (d : Directory) (backup : ℕ → ℕ) (old : ℕ → ℕ → ℕ) (T C
   standing : OpenStands (d .pages) m c r list s
   standing = rw is at (core .standing c live)
 
-  eight : length (r .desk) ≡ 8
+  eight : length (r .desk) ≡ deskSize
   eight = rw is at (core .eights c)
 
   module _ (before : s < 4 * length (listPrices list) + 10) (price : ℕ → ℕ) (last : ℕ → Release)
@@ -113,7 +113,7 @@ module _ (d : Directory) (backup : ℕ → ℕ) (old : ℕ → ℕ → ℕ) (T C
     R′ = opened r list (suc s)
 
     -- a word of a live card beside the own words
-    wrote : (h o : ℕ) → isLive d h ≡ true → o < sizeOf d → 20 ≤ o
+    wrote : (h o : ℕ) → isLive d h ≡ true → o < sizeOf d → recordsStart ≤ o
         → load (sizeOf d) m′ h o ≡ written (stepWrite d (backup c) c r (listPrices list) s) h o (load (sizeOf d) m h o)
     wrote h o up inside above =
         load-step d (backup c) m c area (standing .stands) few before h o up (area-of-live (core .shape) h up) inside
@@ -125,14 +125,14 @@ module _ (d : Directory) (backup : ℕ → ℕ) (old : ℕ → ℕ → ℕ) (T C
     kept-other : (x : ℕ) → x ≢ c → SameOwn (sizeOf d) m m′ x
     kept-other = step-keeps-other d (backup c) m c area (standing .stands) few before
 
-    kept-record : (x h o : ℕ) → x < 8 → x ≢ c → 20 + 18 * x ≤ o → o < 38 + 18 * x
+    kept-record : (x h o : ℕ) → x < 8 → x ≢ c → In (recordRegion x) o
         → load (sizeOf d) m′ h o ≡ load (sizeOf d) m h o
     kept-record = step-keeps-record d (backup c) m c area (standing .stands) few before
 
     own-stands : Standing (d .pages) m′ c R′
     own-stands =
         record {
-          word-9 = kept .low openFlag (omega arith) (omega arith) ∙ standing .word-9;
+          flagged = kept .low openFlag (omega arith) (omega arith) ∙ standing .flagged;
           stands = record {
             release = open-kept (sizeOf d) m m′ c kept ∙ standing .stands .release;
             prices = rw (list-kept (sizeOf d) m m′ c kept) (standing .stands .prices);
@@ -145,7 +145,7 @@ module _ (d : Directory) (backup : ℕ → ℕ) (old : ℕ → ℕ → ℕ) (T C
     same-prices : (x : ℕ) → pricesIn (update (b .release) c R′ x) ≡ pricesIn (b .release x)
     same-prices = update-each (b .release) c R′ (λ x R. pricesIn R ≡ pricesIn (b .release x)) (rw is) (λ x other. refl)
 
-    last-is-eight : (x : ℕ) → length (last x .desk) ≡ 8
+    last-is-eight : (x : ℕ) → length (last x .desk) ≡ deskSize
     last-is-eight x =
         elim (ℕ-discrete x c) [
           | yes same ↦ elim (ℕ-discrete (suc s) (countsAt (length (listPrices list)))) [
@@ -193,16 +193,16 @@ module _ (d : Directory) (backup : ℕ → ℕ) (old : ℕ → ℕ → ℕ) (T C
               (λ _ up. step-recorded r list s (b .last c) (last c) lasts (rw is at (core .numbers c)) d (backup c) c few
               eight before
               (load (sizeOf d) m (backup c)) (load (sizeOf d) m′ (backup c))
-              (λ o above below. wrote (backup c) o up (omega (arith, few)) (omega arith))
+              (λ o in-record. wrote (backup c) o up (omega (arith, few)) (omega arith))
               (rw is at (core .recorded c live up)))
               (λ x other lives up. rw (others x other)
               (recorded-kept x (b .release x) (b .last x) (load (sizeOf d) m (backup x)) (load (sizeOf d) m′ (backup x))
-              (λ o above below. kept-record x (backup x) o (small x lives) other above below)
+              (λ o in-record. kept-record x (backup x) o (small x lives) other in-record)
               (core .recorded x lives up)));
-          dead = λ g h o gone few′ up above below.
+          dead = λ g h o gone few′ up in-record.
               kept-record g h o (omega (arith, core .shape .few-cards))
-              (λ e. true≢false (sym live ∙ ap (isLive d) (sym e) ∙ gone)) above below
-              ∙ core .dead g h o gone few′ up above below;
+              (λ e. true≢false (sym live ∙ ap (isLive d) (sym e) ∙ gone)) in-record
+              ∙ core .dead g h o gone few′ up in-record;
         }
       where
         small : (x : ℕ) → isLive d x ≡ true → x < 8

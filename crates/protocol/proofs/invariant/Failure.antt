@@ -3,12 +3,11 @@ use Rattle.laws.proofs.Prelude.{ℕ, _+_, _*_, _≤_, _<_, _≡_, refl, sym, _�
 use Rattle.laws.proofs.Prelude.{false, false≢true, arith, ℕ-discrete, decLt, length}
 use mathlib.Core.Path.{fun-ext}
 use lib.ListN.{length-set}
-use Rattle.memory.specs.Layout.{recordStamp, recordDone}
-use Rattle.memory.specs.Area.{load}
 use Rattle.directory.specs.declared.Directory.{Directory}
 use Rattle.directory.specs.Directory.{isLive, primaryOf, secondaryOf, nextLiveOf, backupOf}
 use Rattle.directory.proofs.Live.{next-live-kept}
 use Rattle.directory.proofs.Changes.{live-of-marked-dead, live-of-other}
+use Rattle.area.specs.Prelude.{load, recordStamp, recordDone, tentative, committed, deskSize, loadNumber}
 use Rattle.protocol.specs.Release.{sizeOf, countsAt}
 use Rattle.protocol.specs.Failure.{failedDirectory}
 use Rattle.protocol.specs.Recovery.{backupBefore}
@@ -41,10 +40,10 @@ module _ (d : Directory) (f : ℕ) (m : List ℕ) (b : Book) (rack : RunningRack
   recorded = core .recorded f live up
 
   abbrev stamp : ℕ
-  stamp = load (sizeOf d) m (backupOf d f) (recordStamp f)
+  stamp = loadNumber (sizeOf d) m (backupOf d f) (recordStamp f)
 
   abbrev done : ℕ
-  done = load (sizeOf d) m (backupOf d f) (recordDone f)
+  done = loadNumber (sizeOf d) m (backupOf d f) (recordDone f)
 
   -- the second phase was under way: the tentative words are written, and the release counts
   cleared-tentative : stamp ≢ done → Claim d (tentatives d (backupOf d)) (b .release) (b .price) m
@@ -77,7 +76,7 @@ module _ (d : Directory) (f : ℕ) (m : List ℕ) (b : Book) (rack : RunningRack
       nothing none is = rw is (committed-none d (backupOf d) f)
       nothing (opened r list s) is = rw is (by-steps (decLt s (countsAt (length (listPrices list)))))
         where
-          eight : length (r .desk) ≡ 8
+          eight : length (r .desk) ≡ deskSize
           eight = rw is at (core .eights f)
 
           by-steps : Dec (s < countsAt (length (listPrices list)))
@@ -166,7 +165,7 @@ module _ (d : Directory) (f : ℕ) (m : List ℕ) (b : Book) (rack : RunningRack
             let was = live-before c still in
             rw (update-other (b .release) f none c (was .1))
             (core .recorded c (was .0) (live-before (backupOf d c) kept .0));
-        dead = λ g h o gone little still above below. refl;
+        dead = λ g h o gone little still in-record. refl;
       }
 
   pub fails : TwoLive d′ → AwaitingRack d′ f m (failBook b f)

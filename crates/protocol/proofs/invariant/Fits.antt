@@ -4,19 +4,18 @@ use Rattle.laws.proofs.Prelude.{true, false, cond, not, _&&_, _||_, true≢fals
 use Rattle.laws.proofs.Prelude.{ne-eqb, le-ltb, lt-leb, length, ltb, eqb}
 use Rattle.laws.specs.Search.{lowest, someBelow, countBelow}
 use Rattle.laws.proofs.Search.{lowest-stops}
-use Rattle.memory.specs.Layout.{areaSize, openFlag}
-use Rattle.memory.specs.Area.{load}
 use Rattle.directory.specs.declared.Directory.{Directory}
 use Rattle.directory.specs.declared.Status.{Status}
 use Rattle.directory.specs.Directory.{liveAt, isLive, primaryOf, secondaryOf, backupOf, awaitsCard}
+use Rattle.area.specs.Prelude.{load, areaSize, openFlag, openList, stepsOf}
+use Rattle.diff.specs.Reading.{readDiff}
 use Rattle.protocol.specs.Checks.{outsideLimits, fewLive, badHome, badPage, badStatus, badRelease, badCard}
 use Rattle.protocol.specs.Checks.{unfitRack}
-use Rattle.protocol.specs.Release.{sizeOf, openList, stepsOf}
+use Rattle.protocol.specs.Release.{sizeOf}
 use Rattle.protocol.specs.Book.{Opened, none, opened, listPrices, Book}
-use Rattle.diff.specs.Reading.{readDiff}
+use Rattle.protocol.specs.Recovery.{backupBefore}
 use Rattle.protocol.proofs.invariant.Core.{Core, Standing, Under}
 use Rattle.protocol.proofs.invariant.Rack.{RunningRack, AwaitingRack, TwoLive, Arrays, Rack}
-use Rattle.protocol.specs.Recovery.{backupBefore}
 use Rattle.protocol.proofs.checks.ByCall.{Fits}
 
 -- ---- numbers below a bound
@@ -92,7 +91,7 @@ good-card marks pages m c R standing under = go (liveAt marks c) refl R standing
     go true live none standing under = rw (standing live)
     go true live (opened r list s) standing under =
         let stands = standing live in
-        rw (stands .word-9, stands .reads, stands .stands .steps)
+        rw (stands .flagged, stands .reads, stands .stands .steps)
         (le-ltb (4 * length (listPrices list) + 10) s (omega arith))
 
 -- ---- the whole

@@ -1,17 +1,17 @@
 -- A formatted rack runs, and agrees with a new book.
-use Rattle.laws.proofs.Prelude.{ℕ, zero, suc, _%_, _<_, _≡_, refl, sym, _∙_, _≢_, true, false, true≢false, arith, decLt}
-use Rattle.laws.proofs.Prelude.{lt-ltb, ltb-true, ltb}
+use Rattle.laws.proofs.Prelude.{ℕ, _+_, zero, suc, _%_, _<_, _≡_, refl, sym, _∙_, _≢_, true, false, true≢false, arith}
+use Rattle.laws.proofs.Prelude.{decLt, lt-ltb, ltb-true, ltb}
 use native.Mathlib.Nat.{mod-lt}
-use Rattle.memory.specs.Layout.{ownDesk, deskSize}
-use Rattle.memory.specs.Area.{load, zeros}
-use Rattle.memory.proofs.Runs.{length-zeros, getD-zeros, load-zeros, load-run-zeros}
 use Rattle.directory.specs.declared.Directory.{Directory}
 use Rattle.directory.specs.Directory.{nextLive, isLive, primaryOf, secondaryOf, backupOf, formattedMarks}
 use Rattle.directory.specs.Directory.{formattedPrimary, formattedSecondary, formattedDirectory}
 use Rattle.directory.proofs.Live.{next-live-is-live, next-live-other}
 use Rattle.directory.proofs.Table.{table-length, table-read, read-past-end}
+use Rattle.area.specs.Prelude.{load, zeros, ownDesk, deskSize, tentative, committed, ownStamp, recordStamp, recordDone}
+use Rattle.area.specs.Prelude.{ownRelease}
+use Rattle.area.proofs.Prelude.{length-zeros, getD-zeros, load-zeros, load-run-zeros, number-zero}
 use Rattle.diff.proofs.Prices.{names-none}
-use Rattle.protocol.specs.Release.{sizeOf, ownRelease}
+use Rattle.protocol.specs.Release.{sizeOf}
 use Rattle.protocol.specs.Book.{none, newBook}
 use Rattle.protocol.proofs.checks.Limits.{Within}
 use Rattle.protocol.proofs.release.Shape.{Shape, area-of-live}
@@ -89,7 +89,8 @@ module _ (cards pages words : ℕ) (limits : Within words cards pages) where
   unfolding ownRelease
   own c live =
       rw (
-        load-zeros (sizeOf d) words c 0,
+        number-zero (load (sizeOf d) (zeros words) c) ownStamp
+            (λ j within. load-zeros (sizeOf d) words c (ownStamp + j)),
         load-run-zeros (sizeOf d) words c ownDesk deskSize (rw (length-zeros words) at (area-of-live shape c live))
             (omega arith),
       )
@@ -111,15 +112,15 @@ module _ (cards pages words : ℕ) (limits : Within words cards pages) where
         committed = λ _. claim-idle d (committeds d (backupOf d)) (newBook .release) (newBook .price) (zeros words)
             (λ c. refl) (λ h p w word. right h p .committeds w (word .word));
         recorded = λ c live up. settled c (backupOf d c);
-        dead = λ g h o gone less live above below. refl;
+        dead = λ g h o gone less live in-record. refl;
       }
     where
       settled : (c h : ℕ) → Recorded c none (newBook .last c) (load (sizeOf d) (zeros words) h)
       settled c h =
           record {
-            stamped = load-zeros _ words h _;
+            stamped = number-zero _ (recordStamp c) (λ j within. load-zeros _ words h _);
             desked = λ j within. load-zeros _ words h _ ∙ sym (getD-zeros deskSize j);
-            done = load-zeros _ words h _;
+            done = number-zero _ (recordDone c) (λ j within. load-zeros _ words h _);
             parts = tt;
           }
 

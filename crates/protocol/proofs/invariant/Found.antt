@@ -1,10 +1,10 @@
 -- The invariant between two calls: what a call finds is as good as what the last call left, whatever the areas of
 -- cards that are offline hold.
-use Rattle.laws.proofs.Prelude.{ℕ, _+_, _*_, _≤_, _<_, _≡_, refl, _∙_, inl, inr, List, Bool, true, arith}
-use Rattle.memory.specs.Area.{load}
-use Rattle.memory.specs.Layout.{recordStamp, recordDone, recordDesk}
+use Rattle.laws.proofs.Prelude.{ℕ, _≤_, _<_, _≡_, refl, _∙_, inl, inr, List, Bool, true, arith}
 use Rattle.directory.specs.declared.Directory.{Directory}
 use Rattle.directory.specs.Directory.{isLive, nextLiveOf, backupOf}
+use Rattle.area.specs.Prelude.{load, recordStamp, recordDone, tentative, committed}
+use Rattle.area.proofs.Prelude.{number-kept, In, recordRegion, stamp-in, done-in, desk-in}
 use Rattle.protocol.specs.Release.{sizeOf}
 use Rattle.protocol.specs.Recovery.{backupBefore}
 use Rattle.protocol.specs.Book.{none, Book}
@@ -32,14 +32,14 @@ core-now core =
       tentative = core .tentative;
       committed = core .committed;
       recorded = core .recorded;
-      dead = λ g h o gone less live above below. refl;
+      dead = λ g h o gone less live in-record. refl;
     }
 
 module _ (d : Directory) (left found : List ℕ) (b : Book) (agree : SameLive d left found) where
   record-found : d .cards ≤ 8 → (g h : ℕ) → g < d .cards → isLive d h ≡ true
       → Recorded g none (b .last g) (load (sizeOf d) left h) → Recorded g none (b .last g) (load (sizeOf d) found h)
   record-found few g h real live recorded =
-      recorded-kept g none _ _ _ (λ o above below. agree .same h o live (omega arith)) recorded
+      recorded-kept g none _ _ _ (λ o in-record. agree .same h o live (omega arith)) recorded
 
   running-found : RunningRack d left b → RunningRack d found b
   running-found rack =
@@ -69,24 +69,24 @@ module _ (d : Directory) (left found : List ℕ) (b : Book) (agree : SameLive d 
             record-found (rack .core .shape .few-cards) g h real live
             (rack .records g h dead other real live);
         stamped = stamp ∙ rack .stamped;
-        desked = λ j within. word (recordDesk f (b .last f .number) + j) (omega arith) ∙ rack .desked j within;
+        desked = λ j within. word _ (desk-in f (b .last f .number) j within) ∙ rack .desked j within;
         two = rack .two;
         primary-live = rack .primary-live;
         secondary-live = rack .secondary-live;
         homes-differ = rack .homes-differ;
       }
     where
-      word : (o : ℕ) → o < 38 + 18 * f
+      word : (o : ℕ) → In (recordRegion f) o
           → load (sizeOf d) found (nextLiveOf d f) o ≡ load (sizeOf d) left (nextLiveOf d f) o
-      word o below =
+      word o in-record =
           agree .same (nextLiveOf d f) o (next-is-live d (rack .two) (rack .core .shape .below) f)
           (omega (arith, rack .real, rack .core .shape .few-cards))
 
       stamp : stampOf d f found ≡ stampOf d f left
-      stamp = word (recordStamp f) (omega arith)
+      stamp = number-kept _ (recordStamp f) _ (λ j within. word _ (stamp-in f j within))
 
       done : doneOf d f found ≡ doneOf d f left
-      done = word (recordDone f) (omega arith)
+      done = number-kept _ (recordDone f) _ (λ j within. word _ (done-in f j within))
 
   pub rack-found : Rack d left b → Rack d found b
   rack-found (inl rack) = inl (running-found rack)

@@ -1,12 +1,12 @@
 -- The invariant speaks of the words of live cards alone.
-use Rattle.laws.proofs.Prelude.{ℕ, _+_, _*_, _≤_, _<_, _≡_, _∙_, List, true, arith, length}
-use Rattle.memory.specs.Layout.{pageStart}
-use Rattle.memory.specs.Area.{load}
+use Rattle.laws.proofs.Prelude.{ℕ, _+_, _≤_, _<_, _≡_, _∙_, List, true, arith, length}
 use Rattle.directory.specs.declared.Directory.{Directory}
 use Rattle.directory.specs.Directory.{isLive}
+use Rattle.area.specs.Prelude.{load, pageAt, tentative, committed, pageSize}
+use Rattle.area.proofs.Prelude.{SameOwn, own-kept, same-own-release, In, recordRegion}
 use Rattle.protocol.specs.Release.{sizeOf}
 use Rattle.protocol.specs.Book.{Book}
-use Rattle.protocol.proofs.release.Shape.{SameOwn, shape-kept, own-kept, same-own-release}
+use Rattle.protocol.proofs.release.Shape.{shape-kept}
 use Rattle.protocol.proofs.claims.Claim.{HomeWord, claim-kept}
 use Rattle.protocol.proofs.claims.Halves.{tentatives, committeds}
 use Rattle.protocol.proofs.records.Recorded.{recorded-kept}
@@ -24,7 +24,7 @@ same-live-own agree c live =
     record {
       same-length = agree .same-length;
       low = λ o small. agree .same c o live (omega arith);
-      list = λ o above under. agree .same c o live (omega arith);
+      list = λ o inside. agree .same c o live (omega arith);
     }
 
 module _ (d : Directory) (backup : ℕ → ℕ) (old : ℕ → ℕ → ℕ) (T C T′ C′ : Type 0) (m m′ : List ℕ) (b : Book)
@@ -55,16 +55,16 @@ module _ (d : Directory) (backup : ℕ → ℕ) (old : ℕ → ℕ → ℕ) (T C
             (λ c h p w v word agrees. agrees) (λ h p w word. page-word h p w word _ (omega arith))
             (core .committed (second t));
         recorded = λ c live up. recorded-kept c (b .release c) (b .last c) _ _
-            (λ o above below. record-word c o live up above below) (core .recorded c live up);
-        dead = λ g h o gone little up above below.
-            agree .same h o up (omega (arith, core .shape .few-cards)) ∙ core .dead g h o gone little up above below;
+            (λ o in-record. record-word c o live up in-record) (core .recorded c live up);
+        dead = λ g h o gone little up in-record.
+            agree .same h o up (omega (arith, core .shape .few-cards)) ∙ core .dead g h o gone little up in-record;
       }
     where
-      page-word : (h p w : ℕ) → HomeWord d h p w → (half : ℕ) → half ≤ 32
-          → load (sizeOf d) m′ h (pageStart p + (half + w)) ≡ load (sizeOf d) m h (pageStart p + (half + w))
+      page-word : (h p w : ℕ) → HomeWord d h p w → (half : ℕ) → half ≤ pageSize
+          → load (sizeOf d) m′ h (pageAt p + (half + w)) ≡ load (sizeOf d) m h (pageAt p + (half + w))
       page-word h p w word half small = agree .same h _ (word .live) (omega (arith, word .page, word .word))
 
-      record-word : (c o : ℕ) → isLive d c ≡ true → isLive d (backup c) ≡ true → 20 + 18 * c ≤ o → o < 38 + 18 * c
+      record-word : (c o : ℕ) → isLive d c ≡ true → isLive d (backup c) ≡ true → In (recordRegion c) o
           → load (sizeOf d) m′ (backup c) o ≡ load (sizeOf d) m (backup c) o
-      record-word c o live up above below =
+      record-word c o live up in-record =
           agree .same (backup c) o up (omega (arith, core .shape .below c live, core .shape .few-cards))

@@ -1,18 +1,19 @@
 -- The invariant survives an accepted opening.
 use Rattle.laws.proofs.Prelude.{ℕ, suc, _+_, _*_, _≤_, _<_, _≡_, refl, sym, ap, _∙_, _≢_, _⊎_, inl, inr, List, Bool}
 use Rattle.laws.proofs.Prelude.{true, false, true≢false, arith, ℕ-discrete, length}
-use Rattle.memory.specs.Layout.{pageStart, tentativeHalf, committedHalf}
-use Rattle.memory.specs.Area.{AreaIn, load}
 use Rattle.directory.specs.declared.Directory.{Directory}
 use Rattle.directory.specs.Directory.{isLive}
+use Rattle.area.specs.Prelude.{AreaIn, load, pageAt, tentativeHalf, committedHalf, tentative, committed, deskSize}
+use Rattle.area.specs.Prelude.{listSize, pageSize, Release, ownRelease, stepsOf}
+use Rattle.area.proofs.Prelude.{SameOwn, own-kept, own-words-kept, same-own-release, In, NotIn, openRegion}
+use Rattle.area.proofs.Prelude.{recordRegion, listRegion}
 use Rattle.diff.specs.Prices.{names, appliedAt}
 use Rattle.diff.specs.OnlyDiff.{Allowed}
 use Rattle.diff.proofs.Prices.{names-none, applied-none}
-use Rattle.protocol.specs.Release.{Release, sizeOf, ownRelease, stepsOf}
+use Rattle.protocol.specs.Release.{sizeOf}
 use Rattle.protocol.specs.Opening.{openMemory}
 use Rattle.protocol.specs.Book.{Opened, none, opened, listPrices, Book, update, setOpen}
-use Rattle.protocol.proofs.release.Shape.{SameOwn, shape-kept, area-of-live, own-kept, own-words-kept}
-use Rattle.protocol.proofs.release.Shape.{same-own-release}
+use Rattle.protocol.proofs.release.Shape.{shape-kept, area-of-live}
 use Rattle.protocol.proofs.release.WordAfter.{word-after-none}
 use Rattle.protocol.proofs.book.Changes.{pricesIn, EightWords, uncounted-early, uncounted-none, update-same}
 use Rattle.protocol.proofs.book.Changes.{update-other, update-each}
@@ -26,7 +27,8 @@ use Rattle.protocol.proofs.release.Opening.{opened-list, open-word}
 
 module _ (d : Directory) (backup : ℕ → ℕ) (old : ℕ → ℕ → ℕ) (T C : Type 0) (m : List ℕ) (b : Book)
     (core : Core d backup old T C m b) (c : ℕ) (live : isLive d c ≡ true) (idle : b .release c ≡ none) (r : Release)
-    (list : List ℕ) (eight : length (r .desk) ≡ 8) (few : length list ≤ 512) (allowed : Allowed (d .pages) list)
+    (list : List ℕ) (eight : length (r .desk) ≡ deskSize) (few : length list ≤ listSize)
+    (allowed : Allowed (d .pages) list)
     (next : r .number ≡ suc (b .last c .number))
     (free : (x label : ℕ) → x ≢ c → names (listPrices list) label ≡ true
     → names (pricesIn (b .release x)) label ≡ false) where
@@ -42,7 +44,7 @@ module _ (d : Directory) (backup : ℕ → ℕ) (old : ℕ → ℕ → ℕ) (T C
   area : AreaIn (length m) (sizeOf d) c
   area = area-of-live (core .shape) c live
 
-  elsewhere : (h o : ℕ) → o < sizeOf d → (h ≢ c) ⊎ ((o < 9) ⊎ (((20 ≤ o) × (o < 164)) ⊎ (676 ≤ o)))
+  elsewhere : (h o : ℕ) → o < sizeOf d → (h ≢ c) ⊎ (NotIn openRegion o × NotIn listRegion o)
       → load (sizeOf d) m′ h o ≡ load (sizeOf d) m h o
   elsewhere = load-open (sizeOf d) m c r list (omega arith) eight few
 
@@ -54,17 +56,18 @@ module _ (d : Directory) (backup : ℕ → ℕ) (old : ℕ → ℕ → ℕ) (T C
       record {
         same-length = same-size;
         low = λ o low. elsewhere x o (omega arith) (inl other);
-        list = λ o above under. elsewhere x o (omega arith) (inl other);
+        list = λ o inside. elsewhere x o (omega arith) (inl other);
       }
 
-  page-word : (h p w half : ℕ) → HomeWord d h p w → half ≤ 32
-      → load (sizeOf d) m′ h (pageStart p + (half + w)) ≡ load (sizeOf d) m h (pageStart p + (half + w))
-  page-word h p w half word small = elsewhere h _ (omega (arith, word .page, word .word))
-      (inr (inr (inr (omega arith))))
+  page-word : (h p w half : ℕ) → HomeWord d h p w → half ≤ pageSize
+      → load (sizeOf d) m′ h (pageAt p + (half + w)) ≡ load (sizeOf d) m h (pageAt p + (half + w))
+  page-word h p w half word small =
+      elsewhere h _ (omega (arith, word .page, word .word)) (inr ((λ here. omega arith), (λ here. omega arith)))
 
-  record-word : (x h o : ℕ) → x < 8 → 20 + 18 * x ≤ o → o < 38 + 18 * x
+  record-word : (x h o : ℕ) → x < 8 → In (recordRegion x) o
       → load (sizeOf d) m′ h o ≡ load (sizeOf d) m h o
-  record-word x h o small above below = elsewhere h o (omega arith) (inr (inr (inl (omega arith, omega arith))))
+  record-word x h o small in-record =
+      elsewhere h o (omega arith) (inr ((λ here. omega arith), (λ here. omega arith)))
 
   no-steps : stepsOf (sizeOf d) m′ c ≡ 0
   unfolding stepsOf
@@ -75,7 +78,7 @@ module _ (d : Directory) (backup : ℕ → ℕ) (old : ℕ → ℕ → ℕ) (T C
       let stored = opened-list (sizeOf d) m c r list (omega arith) eight few area in
       let pages = core .shape .few-pages in
       record {
-        word-9 = open-word (sizeOf d) m c r list (omega arith) eight few area 0 (omega arith);
+        flagged = open-word (sizeOf d) m c r list (omega arith) eight few area 0 (omega arith);
         stands = record {
           release = opened-release (sizeOf d) m c r list (omega arith) eight few area;
           prices = rw (stored .1) (stored-prices (d .pages) list (stored .0) pages few allowed);
@@ -111,7 +114,8 @@ module _ (d : Directory) (backup : ℕ → ℕ) (old : ℕ → ℕ → ℕ) (T C
           go false by-list = by-list
 
   own-same : ownRelease (sizeOf d) m′ c ≡ ownRelease (sizeOf d) m c
-  own-same = own-words-kept (sizeOf d) m m′ c same-size (λ o small. elsewhere c o (omega arith) (inr (inl small)))
+  own-same = own-words-kept (sizeOf d) m m′ c same-size
+      (λ o own. elsewhere c o (omega arith) (inr ((λ here. omega arith), (λ here. omega arith))))
 
   open-tentative : Claim d (tentatives d backup) (b .release) (b .price) m
       → Claim d (tentatives d backup) (update (b .release) c R′) (b .price) m′
@@ -173,19 +177,19 @@ module _ (d : Directory) (backup : ℕ → ℕ) (old : ℕ → ℕ → ℕ) (T C
             → Recorded x R (b .last x) (load (sizeOf d) m′ (backup x)))
             (λ _ up. opened-recorded (core .recorded c live up))
             (λ x other lives up. recorded-kept x (b .release x) (b .last x) _ _
-            (λ o above below. record-word x (backup x) o
-            (omega (arith, core .shape .below x lives, core .shape .few-cards)) above below)
+            (λ o in-record. record-word x (backup x) o
+            (omega (arith, core .shape .below x lives, core .shape .few-cards)) in-record)
             (core .recorded x lives up));
-        dead = λ g h o gone small up above below.
-            record-word g h o (omega (arith, core .shape .few-cards)) above below
-            ∙ core .dead g h o gone small up above below;
+        dead = λ g h o gone small up in-record.
+            record-word g h o (omega (arith, core .shape .few-cards)) in-record
+            ∙ core .dead g h o gone small up in-record;
       }
     where
       opened-recorded : Recorded c (b .release c) (b .last c) (load (sizeOf d) m (backup c))
           → Recorded c R′ (b .last c) (load (sizeOf d) m′ (backup c))
       opened-recorded recorded =
           let before = rw idle at recorded in
-          recorded-kept c R′ (b .last c) _ _ (λ o above below. record-word c (backup c) o little above below)
+          recorded-kept c R′ (b .last c) _ _ (λ o in-record. record-word c (backup c) o little in-record)
           (record {
             stamped = before .stamped;
             desked = before .desked;

@@ -2,12 +2,11 @@
 use Rattle.laws.proofs.Prelude.{ℕ, _+_, _≤_, _<_, _≡_, sym, _∙_, _≢_, _⊎_, List, Bool, true, false, ℕ-discrete, length}
 use Rattle.laws.proofs.Prelude.{getD, set}
 use lib.Seq.{set-set, set-getD}
-use Rattle.memory.specs.Layout.{recordStamp, recordDone, recordDesk}
-use Rattle.memory.specs.Area.{load}
 use Rattle.directory.specs.declared.Directory.{Directory}
 use Rattle.directory.specs.declared.Status.the-variants.{Running, Awaiting}
 use Rattle.directory.specs.Directory.{isLive, primaryOf, secondaryOf, nextLiveOf, backupOf}
 use Rattle.directory.proofs.Live.{next-live-is-live, next-live-other}
+use Rattle.area.specs.Prelude.{load, recordStamp, recordDone, recordDesk, loadNumber}
 use Rattle.protocol.specs.Release.{sizeOf}
 use Rattle.protocol.specs.Recovery.{backupBefore}
 use Rattle.protocol.specs.Book.{none, Book}
@@ -63,10 +62,10 @@ pub record RunningRack (d : Directory) (m : List ℕ) (b : Book) : Type 0 where
 
 -- stamp and done mark of f's record, at the next live after f
 abbrev pub stampOf : Directory → ℕ → List ℕ → ℕ
-stampOf d f m = load (sizeOf d) m (nextLiveOf d f) (recordStamp f)
+stampOf d f m = loadNumber (sizeOf d) m (nextLiveOf d f) (recordStamp f)
 
 abbrev pub doneOf : Directory → ℕ → List ℕ → ℕ
-doneOf d f m = load (sizeOf d) m (nextLiveOf d f) (recordDone f)
+doneOf d f m = loadNumber (sizeOf d) m (nextLiveOf d f) (recordDone f)
 
 pub record AwaitingRack (d : Directory) (f : ℕ) (m : List ℕ) (b : Book) : Type 0 where
   pub awaiting : d .status ≡ Awaiting f

@@ -1,9 +1,9 @@
 -- What the memory of a running rack says is what the book says; a change that keeps it so.
 use Rattle.laws.proofs.Prelude.{ℕ, _≡_, refl, sym, _∙_, subst, List, Bool, true, false, true≢false}
-use Rattle.memory.specs.Area.{load}
 use Rattle.directory.specs.declared.Directory.{Directory}
 use Rattle.directory.specs.Directory.{isLive, backupOf}
-use Rattle.protocol.specs.Release.{Release, sizeOf, ownRelease, isOpen}
+use Rattle.area.specs.Prelude.{load, Release, ownRelease, isOpen}
+use Rattle.protocol.specs.Release.{sizeOf}
 use Rattle.protocol.specs.Book.{Opened, none, opened, Book}
 use Rattle.protocol.proofs.records.Recorded.{Own, recorded-kept}
 use Rattle.protocol.proofs.invariant.Core.{Core, OpenStands, Standing}
@@ -27,7 +27,7 @@ module _ (d : Directory) (m : List ℕ) (b : Book) (rack : RunningRack d m b) wh
   pub is-open : (c : ℕ) (r : Release) (list : List ℕ) (s : ℕ) → b .release c ≡ opened r list s
       → isOpen (d .live) (sizeOf d) m c ≡ true
   unfolding isOpen
-  is-open c r list s is = let stands = stands-open c r list s is in rw (stands .0, stands .1 .word-9)
+  is-open c r list s is = let stands = stands-open c r list s is in rw (stands .0, stands .1 .flagged)
 
   pub none-if-idle : (c : ℕ) → isOpen (d .live) (sizeOf d) m c ≡ false → b .release c ≡ none
   none-if-idle c idle = go (b .release c) refl
@@ -56,7 +56,7 @@ module _ (d : Directory) (m : List ℕ) (b : Book) (rack : RunningRack d m b) wh
         core = core-now core;
         records = λ g h dead real live.
             rw (lasts g dead)
-            (recorded-kept g none _ _ _ (λ o above below. core .dead g h o dead real live above below)
+            (recorded-kept g none _ _ _ (λ o in-record. core .dead g h o dead real live in-record)
             (rack .records g h dead real live));
         two = rack .two;
         primary-live = rack .primary-live;

@@ -1,30 +1,28 @@
 -- The page that a fetch copies is the book's, where no open release that counts already prices a word of it.
 use Rattle.laws.proofs.Prelude.{ℕ, _≤_, _≡_, refl, sym, _∙_, List, [], _∷_, Bool, true, false, cond, true≢false, arith}
 use Rattle.laws.proofs.Prelude.{length, eqb, _+_, _*_, _<_, inr, false≢true, decLt, eq-eqb, eqb-true, le-leb, getD, leb}
-use Rattle.memory.specs.Area.{load}
+use Rattle.laws.proofs.Bools.{and-both}
 use Rattle.directory.specs.declared.Directory.{Directory}
 use Rattle.directory.specs.Directory.{isLive, backupOf, primaryOf}
+use Rattle.directory.proofs.Table.{table-length, table-read}
+use Rattle.area.specs.Prelude.{load, openList, stepsOf, pageAt, committedHalf, committed, pageSize}
+use Rattle.area.proofs.Prelude.{load-run-is}
 use Rattle.diff.specs.declared.Price.{Price}
 use Rattle.diff.specs.Prices.{labelOf, names}
-use Rattle.protocol.specs.Release.{sizeOf, countsAt, openList, openPrices, stepsOf}
-use Rattle.protocol.specs.Book.{none, listPrices, Book}
-use Rattle.protocol.proofs.invariant.Core.{OpenStands}
-use Rattle.protocol.proofs.invariant.Rack.{RunningRack}
-use native.Mathlib.Nat.{add-assoc}
-use Rattle.laws.proofs.Bools.{and-both}
-use Rattle.memory.specs.Layout.{committed, pageSize}
-use Rattle.memory.proofs.Runs.{load-run-is}
-use Rattle.directory.proofs.Table.{table-length, table-read}
 use Rattle.diff.proofs.Stored.{OnPages, prices-on-pages}
+use Rattle.protocol.specs.Release.{sizeOf, countsAt, openPrices}
+use Rattle.protocol.specs.Book.{none, listPrices, Book}
 use Rattle.protocol.specs.Fetch.{namesPage, inMotion, committedPage}
 use Rattle.protocol.specs.Demand3.{pageIn}
+use Rattle.protocol.proofs.invariant.Core.{OpenStands}
+use Rattle.protocol.proofs.invariant.Rack.{RunningRack}
 use Rattle.protocol.proofs.release.Shape.{area-of-live}
 use Rattle.protocol.proofs.invariant.ShownPrice.{NotInMotion, shown-price}
 use Rattle.protocol.proofs.checks.ByCall.{FetchPassed}
 use Rattle.protocol.proofs.invariant.Running.{stands-open, is-open}
 
 -- a list that names a word of a page names the page
-page-named : (pages : ℕ) (ps : List Price) (page word : ℕ) → OnPages pages ps → word < 32
+page-named : (pages : ℕ) (ps : List Price) (page word : ℕ) → OnPages pages ps → word < pageSize
     → names ps (32 * page + word) ≡ true → namesPage ps page ≡ true
 unfolding names namesPage
 page-named pages [] page word on small named = absurd (false≢true named)
@@ -78,9 +76,10 @@ module _ (d : Directory) (m : List ℕ) (b : Book) (rack : RunningRack d m b) wh
             in
             and-both _ _ (is-open d m b rack c r list s is) (and-both _ _ counts on-it)
 
-    page-word : (w : ℕ) → w < 32
+    page-word : (w : ℕ) → w < pageSize
         → load (sizeOf d) m (primaryOf d page) (committed page + w) ≡ getD (pageIn b page) w 0
     page-word w small =
+        let at : committed page + w ≡ pageAt page + (committedHalf + w) = omega arith in
         let shown =
         shown-price d (backupOf d) _ _ _ m b (rack .core) tt none-past (primaryOf d page) page w
         (record {
@@ -90,7 +89,7 @@ module _ (d : Directory) (m : List ℕ) (b : Book) (rack : RunningRack d m b) wh
           word = small;
         })
         not-in-motion in
-        (rw add-assoc shown) ∙ sym (table-read (λ word. b .price (32 * page + word)) pageSize w 0 small)
+        (rw at shown) ∙ sym (table-read (λ word. b .price (32 * page + word)) pageSize w 0 small)
 
     pub fetched : committedPage d m page ≡ pageIn b page
     unfolding committedPage

@@ -1,12 +1,11 @@
 -- A word that no release which counts already prices shows the book's price.
 use Rattle.laws.proofs.Prelude.{ℕ, zero, suc, _+_, _*_, _≤_, _<_, _≡_, refl, sym, _∙_, _⊎_, inl, inr, List, Bool, true}
 use Rattle.laws.proofs.Prelude.{false, false≢true, arith, ℕ-discrete, decLt, length}
-use Rattle.memory.specs.Layout.{pageStart, committedHalf}
-use Rattle.memory.specs.Area.{load}
 use Rattle.directory.specs.declared.Directory.{Directory}
+use Rattle.area.specs.Prelude.{load, pageAt, committedHalf, committed, pageSize, Release}
 use Rattle.diff.specs.Prices.{names}
 use Rattle.diff.proofs.Prices.{names-none, applied-none}
-use Rattle.protocol.specs.Release.{Release, sizeOf, countsAt}
+use Rattle.protocol.specs.Release.{sizeOf, countsAt}
 use Rattle.protocol.specs.Book.{Opened, none, opened, listPrices, Book}
 use Rattle.protocol.proofs.release.WordAfter.{wordAfter, word-after-none}
 use Rattle.protocol.proofs.book.Changes.{pricesIn}
@@ -36,27 +35,27 @@ named-or-none release label (suc n) = go (names (pricesIn (release n)) label) re
 
 -- releases that count leave the page alone
 abbrev pub NotInMotion : Book → ℕ → Type 0
-NotInMotion b p = (c : ℕ) (r : Release) (list : List ℕ) (s w : ℕ) → b .release c ≡ opened r list s → w < 32
+NotInMotion b p = (c : ℕ) (r : Release) (list : List ℕ) (s w : ℕ) → b .release c ≡ opened r list s → w < pageSize
     → names (listPrices list) (32 * p + w) ≡ true → s < countsAt (length (listPrices list))
 
 module _ (d : Directory) (backup : ℕ → ℕ) (old : ℕ → ℕ → ℕ) (T C : Type 0) (m : List ℕ) (b : Book)
     (core : Core d backup old T C m b) (claims : C) (none-past : (c : ℕ) → 8 ≤ c → b .release c ≡ none) where
   -- the committed word at a live home is the book's
   pub shown-price : (h p w : ℕ) → HomeWord d h p w → NotInMotion b p
-      → load (sizeOf d) m h (pageStart p + (committedHalf + w)) ≡ b .price (32 * p + w)
+      → load (sizeOf d) m h (pageAt p + (committedHalf + w)) ≡ b .price (32 * p + w)
   shown-price h p w word not-in-motion = go (named-or-none (b .release) (32 * p + w) 8)
     where
       settle : (c : ℕ) → c < 8 → Unshared (b .release) c (32 * p + w)
-          → wordAfter (committeds d backup .todo c (b .release c)) h (pageStart p + (committedHalf + w))
-          (load (sizeOf d) m h (pageStart p + (committedHalf + w)))
-          ≡ load (sizeOf d) m h (pageStart p + (committedHalf + w))
-          → load (sizeOf d) m h (pageStart p + (committedHalf + w)) ≡ b .price (32 * p + w)
+          → wordAfter (committeds d backup .todo c (b .release c)) h (pageAt p + (committedHalf + w))
+          (load (sizeOf d) m h (pageAt p + (committedHalf + w)))
+          ≡ load (sizeOf d) m h (pageAt p + (committedHalf + w))
+          → load (sizeOf d) m h (pageAt p + (committedHalf + w)) ≡ b .price (32 * p + w)
       settle c few unshared idle = sym idle ∙ core .committed claims .agrees c h p w few word unshared
           ∙ applied-none (32 * p + w) _
 
       by-namer : (c : ℕ) → c < 8 → names (pricesIn (b .release c)) (32 * p + w) ≡ true → (R : Opened)
           → b .release c ≡ R
-          → load (sizeOf d) m h (pageStart p + (committedHalf + w)) ≡ b .price (32 * p + w)
+          → load (sizeOf d) m h (pageAt p + (committedHalf + w)) ≡ b .price (32 * p + w)
       by-namer c few named none is = absurd (false≢true (sym (names-none (32 * p + w)) ∙ (rw is at named)))
       by-namer c few named (opened r list s) is =
           settle c few (λ x other. core .disjoint c x (32 * p + w) other named)
@@ -68,7 +67,7 @@ module _ (d : Directory) (backup : ℕ → ℕ) (old : ℕ → ℕ → ℕ) (T C
 
       go : ((c : ℕ) × (c < 8) × (names (pricesIn (b .release c)) (32 * p + w) ≡ true))
           ⊎ ((c : ℕ) → c < 8 → names (pricesIn (b .release c)) (32 * p + w) ≡ false)
-          → load (sizeOf d) m h (pageStart p + (committedHalf + w)) ≡ b .price (32 * p + w)
+          → load (sizeOf d) m h (pageAt p + (committedHalf + w)) ≡ b .price (32 * p + w)
       go (inl found) = by-namer (found .0) (found .1) (found .2) (b .release (found .0)) refl
       go (inr nobody) =
           settle 0 (omega arith) (λ x other. unnamed x)

@@ -1,15 +1,16 @@
 -- The invariant survives a step of any open release: its writes, and its close.
 use Rattle.laws.proofs.Prelude.{ℕ, suc, _+_, _*_, _≤_, _<_, _≡_, refl, sym, _∙_, subst, _≢_, _⊎_, inl, inr, List, true}
 use Rattle.laws.proofs.Prelude.{false, false≢true, arith, ℕ-discrete, decLt, length}
-use Rattle.memory.specs.Area.{load}
 use Rattle.directory.specs.declared.Directory.{Directory}
 use Rattle.directory.specs.Directory.{isLive}
+use Rattle.area.specs.Prelude.{load, Release, ownRelease, tentative, committed, deskSize, recordsStart, pagesStart}
+use Rattle.area.proofs.Prelude.{SameOwn, own-kept, same-own-release, In, NotIn, recordRegion, listRegion}
 use Rattle.diff.proofs.Prices.{names-none}
-use Rattle.protocol.specs.Release.{Release, sizeOf, ownRelease, stepMemory, close, countsAt, stepsIn}
+use Rattle.protocol.specs.Release.{sizeOf, stepMemory, close, countsAt, stepsIn}
 use Rattle.protocol.specs.Book.{Opened, none, opened, listPrices, Book, update, setOpen, stepBook}
-use Rattle.protocol.proofs.release.Shape.{SameOwn, shape-kept, area-of-live, own-kept, same-own-release}
+use Rattle.protocol.proofs.release.Shape.{shape-kept, area-of-live}
 use Rattle.protocol.proofs.release.Step.{step-closes}
-use Rattle.protocol.proofs.release.Close.{length-close, load-close, close-own, close-word-9}
+use Rattle.protocol.proofs.release.Close.{length-close, load-close, close-own, close-flag}
 use Rattle.protocol.proofs.book.Changes.{EightWords, update-same, update-other, update-each, step-book-plain}
 use Rattle.protocol.proofs.book.Changes.{step-book-counts, step-book-closes}
 use Rattle.protocol.proofs.claims.Claim.{Disjoint}
@@ -41,7 +42,7 @@ module _ (d : Directory) (backup : ℕ → ℕ) (old : ℕ → ℕ → ℕ) (T C
   standing : OpenStands (d .pages) m c r list s
   standing = rw is at (core .standing c live)
 
-  eight : length (r .desk) ≡ 8
+  eight : length (r .desk) ≡ deskSize
   eight = rw is at (core .eights c)
 
   -- ---- the close
@@ -50,7 +51,7 @@ module _ (d : Directory) (backup : ℕ → ℕ) (old : ℕ → ℕ → ℕ) (T C
     abbrev m′ : List ℕ
     m′ = close (sizeOf d) m c
 
-    elsewhere : (h o : ℕ) → o < sizeOf d → (h ≢ c) ⊎ (((20 ≤ o) × (o < 164)) ⊎ (676 ≤ o))
+    elsewhere : (h o : ℕ) → o < sizeOf d → (h ≢ c) ⊎ ((recordsStart ≤ o) × NotIn listRegion o)
         → load (sizeOf d) m′ h o ≡ load (sizeOf d) m h o
     elsewhere = load-close (sizeOf d) m c (omega arith) (rw (standing .stands .release) eight)
 
@@ -59,15 +60,15 @@ module _ (d : Directory) (backup : ℕ → ℕ) (old : ℕ → ℕ → ℕ) (T C
         record {
           same-length = length-close (sizeOf d) m c (omega arith);
           low = λ o low. elsewhere x o (omega arith) (inl other);
-          list = λ o above under. elsewhere x o (omega arith) (inl other);
+          list = λ o inside. elsewhere x o (omega arith) (inl other);
         }
 
-    kept-record : (x h o : ℕ) → x < 8 → 20 + 18 * x ≤ o → o < 38 + 18 * x
+    kept-record : (x h o : ℕ) → x < 8 → In (recordRegion x) o
         → load (sizeOf d) m′ h o ≡ load (sizeOf d) m h o
-    kept-record x h o little above under = elsewhere h o (omega arith) (inr (inl (omega arith, omega arith)))
+    kept-record x h o little in-record = elsewhere h o (omega arith) (inr (omega arith, (λ here. omega arith)))
 
-    kept-page : (h o : ℕ) → 676 ≤ o → o < sizeOf d → load (sizeOf d) m′ h o ≡ load (sizeOf d) m h o
-    kept-page h o above inside = elsewhere h o inside (inr (inr above))
+    kept-page : (h o : ℕ) → pagesStart ≤ o → o < sizeOf d → load (sizeOf d) m′ h o ≡ load (sizeOf d) m h o
+    kept-page h o above inside = elsewhere h o inside (inr (omega arith, (λ here. omega arith)))
 
     own-last : ownRelease (sizeOf d) m′ c ≡ b .last c
     own-last =
@@ -80,7 +81,7 @@ module _ (d : Directory) (backup : ℕ → ℕ) (old : ℕ → ℕ → ℕ) (T C
         record {
           shape = shape-kept (core .shape) m′ (length-close (sizeOf d) m c (omega arith));
           standing = update-each (b .release) c none (λ x R. isLive d x ≡ true → Standing (d .pages) m′ x R)
-              (λ _. close-word-9 (sizeOf d) m c (omega arith) (rw (standing .stands .release) eight)
+              (λ _. close-flag (sizeOf d) m c (omega arith) (rw (standing .stands .release) eight)
               (area-of-live (core .shape) c live))
               (λ x other up. standing-kept (d .pages) m m′ x (b .release x) (kept-other x other)
               (core .standing x up));
@@ -108,12 +109,12 @@ module _ (d : Directory) (backup : ℕ → ℕ) (old : ℕ → ℕ → ℕ) (T C
               (λ x R. isLive d x ≡ true → isLive d (backup x) ≡ true
               → Recorded x R (b .last x) (load (sizeOf d) m′ (backup x)))
               (λ _ up. close-recorded c r list s (b .last c) _ _ (omega arith)
-              (λ o above below. kept-record c (backup c) o few above below) (rw is at (core .recorded c live up)))
+              (λ o in-record. kept-record c (backup c) o few in-record) (rw is at (core .recorded c live up)))
               (λ x other lives up. recorded-kept x (b .release x) (b .last x) _ _
-              (λ o above below. kept-record x (backup x) o (small x lives) above below) (core .recorded x lives up));
-          dead = λ g h o gone little up above below.
-              kept-record g h o (omega (arith, core .shape .few-cards)) above below
-              ∙ core .dead g h o gone little up above below;
+              (λ o in-record. kept-record x (backup x) o (small x lives) in-record) (core .recorded x lives up));
+          dead = λ g h o gone little up in-record.
+              kept-record g h o (omega (arith, core .shape .few-cards)) in-record
+              ∙ core .dead g h o gone little up in-record;
         }
 
   -- ---- any step

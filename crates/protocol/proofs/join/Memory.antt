@@ -3,20 +3,18 @@
 use Rattle.laws.proofs.Prelude.{ℕ, _<_, _≡_, sym, _∙_, _≢_, List, true, false, true≢false, arith, eq-eqb, length}
 use Rattle.laws.specs.Search.{inTurn}
 use Rattle.laws.proofs.Bools.{and-first, and-both}
-use Rattle.memory.specs.Layout.{openFlag}
-use Rattle.memory.specs.Area.{load}
 use Rattle.directory.specs.declared.Directory.{Directory}
 use Rattle.directory.specs.Directory.{isLive, nextLiveOf, backupOf, markedLive}
-use Rattle.protocol.specs.Release.{sizeOf, ownRelease}
-use Rattle.protocol.specs.Record.{recordedRelease, writeOwnRecord}
+use Rattle.area.specs.Prelude.{load, openFlag, deskSize, ownRelease, recordedRelease, writeOwnRecord}
+use Rattle.area.proofs.Prelude.{recorded-is, own-words-kept}
+use Rattle.protocol.specs.Release.{sizeOf}
 use Rattle.protocol.specs.Join.{resetArea, copyDeadRecord, backupIs, joinedMemory}
 use Rattle.protocol.specs.Book.{none, Book}
-use Rattle.protocol.proofs.release.Shape.{Shape, area-of, area-of-live, shape-kept, own-words-kept}
+use Rattle.protocol.proofs.release.Shape.{Shape, area-of, area-of-live, shape-kept}
 use Rattle.protocol.proofs.records.Recorded.{Recorded, recorded-kept}
 use Rattle.protocol.proofs.records.Own.{OwnBelow, own-below}
 use Rattle.protocol.proofs.join.Area.{length-reset, reset-other, reset-zero, reset-own, CopiedBelow}
 use Rattle.protocol.proofs.join.Area.{copied-below}
-use Rattle.protocol.proofs.records.Reading.{recorded-is}
 use Rattle.protocol.proofs.invariant.Rack.{RunningRack, next-is-live}
 
 -- the memory m′ after card x has joined
@@ -60,7 +58,7 @@ module _ (d : Directory) (x : ℕ) (m : List ℕ) (b : Book) (rack : RunningRack
       (omega arith) few
       (rack .core .last-eight x) (x-recorded .stamped) (x-recorded .desked)
 
-  eight : length (recordedRelease (sizeOf d) m (nextLiveOf d x) x .desk) ≡ 8
+  eight : length (recordedRelease (sizeOf d) m (nextLiveOf d x) x .desk) ≡ deskSize
   eight = rw recorded (rack .core .last-eight x)
 
   reset-size : length resetMemory ≡ length m
@@ -120,9 +118,9 @@ module _ (d : Directory) (x : ℕ) (m : List ℕ) (b : Book) (rack : RunningRack
       → Recorded g none (b .last g) (load (sizeOf d) backedMemory x)
   dead-recorded g gone other less =
       recorded-kept g none (b .last g) _ _
-      (λ o above below.
-      backed .records g x o (omega (arith, shape .few-cards)) (not-due g gone) above below
-      ∙ copied .copied g o less (omega (arith, shape .few-cards)) gone other above below
+      (λ o in-record.
+      backed .records g x o (omega (arith, shape .few-cards)) (not-due g gone) in-record
+      ∙ copied .copied g o less (omega (arith, shape .few-cards)) gone other in-record
       ∙ reset-other d x m shape real eight (nextLiveOf d g) o (not-x (nextLiveOf d g) (nexts g))
       (omega (arith, shape .few-cards)))
       (rack .records g (nextLiveOf d g) gone less (nexts g))

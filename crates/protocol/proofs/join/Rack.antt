@@ -2,15 +2,16 @@
 use Rattle.laws.proofs.Prelude.{ℕ, _≤_, _<_, _≡_, refl, sym, _∙_, _≢_, inl, inr, List, true, false, true≢false, arith}
 use Rattle.laws.proofs.Prelude.{ℕ-discrete}
 use lib.ListN.{length-set}
-use Rattle.memory.specs.Area.{load}
 use Rattle.directory.specs.declared.Directory.{Directory}
 use Rattle.directory.specs.Directory.{isLive, primaryOf, secondaryOf, nextLiveOf, backupOf, markedLive}
 use Rattle.directory.proofs.Live.{next-live-kept}
 use Rattle.directory.proofs.Changes.{live-of-marked-live, live-of-other}
-use Rattle.protocol.specs.Release.{sizeOf, ownRelease}
+use Rattle.area.specs.Prelude.{load, ownRelease, tentative, committed, pageSize}
+use Rattle.area.proofs.Prelude.{SameOwn, own-words-kept}
+use Rattle.protocol.specs.Release.{sizeOf}
 use Rattle.protocol.specs.Join.{joinedMemory}
 use Rattle.protocol.specs.Book.{Opened, none, Book}
-use Rattle.protocol.proofs.release.Shape.{Shape, SameOwn, own-words-kept}
+use Rattle.protocol.proofs.release.Shape.{Shape}
 use Rattle.protocol.proofs.release.WordAfter.{HomeOf}
 use Rattle.protocol.proofs.claims.Claim.{Half, Claim, claim-idle, idle-words}
 use Rattle.protocol.proofs.claims.Halves.{tentatives, committeds}
@@ -75,7 +76,8 @@ module _ (d : Directory) (x : ℕ) (m : List ℕ) (b : Book) (rack : RunningRack
   home-live h p page (inr home) = rw home (rack .primary-live p page)
 
   -- with nothing open the claims go over to the words that stay
-  page-claim : (H : Half d) (H′ : Half d′) → H′ .half ≡ H .half → H .half ≤ 32 → Claim d H (b .release) (b .price) m
+  page-claim : (H : Half d) (H′ : Half d′) → H′ .half ≡ H .half → H .half ≤ pageSize
+      → Claim d H (b .release) (b .price) m
       → Claim d′ H′ (b .release) (b .price) m′
   page-claim H H′ same less claim =
       claim-idle d′ H′ (b .release) (b .price) m′ idle
@@ -109,7 +111,7 @@ module _ (d : Directory) (x : ℕ) (m : List ℕ) (b : Book) (rack : RunningRack
   kept-recorded : (c h : ℕ) (R : Opened) → c < 8 → h ≢ x → Recorded c R (b .last c) (load (sizeOf d) m h)
       → Recorded c R (b .last c) (load (sizeOf d) m′ h)
   kept-recorded c h R little other recorded =
-      recorded-kept c R (b .last c) _ _ (λ o above under. after .others h o other (omega arith)) recorded
+      recorded-kept c R (b .last c) _ _ (λ o in-record. after .others h o other (omega arith)) recorded
 
   live-recorded : (c : ℕ) → isLive d′ c ≡ true → Recorded c none (b .last c) (load (sizeOf d) m′ (backupOf d′ c))
   live-recorded c live =
@@ -136,7 +138,7 @@ module _ (d : Directory) (x : ℕ) (m : List ℕ) (b : Book) (rack : RunningRack
       record {
         same-length = after .same-length;
         low = λ o less. after .others c o other (omega arith);
-        list = λ o above under. after .others c o other (omega arith);
+        list = λ o inside. after .others c o other (omega arith);
       }
 
   stands : (c : ℕ) → isLive d′ c ≡ true → Standing (d .pages) m′ c (b .release c)
@@ -180,7 +182,7 @@ module _ (d : Directory) (x : ℕ) (m : List ℕ) (b : Book) (rack : RunningRack
         committed = λ _. page-claim (committeds d (backupOf d)) (committeds d′ (backupOf d′)) refl (omega arith)
             (core .committed tt);
         recorded = λ c live up. rw (idle c) (live-recorded c live);
-        dead = λ g h o gone less up above under. refl;
+        dead = λ g h o gone less up in-record. refl;
       }
 
   records : (g h : ℕ) → isLive d′ g ≡ false → g < d .cards → isLive d′ h ≡ true

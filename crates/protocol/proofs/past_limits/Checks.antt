@@ -1,6 +1,7 @@
 -- Check 2, and the checks that calls share, read nothing past a directory's cards and pages.
 use Rattle.laws.proofs.Prelude.{ℕ, _<_, _≡_, refl, ap, List, _∷_, _++_, Bool, not, _&&_, arith, ltb}
 use Rattle.laws.specs.Search.{lowest, someBelow}
+use Rattle.laws.proofs.Search.{lowest-agree, some-agree, count-agree}
 use Rattle.answer.specs.Outcome.{unfit, noCard}
 use Rattle.directory.specs.declared.Directory.{Directory}
 use Rattle.directory.specs.declared.Status.{Status}
@@ -10,7 +11,6 @@ use Rattle.protocol.specs.Checks.{fewLive, badHome, badPage, badStatus, 
 use Rattle.protocol.specs.Checks.{fittingChecks, runningChecks, noLiveCard}
 use Rattle.protocol.specs.PastLimits.{belowLimits}
 use Rattle.protocol.proofs.checks.ByCall.{live-card}
-use Rattle.laws.proofs.Search.{lowest-agree, some-agree, count-agree}
 use Rattle.protocol.proofs.checks.Outcome.{more, SameChecks}
 use Rattle.protocol.proofs.past_limits.Directory.{marksBelow, live-below, real-below, primary-below}
 use Rattle.protocol.proofs.past_limits.Directory.{secondary-below}

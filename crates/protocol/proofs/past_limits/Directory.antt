@@ -2,13 +2,13 @@
 use Rattle.laws.proofs.Prelude.{ℕ, _<_, _≡_, ap, _∙_, List, Bool, true, false, _||_, arith, decLt, le-leb, take, leb}
 use native.Mathlib.Nat.{le-refl}
 use lib.Seq.{getD-take, take-take}
+use Rattle.laws.proofs.Lists.{take-set}
 use Rattle.directory.specs.declared.Directory.{Directory}
 use Rattle.directory.specs.Directory.{liveAt, isLive, primaryOf, secondaryOf, nextLiveOf, backupOf, withMark}
 use Rattle.directory.specs.Directory.{markedLive, withHomes}
 use Rattle.directory.proofs.Live.{next-live-past-cards}
-use Rattle.protocol.specs.Release.{isOpen}
+use Rattle.area.specs.Prelude.{isOpen}
 use Rattle.protocol.specs.PastLimits.{belowLimits}
-use Rattle.laws.proofs.Lists.{take-set}
 
 -- the marks of the cards that the rack has
 abbrev pub marksBelow : Directory → List Bool

@@ -1,5 +1,6 @@
 -- A failure reads nothing past a directory's cards and pages, and keeps what stands there.
 use Rattle.laws.proofs.Prelude.{ℕ, refl, ap, List, [], false, leb}
+use Rattle.laws.proofs.Search.{count-agree}
 use Rattle.answer.specs.Outcome.{twoLive}
 use Rattle.directory.specs.declared.Directory.{Directory}
 use Rattle.directory.specs.declared.Status.the-variants.{Awaiting}
@@ -7,7 +8,6 @@ use Rattle.protocol.specs.Checks.{check}
 use Rattle.protocol.specs.Failure.{failureChecks, failure}
 use Rattle.protocol.specs.PastLimits.{belowLimits}
 use Rattle.protocol.proofs.checks.ByCall.{live-card}
-use Rattle.laws.proofs.Search.{count-agree}
 use Rattle.protocol.proofs.checks.Outcome.{more, none, SameChecks}
 use Rattle.protocol.proofs.past_limits.Directory.{live-below}
 use Rattle.protocol.proofs.past_limits.Changes.{status-kept, marked-same, marked-kept}

@@ -1,13 +1,13 @@
 -- A join reads nothing past a directory's cards and pages, and keeps what stands there.
 use Rattle.laws.proofs.Prelude.{ℕ, _<_, _≡_, refl, ap, List, [], Bool, true, leb-false}
+use Rattle.laws.proofs.Search.{some-agree, in-turn-agree}
 use Rattle.answer.specs.Outcome.{cardLive, joinWhileOpen}
 use Rattle.directory.specs.declared.Directory.{Directory}
+use Rattle.area.specs.Prelude.{writeOwnRecord}
 use Rattle.protocol.specs.Release.{sizeOf}
-use Rattle.protocol.specs.Record.{writeOwnRecord}
 use Rattle.protocol.specs.Checks.{check}
 use Rattle.protocol.specs.Join.{joinChecks, resetArea, copyDeadRecord, backupIs, joinedMemory, join}
 use Rattle.protocol.specs.PastLimits.{belowLimits}
-use Rattle.laws.proofs.Search.{some-agree, in-turn-agree}
 use Rattle.protocol.proofs.checks.Outcome.{more, none, SameChecks}
 use Rattle.protocol.proofs.past_limits.Directory.{live-below, open-below, next-below, backup-below}
 use Rattle.protocol.proofs.past_limits.Changes.{marked-same, marked-kept}

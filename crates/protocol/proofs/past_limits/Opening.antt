@@ -2,7 +2,8 @@
 use Rattle.laws.proofs.Prelude.{ℕ, _<_, _≡_, refl, ap, List, [], Bool}
 use Rattle.answer.specs.Outcome.{releaseOpen, wordInUse}
 use Rattle.directory.specs.declared.Directory.{Directory}
-use Rattle.protocol.specs.Release.{Release, sizeOf}
+use Rattle.area.specs.Prelude.{Release}
+use Rattle.protocol.specs.Release.{sizeOf}
 use Rattle.protocol.specs.Checks.{check}
 use Rattle.protocol.specs.Opening.{sharesWith, openingChecks, opening}
 use Rattle.protocol.specs.PastLimits.{belowLimits}

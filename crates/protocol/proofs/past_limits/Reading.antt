@@ -2,8 +2,7 @@
 use Rattle.laws.proofs.Prelude.{ℕ, _<_, _≡_, refl, List, leb-false, length}
 use Rattle.answer.specs.Outcome.{pageInMotion}
 use Rattle.directory.specs.declared.Directory.{Directory}
-use Rattle.memory.specs.Layout.{deskSize}
-use Rattle.memory.specs.Area.{zeros}
+use Rattle.area.specs.Prelude.{zeros, deskSize}
 use Rattle.protocol.specs.Release.{sizeOf}
 use Rattle.protocol.specs.Fetch.{inMotion, fetchChecks, committedPage, fetch}
 use Rattle.protocol.specs.DeskQuestion.{deskChecks, deskOf, deskQuestion}

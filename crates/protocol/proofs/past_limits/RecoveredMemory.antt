@@ -1,16 +1,16 @@
 -- The memory and the release that a recovery goes by: nothing past a directory's cards and pages is read for them.
 use Rattle.laws.proofs.Prelude.{ℕ, zero, suc, _<_, _≡_, refl, _∙_, List, Bool, true, false}
+use Rattle.laws.proofs.Search.{in-turn-agree}
 use Rattle.directory.specs.declared.Directory.{Directory}
 use Rattle.directory.specs.Directory.{isLive, primaryOf, secondaryOf, backupOf, markedLive}
 use Rattle.directory.proofs.Live.{next-live-below, live-not-dead}
 use Rattle.directory.proofs.Changes.{live-of-other}
-use Rattle.protocol.specs.Release.{Release, sizeOf}
-use Rattle.protocol.specs.Record.{writeOwnRecord}
+use Rattle.area.specs.Prelude.{Release, writeOwnRecord}
+use Rattle.protocol.specs.Release.{sizeOf}
 use Rattle.protocol.specs.Recovery.{backupBefore, stepTimes, runToClose, closeReleases, restoreHome, restorePage}
 use Rattle.protocol.specs.Recovery.{restorePages, copyToNewHome, copyToNewHomes, writeFailed, backupWas}
 use Rattle.protocol.specs.Recovery.{writeRecords, failedRelease, restoredMemory, recoveredMemory}
 use Rattle.protocol.specs.PastLimits.{belowLimits}
-use Rattle.laws.proofs.Search.{in-turn-agree}
 use Rattle.protocol.proofs.checks.ValidDirectory.{ValidDirectory}
 use Rattle.protocol.proofs.past_limits.Directory.{live-below, open-below, next-below, primary-below}
 use Rattle.protocol.proofs.past_limits.Directory.{secondary-below, backup-below}

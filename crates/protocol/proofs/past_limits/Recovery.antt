@@ -1,10 +1,8 @@
 -- A recovery reads nothing past a directory's cards and pages, and keeps what stands there.
 use Rattle.laws.proofs.Prelude.{ℕ, _≡_, refl, ap, List, false, not-false}
-use Rattle.memory.specs.Layout.{deskSize}
-use Rattle.memory.specs.Area.{zeros}
 use Rattle.directory.specs.declared.Directory.{Directory}
 use Rattle.directory.specs.Directory.{isLive}
-use Rattle.protocol.specs.Release.{Release}
+use Rattle.area.specs.Prelude.{zeros, deskSize, Release}
 use Rattle.protocol.specs.Checks.{awaitsRecovery}
 use Rattle.protocol.specs.Recovery.{awaitedCard, recoveryChecks, recovery, failedRelease}
 use Rattle.protocol.specs.PastLimits.{belowLimits}

@@ -1,12 +1,12 @@
 -- What one step writes goes by nothing past a directory's cards and pages: the prices are on pages that the rack has,
 -- and their homes and the backup are cards that it has.
 use Rattle.laws.proofs.Prelude.{ℕ, zero, suc, _<_, _≡_, refl, List, [], _∷_, _++_, arith, getD}
-use Rattle.memory.specs.Layout.{recordStamp, recordDone, recordDesk, tentativeHalf, committedHalf}
 use Rattle.directory.specs.declared.Directory.{Directory}
+use Rattle.area.specs.Prelude.{recordDesk, tentativeHalf, committedHalf, Release, openRelease, openList, stepsOf}
 use Rattle.diff.specs.declared.Price.{Price}
 use Rattle.diff.proofs.Stored.{OnPages, prices-on-pages}
-use Rattle.protocol.specs.Release.{Release, sizeOf, openRelease, openList, openPrices, stepsOf, Write, noWrite}
-use Rattle.protocol.specs.Release.{priceWrites, runWrites, releaseWrites, makeWrite, stepMemory}
+use Rattle.protocol.specs.Release.{sizeOf, openPrices, Write, noWrite, priceWrites, runWrites, releaseWrites}
+use Rattle.protocol.specs.Release.{makeWrite, stepMemory}
 use Rattle.protocol.specs.PastLimits.{belowLimits}
 use Rattle.protocol.proofs.checks.ValidDirectory.{ValidDirectory}
 use Rattle.protocol.proofs.past_limits.Directory.{marksBelow, live-below, primary-below, secondary-below}
@@ -54,8 +54,7 @@ module _ (d : Directory) where
     writes-on fit real =
         on-both (prices-on fit tentativeHalf ps on)
         (on-both (on-run backup (recordDesk c (r .number)) (r .desk) real)
-        (on-both (on-run backup (recordStamp c) (r .number ∷ []) real)
-        (on-both (prices-on fit committedHalf ps on) (on-run backup (recordDone c) (r .number ∷ []) real))))
+        (on-more real (on-both (prices-on fit committedHalf ps on) (on-more real on-none))))
 
   -- ---- one step
 

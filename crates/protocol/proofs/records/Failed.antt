@@ -1,28 +1,28 @@
 -- The failed card's record, written on every live card.
-use Rattle.laws.proofs.Prelude.{ℕ, zero, suc, _+_, _*_, _≤_, _<_, _≡_, refl, sym, _∙_, _⊎_, inl, inr, List, Bool, true}
-use Rattle.laws.proofs.Prelude.{false, cond, true≢false, arith, ℕ-discrete, length}
+use Rattle.laws.proofs.Prelude.{ℕ, zero, suc, _<_, _≡_, refl, sym, _∙_, inl, inr, List, Bool, true, false, cond}
+use Rattle.laws.proofs.Prelude.{true≢false, arith, ℕ-discrete, length}
 use Rattle.laws.specs.Search.{inTurn}
-use Rattle.memory.specs.Area.{load}
 use Rattle.directory.specs.declared.Directory.{Directory}
 use Rattle.directory.specs.Directory.{isLive}
-use Rattle.protocol.specs.Release.{Release, sizeOf}
-use Rattle.protocol.specs.Record.{writeRecord}
+use Rattle.area.specs.Prelude.{load, Release, writeRecord, deskSize}
+use Rattle.area.proofs.Prelude.{length-record, load-record, NotIn, recordRegion}
+use Rattle.protocol.specs.Release.{sizeOf}
 use Rattle.protocol.specs.Recovery.{writeFailed}
 use Rattle.protocol.specs.Book.{none}
 use Rattle.protocol.proofs.release.Shape.{Shape, area-of-live, shape-kept}
 use Rattle.protocol.proofs.records.Recorded.{Recorded, recorded-kept}
-use Rattle.protocol.proofs.records.Settled.{length-record, load-record, settled-recorded}
+use Rattle.protocol.proofs.records.Settled.{settled-recorded}
 
 -- ---- the failed card's record
 
 -- on the live cards below n; no other word changes
 pub record FailedBelow (d : Directory) (f : ℕ) (r : Release) (n : ℕ) (m m′ : List ℕ) : Type 0 where
   pub same-length : length m′ ≡ length m
-  pub same : (h o : ℕ) → o < sizeOf d → (o < 20 + 18 * f) ⊎ (38 + 18 * f ≤ o)
+  pub same : (h o : ℕ) → o < sizeOf d → NotIn (recordRegion f) o
       → load (sizeOf d) m′ h o ≡ load (sizeOf d) m h o
   pub recorded : (h : ℕ) → h < n → isLive d h ≡ true → Recorded f none r (load (sizeOf d) m′ h)
 
-module _ (d : Directory) (f : ℕ) (r : Release) (few : f < 8) (eight : length (r .desk) ≡ 8) (m : List ℕ)
+module _ (d : Directory) (f : ℕ) (r : Release) (few : f < 8) (eight : length (r .desk) ≡ deskSize) (m : List ℕ)
     (shape : Shape d m) where
   failed-more : (n : ℕ) (m′ : List ℕ) → FailedBelow d f r n m m′ → FailedBelow d f r (suc n) m (writeFailed d f r n m′)
   unfolding writeFailed
@@ -46,7 +46,7 @@ module _ (d : Directory) (f : ℕ) (r : Release) (few : f < 8) (eight : length (
               (area-of-live (shape-kept shape m′ (below .same-length)) n live))
           at h small up (no other) =
               recorded-kept f none r _ _
-              (λ o above under. load-record (sizeOf d) m′ n f r (omega arith) few eight h o (omega arith) (inl other))
+              (λ o in-record. load-record (sizeOf d) m′ n f r (omega arith) few eight h o (omega arith) (inl other))
               (below .recorded h (omega arith) up)
       go false dead =
           record {

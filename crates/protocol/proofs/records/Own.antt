@@ -1,46 +1,36 @@
 -- Records of cards made from their own stamps and desks, on the cards that are to hold them, where they are due.
-use Rattle.laws.proofs.Prelude.{ℕ, zero, suc, _+_, _*_, _≤_, _<_, _≡_, refl, sym, ap, _∙_, _≢_, _⊎_, inl, inr, List}
-use Rattle.laws.proofs.Prelude.{Bool, true, false, cond, true≢false, arith, ℕ-discrete, decLt, length}
+use Rattle.laws.proofs.Prelude.{ℕ, zero, suc, _≤_, _<_, _≡_, refl, sym, ap, _∙_, _≢_, _⊎_, inl, inr, List, Bool, true}
+use Rattle.laws.proofs.Prelude.{false, cond, true≢false, arith, ℕ-discrete, length}
 use Rattle.laws.specs.Search.{inTurn}
-use Rattle.memory.specs.Area.{AreaIn, load}
-use Rattle.protocol.specs.Release.{ownRelease}
-use Rattle.protocol.specs.Record.{writeRecord, writeOwnRecord}
+use Rattle.area.specs.Prelude.{AreaIn, load, ownRelease, writeRecord, writeOwnRecord, deskSize, recordsStart, listStart}
+use Rattle.area.specs.Prelude.{pagesStart}
+use Rattle.area.proofs.Prelude.{own-words-kept, length-record, load-record, In, NotIn, recordRegion, records-apart}
 use Rattle.protocol.specs.Book.{none}
-use Rattle.protocol.proofs.release.Shape.{own-words-kept}
 use Rattle.protocol.proofs.records.Recorded.{Recorded, recorded-kept}
-use Rattle.protocol.proofs.records.Settled.{length-record, load-record, settled-recorded}
+use Rattle.protocol.proofs.records.Settled.{settled-recorded}
 
 -- after the cards below n
 pub record OwnBelow (size : ℕ) (due : ℕ → Bool) (holder : ℕ → ℕ) (n : ℕ) (m m′ : List ℕ) : Type 0 where
   pub same-length : length m′ ≡ length m
   -- the own words, the lists and pages, and the records that are not due
-  pub low : (h o : ℕ) → o < 20 → load size m′ h o ≡ load size m h o
-  pub high : (h o : ℕ) → 164 ≤ o → o < size → load size m′ h o ≡ load size m h o
-  pub records : (g h o : ℕ) → g < 8 → due g ≡ false → 20 + 18 * g ≤ o → o < 38 + 18 * g
-      → load size m′ h o ≡ load size m h o
+  pub low : (h o : ℕ) → o < recordsStart → load size m′ h o ≡ load size m h o
+  pub high : (h o : ℕ) → listStart ≤ o → o < size → load size m′ h o ≡ load size m h o
+  pub records : (g h o : ℕ) → g < 8 → due g ≡ false → In (recordRegion g) o → load size m′ h o ≡ load size m h o
   -- every word of a card that is to hold none
   pub elsewhere : (h o : ℕ) → o < size → ((c : ℕ) → due c ≡ true → h ≢ holder c) → load size m′ h o ≡ load size m h o
   pub recorded : (c : ℕ) → c < n → due c ≡ true → Recorded c none (ownRelease size m c) (load size m′ (holder c))
 
-module _ (size : ℕ) (long : 676 ≤ size) (due : ℕ → Bool) (holder : ℕ → ℕ) (m : List ℕ)
+module _ (size : ℕ) (long : pagesStart ≤ size) (due : ℕ → Bool) (holder : ℕ → ℕ) (m : List ℕ)
     (small : (c : ℕ) → due c ≡ true → c < 8)
     (areas : (c : ℕ) → due c ≡ true → AreaIn (length m) size (holder c))
-    (eights : (c : ℕ) → due c ≡ true → length (ownRelease size m c .desk) ≡ 8) where
-  -- records of two cards stand apart
-  apart : (c n o : ℕ) → c ≢ n → 20 + 18 * c ≤ o → o < 38 + 18 * c → (o < 20 + 18 * n) ⊎ (38 + 18 * n ≤ o)
-  apart c n o other above under =
-      elim (decLt c n) [
-        | yes less ↦ inl (omega arith)
-        | no more ↦ inr (omega arith)
-      ]
-
+    (eights : (c : ℕ) → due c ≡ true → length (ownRelease size m c .desk) ≡ deskSize) where
   own-more : (n : ℕ) (m′ : List ℕ) → OwnBelow size due holder n m m′
       → OwnBelow size due holder (suc n) m (writeOwnRecord size due holder n m′)
   unfolding writeOwnRecord
   own-more n m′ below = go (due n) refl
     where
       own : ownRelease size m′ n ≡ ownRelease size m n
-      own = own-words-kept size m m′ n (below .same-length) (λ o less. below .low n o (omega arith))
+      own = own-words-kept size m m′ n (below .same-length) (λ o own. below .low n o (omega arith))
 
       go : (writes : Bool) → due n ≡ writes
           → OwnBelow size due holder (suc n) m
@@ -51,18 +41,18 @@ module _ (size : ℕ) (long : 676 ≤ size) (due : ℕ → Bool) (holder : ℕ �
           rw own
           (record {
             same-length = length-record size m′ (holder n) n (ownRelease size m n) long few eight ∙ below .same-length;
-            low = λ h o less. other h o (omega arith) (inr (inl (omega arith))) ∙ below .low h o less;
-            high = λ h o more inside. other h o inside (inr (inr (omega arith))) ∙ below .high h o more inside;
-            records = λ g h o little not-due above under.
+            low = λ h o less. other h o (omega arith) (inr (λ here. omega arith)) ∙ below .low h o less;
+            high = λ h o more inside. other h o inside (inr (λ here. omega (arith, few))) ∙ below .high h o more inside;
+            records = λ g h o little not-due in-record.
                 other h o (omega arith)
-                (inr (apart g n o (λ e. true≢false (sym is ∙ ap due (sym e) ∙ not-due)) above under))
-                ∙ below .records g h o little not-due above under;
+                (inr (records-apart (λ e. true≢false (sym is ∙ ap due (sym e) ∙ not-due)) in-record))
+                ∙ below .records g h o little not-due in-record;
             elsewhere = λ h o inside none-here. other h o inside (inl (none-here n is))
                 ∙ below .elsewhere h o inside none-here;
             recorded = λ c less is-due. at c less is-due (ℕ-discrete c n);
           })
         where
-          other : (h o : ℕ) → o < size → (h ≢ holder n) ⊎ ((o < 20 + 18 * n) ⊎ (38 + 18 * n ≤ o))
+          other : (h o : ℕ) → o < size → (h ≢ holder n) ⊎ NotIn (recordRegion n) o
               → load size (writeRecord size m′ (holder n) n (ownRelease size m n)) h o ≡ load size m′ h o
           other = load-record size m′ (holder n) n (ownRelease size m n) long (small n is) (eights n is)
 
@@ -75,8 +65,8 @@ module _ (size : ℕ) (long : 676 ≤ size) (due : ℕ → Bool) (holder : ℕ �
               (rw (below .same-length) (areas n is)))
           at c less is-due (no differs) =
               recorded-kept c none (ownRelease size m c) _ _
-              (λ o above under. other (holder c) o (omega (arith, small c is-due))
-              (inr (apart c n o differs above under)))
+              (λ o in-record. other (holder c) o (omega (arith, small c is-due))
+              (inr (records-apart differs in-record)))
               (below .recorded c (omega arith) is-due)
       go false is-not =
           record {
@@ -99,7 +89,7 @@ module _ (size : ℕ) (long : 676 ≤ size) (due : ℕ → Bool) (holder : ℕ �
         same-length = refl;
         low = λ h o less. refl;
         high = λ h o more inside. refl;
-        records = λ g h o little not-due above under. refl;
+        records = λ g h o little not-due in-record. refl;
         elsewhere = λ h o inside none-here. refl;
         recorded = λ c less is-due. absurd (omega arith);
       }

@@ -1,15 +1,18 @@
 -- What a card's record on its backup says beside the book, and that a step keeps it so. `f o` is the word at offset o
 -- of the backup's area.
-use Rattle.laws.proofs.Prelude.{ℕ, suc, _+_, _*_, _≤_, _<_, _≡_, refl, sym, ap, _∙_, _≢_, List, arith, ℕ-discrete}
-use Rattle.laws.proofs.Prelude.{length, getD}
-use Rattle.memory.specs.Layout.{recordStamp, recordDone, recordDesk}
+use Rattle.laws.proofs.Prelude.{ℕ, suc, _+_, _*_, _≤_, _<_, _≡_, refl, sym, ap, _∙_, _≢_, List, [], _∷_, arith}
+use Rattle.laws.proofs.Prelude.{ℕ-discrete, length, getD}
 use Rattle.directory.specs.declared.Directory.{Directory}
-use Rattle.protocol.specs.Release.{Release, countsAt}
+use Rattle.area.specs.Prelude.{recordStamp, recordDone, recordDesk, numberSize, deskSize, Release, numberWords}
+use Rattle.area.specs.Prelude.{numberAt}
+use Rattle.area.proofs.Prelude.{length-number, number-kept, number-is, In, NotIn, recordRegion, stamp-in, done-in}
+use Rattle.area.proofs.Prelude.{desk-in}
+use Rattle.protocol.specs.Release.{Write, writeOf, countsAt}
 use Rattle.protocol.specs.Book.{Opened, none, opened, listPrices}
 use Rattle.protocol.proofs.release.Writes.{Phase, phase, to-tentative, to-desk, to-stamp, to-committed, to-done}
 use Rattle.protocol.proofs.release.Writes.{to-close, write-tentative, write-desk, write-stamp, write-committed}
 use Rattle.protocol.proofs.release.Writes.{write-done}
-use Rattle.protocol.proofs.release.WordAfter.{written, written-here, written-other-offset}
+use Rattle.protocol.proofs.release.WordAfter.{target, written, written-here, written-other-offset}
 use Rattle.protocol.proofs.release.Step.{stepWrite}
 
 -- ---- what the book's last number and desk of a card have to do with its open release
@@ -38,31 +41,30 @@ Done (opened r list s) done stamp =
 abbrev pub Parts : ℕ → Opened → (ℕ → ℕ) → Type 0
 Parts c none f = Unit {0}
 Parts c (opened r list s) f =
-    (j : ℕ) → j < 8 → 2 * length (listPrices list) + j < s → s < countsAt (length (listPrices list))
+    (j : ℕ) → j < deskSize → 2 * length (listPrices list) + j < s → s < countsAt (length (listPrices list))
     → f (recordDesk c (r .number) + j) ≡ getD (r .desk) j 0
 
 pub record Recorded (c : ℕ) (R : Opened) (last : Release) (f : ℕ → ℕ) : Type 0 where
-  pub stamped : f (recordStamp c) ≡ last .number
-  pub desked : (j : ℕ) → j < 8 → f (recordDesk c (last .number) + j) ≡ getD (last .desk) j 0
-  pub done : Done R (f (recordDone c)) (last .number)
+  pub stamped : numberAt f (recordStamp c) ≡ last .number
+  pub desked : (j : ℕ) → j < deskSize → f (recordDesk c (last .number) + j) ≡ getD (last .desk) j 0
+  pub done : Done R (numberAt f (recordDone c)) (last .number)
   pub parts : Parts c R f
 
 -- words of the record, and only those, matter
 pub recorded-kept : (c : ℕ) (R : Opened) (last : Release) (f f′ : ℕ → ℕ)
-    → ((o : ℕ) → 20 + 18 * c ≤ o → o < 38 + 18 * c → f′ o ≡ f o) → Recorded c R last f → Recorded c R last f′
+    → ((o : ℕ) → In (recordRegion c) o → f′ o ≡ f o) → Recorded c R last f → Recorded c R last f′
 recorded-kept c R last f f′ same recorded =
     record {
-      stamped = same (recordStamp c) (omega arith) (omega arith) ∙ recorded .stamped;
-      desked = λ j within. same (recordDesk c (last .number) + j) (omega arith) (omega arith)
-          ∙ recorded .desked j within;
-      done = rw (same (recordDone c) (omega arith) (omega arith)) (recorded .done);
+      stamped = number-kept f (recordStamp c) f′ (λ j within. same _ (stamp-in c j within)) ∙ recorded .stamped;
+      desked = λ j within. same _ (desk-in c (last .number) j within) ∙ recorded .desked j within;
+      done = rw (number-kept f (recordDone c) f′ (λ j within. same _ (done-in c j within))) (recorded .done);
       parts = go R (recorded .parts);
     }
   where
     go : (R : Opened) → Parts c R f → Parts c R f′
     go none parts = tt
     go (opened r list s) parts = λ j within written early.
-        same (recordDesk c (r .number) + j) (omega arith) (omega arith) ∙ parts j within written early
+        same _ (desk-in c (r .number) j within) ∙ parts j within written early
 
 -- ---- a step
 
@@ -83,20 +85,35 @@ module _ (r : Release) (list : List ℕ) (s : ℕ) (last last′ : Release)
             | no plain ↦ after .plain plain ∙ numbers .1 (omega arith)
           ]
 
-  module _ (d : Directory) (backup c : ℕ) (few : c < 8) (eight : length (r .desk) ≡ 8)
+  module _ (d : Directory) (backup c : ℕ) (few : c < 8) (eight : length (r .desk) ≡ deskSize)
       (before : s < 4 * length (listPrices list) + 10) (f f′ : ℕ → ℕ)
-      (wrote : (o : ℕ) → 20 + 18 * c ≤ o → o < 38 + 18 * c
+      (wrote : (o : ℕ) → In (recordRegion c) o
       → f′ o ≡ written (stepWrite d backup c r (listPrices list) s) backup o (f o)) where
+    abbrev w : Write
+    w = stepWrite d backup c r (listPrices list) s
+
     -- a word of the record that the step does not write
-    other-word : (o w : ℕ) → 20 + 18 * c ≤ o → o < 38 + 18 * c
-        → stepWrite d backup c r (listPrices list) s .offset ≡ w → w ≢ o → f′ o ≡ f o
-    other-word o w above under at apart =
-        wrote o above under ∙ written-other-offset _ backup o (f o) (λ e. apart (sym at ∙ e))
+    other-word : (o : ℕ) → In (recordRegion c) o → NotIn (target w) o → f′ o ≡ f o
+    other-word o inside apart = wrote o inside ∙ written-other-offset w backup o (f o) apart
+
+    -- a number of the record that it does not write
+    other-number : (offset : ℕ) → ((j : ℕ) → j < numberSize → In (recordRegion c) (offset + j))
+        → ((j : ℕ) → j < numberSize → NotIn (target w) (offset + j)) → numberAt f′ offset ≡ numberAt f offset
+    other-number offset inside apart =
+        number-kept f offset f′ (λ j within. other-word (offset + j) (inside j within) (apart j within))
+
+    -- a number that it writes
+    this-number : (offset : ℕ) → ((j : ℕ) → j < numberSize → In (recordRegion c) (offset + j))
+        → w ≡ writeOf backup offset (numberWords (r .number)) → numberAt f′ offset ≡ r .number
+    this-number offset inside is =
+        number-is f′ offset (r .number)
+        (λ j within.
+        wrote (offset + j) (inside j within)
+        ∙ rw is (written-here _ backup (offset + j) _ refl j (omega (arith, length-number (r .number))) refl))
 
     -- a step that leaves the record, and does not count the release
-    same-record : ((o : ℕ) → 20 + 18 * c ≤ o → o < 38 + 18 * c → f′ o ≡ f o)
-        → suc s ≢ countsAt (length (listPrices list))
-        → Done (opened r list (suc s)) (f (recordDone c)) (last .number) → Parts c (opened r list (suc s)) f
+    same-record : ((o : ℕ) → In (recordRegion c) o → f′ o ≡ f o) → suc s ≢ countsAt (length (listPrices list))
+        → Done (opened r list (suc s)) (numberAt f (recordDone c)) (last .number) → Parts c (opened r list (suc s)) f
         → Recorded c (opened r list s) last f → Recorded c (opened r list (suc s)) last′ f′
     same-record same plain done parts recorded =
         rw (after .plain plain)
@@ -104,41 +121,38 @@ module _ (r : Release) (list : List ℕ) (s : ℕ) (last last′ : Release)
         (record { stamped = recorded .stamped; desked = recorded .desked; done = done; parts = parts }))
 
     -- a desk word is written: the desk of the other evenness stays
-    desk-recorded : (i : ℕ) → s ≡ 2 * length (listPrices list) + i → i < 8 → Recorded c (opened r list s) last f
+    desk-recorded : (i : ℕ) → s ≡ 2 * length (listPrices list) + i → i < deskSize → Recorded c (opened r list s) last f
         → Recorded c (opened r list (suc s)) last′ f′
     desk-recorded i at inside recorded =
         rw (after .plain (omega arith))
         (record {
-          stamped = elsewhere (recordStamp c) (omega arith) (omega arith) (λ e. omega arith) ∙ recorded .stamped;
+          stamped = other-number (recordStamp c) (stamp-in c) (λ j within. rw to (λ here. omega arith))
+              ∙ recorded .stamped;
           desked = λ j within.
-              elsewhere (recordDesk c (last .number) + j) (omega arith) (omega arith) (λ e. omega (arith, next))
+              other-word _ (desk-in c (last .number) j within) (rw to (λ here. omega (arith, next)))
               ∙ recorded .desked j within;
           done = (
-            (λ soon. elsewhere (recordDone c) (omega arith) (omega arith) (λ e. omega arith) ∙ recorded .done .0
-                (omega arith)),
+            (λ soon. other-number (recordDone c) (done-in c) (λ j within. rw to (λ here. omega arith))
+                ∙ recorded .done .0 (omega arith)),
             (λ late _. absurd (omega arith)),
             (λ late. absurd (omega arith)),
           );
           parts = λ j within there soon. part j within there (ℕ-discrete j i);
         })
       where
-        to : stepWrite d backup c r (listPrices list) s .offset ≡ recordDesk c (r .number) + i
-        to = ap (λ w. w .offset) (write-desk d backup c r (listPrices list) eight s i at inside)
+        to : w ≡ writeOf backup (recordDesk c (r .number) + i) (getD (r .desk) i 0 ∷ [])
+        to = write-desk d backup c r (listPrices list) eight s i at inside
 
         next : r .number ≡ suc (last .number)
         next = numbers .0 (omega (arith, at, inside))
 
-        elsewhere : (o : ℕ) → 20 + 18 * c ≤ o → o < 38 + 18 * c → recordDesk c (r .number) + i ≢ o → f′ o ≡ f o
-        elsewhere o above under apart = other-word o (recordDesk c (r .number) + i) above under to apart
-
-        part : (j : ℕ) → j < 8 → 2 * length (listPrices list) + j < suc s → Dec (j ≡ i)
+        part : (j : ℕ) → j < deskSize → 2 * length (listPrices list) + j < suc s → Dec (j ≡ i)
             → f′ (recordDesk c (r .number) + j) ≡ getD (r .desk) j 0
         part j within there (yes same) =
-            wrote (recordDesk c (r .number) + j) (omega arith) (omega arith)
-            ∙ rw (write-desk d backup c r (listPrices list) eight s i at inside)
-            (written-here _ backup _ _ refl (omega arith) ∙ rw same)
+            wrote _ (desk-in c (r .number) j within)
+            ∙ rw to (written-here _ backup _ _ refl 0 (omega arith) (omega (arith, same)) ∙ rw same)
         part j within there (no other) =
-            elsewhere (recordDesk c (r .number) + j) (omega arith) (omega arith) (λ e. omega arith)
+            other-word _ (desk-in c (r .number) j within) (rw to (λ here. omega arith))
             ∙ recorded .parts j within (omega (arith, at)) (omega (arith, at, inside))
 
     -- the stamp is written, and the release counts: its desk is all there
@@ -147,70 +161,68 @@ module _ (r : Release) (list : List ℕ) (s : ℕ) (last last′ : Release)
     stamp-recorded at recorded =
         rw (after .counts (omega arith))
         (record {
-          stamped =
-              wrote (recordStamp c) (omega arith) (omega arith)
-              ∙ rw (write-stamp d backup c r (listPrices list) eight s at) (written-here _ backup _ _ refl refl);
+          stamped = this-number (recordStamp c) (stamp-in c) to;
           desked = λ j within.
-              elsewhere (recordDesk c (r .number) + j) (omega arith) (omega arith) (λ e. omega arith)
+              other-word _ (desk-in c (r .number) j within) (rw to (λ here. omega (arith, long)))
               ∙ recorded .parts j within (omega (arith, at)) (omega (arith, at));
           done = (
             (λ soon. absurd (omega arith)),
-            (λ late _. ap suc (elsewhere (recordDone c) (omega arith) (omega arith) (λ e. omega arith)
+            (λ late _. ap suc
+                (other-number (recordDone c) (done-in c) (λ j within. rw to (λ here. omega (arith, long)))
                 ∙ recorded .done .0 (omega arith)) ∙ sym next),
             (λ late. absurd (omega arith)),
           );
           parts = λ j within there soon. absurd (omega arith);
         })
       where
+        to : w ≡ writeOf backup (recordStamp c) (numberWords (r .number))
+        to = write-stamp d backup c r (listPrices list) eight s at
+
+        long : length (numberWords (r .number)) ≡ numberSize
+        long = length-number (r .number)
+
         next : r .number ≡ suc (last .number)
         next = numbers .0 (omega (arith, at))
-
-        elsewhere : (o : ℕ) → 20 + 18 * c ≤ o → o < 38 + 18 * c → recordStamp c ≢ o → f′ o ≡ f o
-        elsewhere o above under apart =
-            other-word o (recordStamp c) above under
-            (ap (λ w. w .offset) (write-stamp d backup c r (listPrices list) eight s at)) apart
 
     done-recorded : s ≡ 4 * length (listPrices list) + 9 → Recorded c (opened r list s) last f
         → Recorded c (opened r list (suc s)) last′ f′
     done-recorded at recorded =
         rw (after .plain (omega arith))
         (record {
-          stamped = elsewhere (recordStamp c) (omega arith) (omega arith) (λ e. omega arith) ∙ recorded .stamped;
+          stamped = other-number (recordStamp c) (stamp-in c) (λ j within. rw to (λ here. omega (arith, long)))
+              ∙ recorded .stamped;
           desked = λ j within.
-              elsewhere (recordDesk c (last .number) + j) (omega arith) (omega arith) (λ e. omega arith)
+              other-word _ (desk-in c (last .number) j within) (rw to (λ here. omega (arith, long)))
               ∙ recorded .desked j within;
           done = (
             (λ soon. absurd (omega arith)),
             (λ late soon. absurd (omega arith)),
-            (λ late. marked ∙ ap (λ l. l .number) (sym (numbers .1 (omega (arith, at))))),
+            (λ late. this-number (recordDone c) (done-in c) to
+                ∙ ap (λ l. l .number) (sym (numbers .1 (omega (arith, at))))),
           );
           parts = λ j within there soon. absurd (omega arith);
         })
       where
-        marked : f′ (recordDone c) ≡ r .number
-        marked =
-            wrote (recordDone c) (omega arith) (omega arith)
-            ∙ rw (write-done d backup c r (listPrices list) eight s at) (written-here _ backup _ _ refl refl)
+        to : w ≡ writeOf backup (recordDone c) (numberWords (r .number))
+        to = write-done d backup c r (listPrices list) eight s at
 
-        elsewhere : (o : ℕ) → 20 + 18 * c ≤ o → o < 38 + 18 * c → recordDone c ≢ o → f′ o ≡ f o
-        elsewhere o above under apart =
-            other-word o (recordDone c) above under
-            (ap (λ w. w .offset) (write-done d backup c r (listPrices list) eight s at)) apart
+        long : length (numberWords (r .number)) ≡ numberSize
+        long = length-number (r .number)
 
     pub step-recorded : Recorded c (opened r list s) last f → Recorded c (opened r list (suc s)) last′ f′
     step-recorded recorded = go (phase (length (listPrices list)) s (omega arith))
       where
         go : Phase (length (listPrices list)) s → Recorded c (opened r list (suc s)) last′ f′
         go (to-tentative early) =
-            let at = ap (λ w. w .offset) (write-tentative d backup c r (listPrices list) eight s early) in
-            same-record (λ o above under. other-word o _ above under at (λ e. omega arith)) (omega arith)
+            let to = write-tentative d backup c r (listPrices list) eight s early in
+            same-record (λ o inside. other-word o inside (rw to (λ here. omega arith))) (omega arith)
             ((λ _. recorded .done .0 (omega arith)), (λ late _. absurd (omega arith)), (λ late. absurd (omega arith)))
             (λ j within there soon. absurd (omega arith)) recorded
         go (to-desk i at inside) = desk-recorded i at inside recorded
         go (to-stamp at) = stamp-recorded at recorded
         go (to-committed i at inside) =
-            let to = ap (λ w. w .offset) (write-committed d backup c r (listPrices list) eight s i at inside) in
-            same-record (λ o above under. other-word o _ above under to (λ e. omega arith)) (omega arith) (
+            let to = write-committed d backup c r (listPrices list) eight s i at inside in
+            same-record (λ o inside. other-word o inside (rw to (λ here. omega arith))) (omega arith) (
               (λ soon. absurd (omega arith)),
               (λ late _. recorded .done .1 (omega arith) (omega arith)),
               (λ late. absurd (omega arith)),
@@ -221,7 +233,7 @@ module _ (r : Release) (list : List ℕ) (s : ℕ) (last last′ : Release)
 
 -- the close leaves the record, which is settled
 pub close-recorded : (c : ℕ) (r : Release) (list : List ℕ) (s : ℕ) (last : Release) (f f′ : ℕ → ℕ)
-    → 4 * length (listPrices list) + 10 ≤ s → ((o : ℕ) → 20 + 18 * c ≤ o → o < 38 + 18 * c → f′ o ≡ f o)
+    → 4 * length (listPrices list) + 10 ≤ s → ((o : ℕ) → In (recordRegion c) o → f′ o ≡ f o)
     → Recorded c (opened r list s) last f → Recorded c none last f′
 close-recorded c r list s last f f′ past same recorded =
     recorded-kept c none last f f′ same

@@ -2,12 +2,13 @@
 -- the pages are restored and copied to new homes.
 use Rattle.laws.proofs.Prelude.{ℕ, _+_, _*_, _≤_, _<_, _≡_, refl, sym, _∙_, _≢_, _⊎_, inl, inr, List, Bool, true, false}
 use Rattle.laws.proofs.Prelude.{arith, ℕ-discrete, length}
-use Rattle.memory.specs.Layout.{recordStamp, recordDone}
-use Rattle.memory.specs.Area.{load}
 use Rattle.directory.specs.declared.Directory.{Directory}
 use Rattle.directory.specs.Directory.{isLive, primaryOf, nextLiveOf}
+use Rattle.area.specs.Prelude.{load, recordStamp, recordDone, tentative, committed, pagesStart, pageSize, underWay}
+use Rattle.area.specs.Prelude.{loadNumber}
+use Rattle.area.proofs.Prelude.{recorded-is, under-way-yes, under-way-no, In, recordRegion, stamp-in, done-in, desk-in}
+use Rattle.area.proofs.Prelude.{number-kept}
 use Rattle.protocol.specs.Release.{sizeOf}
-use Rattle.protocol.specs.Record.{underWay}
 use Rattle.protocol.specs.Recovery.{backupBefore, closeReleases, restoredMemory, keptHome, newHome}
 use Rattle.protocol.specs.Recovery.{copyToNewHomes, failedRelease}
 use Rattle.protocol.specs.Book.{Book, countOpen, clearOpen}
@@ -20,7 +21,6 @@ use Rattle.protocol.proofs.recovery.Closing.{close-core-all}
 use Rattle.protocol.proofs.recovery.Restoring.{source, halfWord, RestoredBelow, restored}
 use Rattle.protocol.proofs.recovery.Copying.{BothHalves, HomesCopied, homes-copied}
 use Rattle.protocol.proofs.recovery.Homes.{kept-primary, kept-secondary}
-use Rattle.protocol.proofs.records.Reading.{recorded-is, under-way-yes, under-way-no}
 use Rattle.protocol.proofs.invariant.Rack.{AwaitingRack, stampOf, doneOf, next-is-live, next-is-other}
 use Rattle.protocol.proofs.book.Counting.{count-open-last}
 
@@ -51,9 +51,15 @@ module _ (d : Directory) (f : ℕ) (m : List ℕ) (b : Book) (rack : AwaitingRac
   up = next-is-live d (rack .two) (rack .core .shape .below) f
 
   -- f's record is not touched
-  record-kept : (o : ℕ) → 20 + 18 * f ≤ o → o < 38 + 18 * f
+  record-kept : (o : ℕ) → In (recordRegion f) o
       → load (sizeOf d) memoryClosed (nextLiveOf d f) o ≡ load (sizeOf d) m (nextLiveOf d f) o
-  record-kept o above below = closed .dead f (nextLiveOf d f) o (rack .lost) (rack .real) up above below
+  record-kept o in-record = closed .dead f (nextLiveOf d f) o (rack .lost) (rack .real) up in-record
+
+  stamp-kept : loadNumber (sizeOf d) memoryClosed (nextLiveOf d f) (recordStamp f) ≡ stampOf d f m
+  stamp-kept = number-kept _ (recordStamp f) _ (λ j within. record-kept _ (stamp-in f j within))
+
+  done-kept : loadNumber (sizeOf d) memoryClosed (nextLiveOf d f) (recordDone f) ≡ doneOf d f m
+  done-kept = number-kept _ (recordDone f) _ (λ j within. record-kept _ (done-in f j within))
 
   pub last-same : (g : ℕ) → isLive d g ≡ false → bookAfter .last g ≡ b .last g
   last-same g dead = count-open-last b g (rack .core .gone g dead)
@@ -65,8 +71,8 @@ module _ (d : Directory) (f : ℕ) (m : List ℕ) (b : Book) (rack : AwaitingRac
       recorded-is (sizeOf d) memoryClosed (nextLiveOf d f) f (b .last f)
       (area-of-live (closed .shape) (nextLiveOf d f) up)
       (omega arith)
-      few (rack .core .last-eight f) (record-kept (recordStamp f) (omega arith) (omega arith) ∙ rack .stamped)
-      (λ j within. record-kept _ (omega arith) (omega arith) ∙ rack .desked j within)
+      few (rack .core .last-eight f) (stamp-kept ∙ rack .stamped)
+      (λ j within. record-kept _ (desk-in f (b .last f .number) j within) ∙ rack .desked j within)
 
   abbrev forward : Bool
   forward = underWay (sizeOf d) memoryClosed (nextLiveOf d f) f
@@ -85,15 +91,12 @@ module _ (d : Directory) (f : ℕ) (m : List ℕ) (b : Book) (rack : AwaitingRac
   source-is-price true is h p w word =
       let differ : stampOf d f m ≢ doneOf d f m = λ same.
       under-way-yes (sizeOf d) memoryClosed (nextLiveOf d f) f is
-      (record-kept (recordStamp f) (omega arith) (omega arith) ∙ same
-      ∙ sym (record-kept (recordDone f) (omega arith) (omega arith))) in
+      (stamp-kept ∙ same ∙ sym done-kept) in
       idle-words d (tentatives d (backupBefore d f)) (bookAfter .release) (bookAfter .price) memoryClosed (λ c. refl)
       (closed .tentative differ) h p w word
   source-is-price false is h p w word =
       let same : stampOf d f m ≡ doneOf d f m =
-      sym (record-kept (recordStamp f) (omega arith) (omega arith))
-      ∙ under-way-no (sizeOf d) memoryClosed (nextLiveOf d f) f is ∙ record-kept (recordDone f) (omega arith)
-      (omega arith) in
+      sym stamp-kept ∙ under-way-no (sizeOf d) memoryClosed (nextLiveOf d f) f is ∙ done-kept in
       idle-words d (committeds d (backupBefore d f)) (bookAfter .release) (bookAfter .price) memoryClosed (λ c. refl)
       (closed .committed same) h p w word
 
@@ -102,7 +105,7 @@ module _ (d : Directory) (f : ℕ) (m : List ℕ) (b : Book) (rack : AwaitingRac
       → BothHalves (sizeOf d) (bookAfter .price) memoryRestored h p
   restored-both-halves h p live home page = go forward refl pages-restored
     where
-      word : (w : ℕ) → w < 32 → HomeWord d h p w
+      word : (w : ℕ) → w < pageSize → HomeWord d h p w
       word w within = record { live = live; home = home; page = page; word = within }
 
       go : (way : Bool) → forward ≡ way → RestoredBelow d way (d .pages) memoryClosed memoryRestored
@@ -158,7 +161,7 @@ module _ (d : Directory) (f : ℕ) (m : List ℕ) (b : Book) (rack : AwaitingRac
       (λ p page lost. kept-home p page .0) (λ p page lost. kept-both-halves p page) (λ p page lost. new-home p)
 
   -- every word below the pages is as it was when the releases were closed
-  pub low-kept : (h o : ℕ) → o < 676 → load (sizeOf d) memoryCopied h o ≡ load (sizeOf d) memoryClosed h o
+  pub low-kept : (h o : ℕ) → o < pagesStart → load (sizeOf d) memoryCopied h o ≡ load (sizeOf d) memoryClosed h o
   low-kept h o small = pages-copied .low h o small ∙ pages-restored .low h o small
 
   pub pages-length : length memoryCopied ≡ length memoryClosed

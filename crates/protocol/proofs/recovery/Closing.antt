@@ -3,11 +3,10 @@
 use Rattle.laws.proofs.Prelude.{ℕ, zero, suc, _+_, _-_, _≤_, _<_, _≡_, refl, sym, _∙_, subst, List, Bool, true, false}
 use Rattle.laws.proofs.Prelude.{_&&_, true≢false, arith, length, eqb}
 use Rattle.laws.specs.Search.{inTurn}
-use Rattle.memory.specs.Layout.{openFlag}
-use Rattle.memory.specs.Area.{load}
 use Rattle.directory.specs.declared.Directory.{Directory}
 use Rattle.directory.specs.Directory.{isLive}
-use Rattle.protocol.specs.Release.{Release, sizeOf, isOpen, stepMemory, stepsIn}
+use Rattle.area.specs.Prelude.{load, openFlag, Release, isOpen}
+use Rattle.protocol.specs.Release.{sizeOf, stepMemory, stepsIn}
 use Rattle.protocol.specs.Recovery.{backupBefore, stepTimes, runToClose, closeReleases}
 use Rattle.protocol.specs.Book.{Opened, none, opened, listPrices, Book, stepBook, countOpen, clearOpen}
 use Rattle.protocol.proofs.invariant.Core.{Core, OpenStands, Standing}
@@ -63,7 +62,7 @@ module _ (d : Directory) (f : ℕ) (old : ℕ → ℕ → ℕ) (T C : Type 0) wh
       (standing : OpenStands (d .pages) m c r list s) where
     is-open : isOpen (d .live) (sizeOf d) m c ≡ true
     unfolding isOpen
-    is-open = rw (live, standing .word-9)
+    is-open = rw (live, standing .flagged)
 
     runs : s < stepsIn (length (listPrices list))
         → runToClose d f c m ≡ stepTimes d (backupBefore d f c) c (suc (stepsIn (length (listPrices list)) - suc s)) m

@@ -2,24 +2,23 @@
 use Rattle.laws.proofs.Prelude.{ℕ, zero, suc, _+_, _*_, _≤_, _<_, _≡_, refl, sym, _∙_, _≢_, _⊎_, inl, inr, List, Bool}
 use Rattle.laws.proofs.Prelude.{true, false, true≢false, arith, ℕ-discrete, length}
 use Rattle.laws.specs.Search.{inTurn}
-use Rattle.memory.specs.Layout.{pageStart, pageSize, tentative, tentativeHalf, committedHalf}
-use Rattle.memory.specs.Area.{load, copyRun}
-use Rattle.memory.proofs.Index.{Outside, outside-other-card, outside-below, outside-other-offset}
-use Rattle.memory.proofs.Runs.{length-copy-run, load-copy-run-outside, load-copy-run-inside}
 use Rattle.directory.specs.declared.Directory.{Directory}
 use Rattle.directory.specs.Directory.{isLive}
+use Rattle.area.specs.Prelude.{load, copyRun, pageAt, pageSize, tentativeHalf, committedHalf, pagesStart, bothHalves}
+use Rattle.area.proofs.Prelude.{outside, NotIn, pageRegion, length-copy-run, load-copy-run-outside}
+use Rattle.area.proofs.Prelude.{load-copy-run-inside}
 use Rattle.protocol.specs.Release.{sizeOf}
 use Rattle.protocol.specs.Recovery.{lostHome, keptHome, newHome, copyToNewHome, copyToNewHomes}
 use Rattle.protocol.proofs.release.Shape.{Shape, area-of-live, shape-kept}
 
 -- both halves of a page at a card are the book's
 pub record BothHalves (size : ℕ) (price : ℕ → ℕ) (m : List ℕ) (h p : ℕ) : Type 0 where
-  pub tentatives : (w : ℕ) → w < 32 → load size m h (pageStart p + (tentativeHalf + w)) ≡ price (32 * p + w)
-  pub committeds : (w : ℕ) → w < 32 → load size m h (pageStart p + (committedHalf + w)) ≡ price (32 * p + w)
+  pub tentatives : (w : ℕ) → w < pageSize → load size m h (pageAt p + (tentativeHalf + w)) ≡ price (32 * p + w)
+  pub committeds : (w : ℕ) → w < pageSize → load size m h (pageAt p + (committedHalf + w)) ≡ price (32 * p + w)
 
 -- a page whose words are those of a page both of whose halves are the book's
 pub both-halves-same : {size : ℕ} {price : ℕ → ℕ} {m m′ : List ℕ} {h h′ p : ℕ}
-    → ((o : ℕ) → o < 64 → load size m′ h′ (pageStart p + o) ≡ load size m h (pageStart p + o))
+    → ((o : ℕ) → o < bothHalves → load size m′ h′ (pageAt p + o) ≡ load size m h (pageAt p + o))
     → BothHalves size price m h p
     → BothHalves size price m′ h′ p
 both-halves-same same both =
@@ -33,8 +32,8 @@ both-halves-same same both =
 module _ (d : Directory) (f page : ℕ) (m : List ℕ) where
   copies : lostHome d f page ≡ true
       → copyToNewHome d f page m
-      ≡ copyRun (sizeOf d) m (keptHome d f page) (tentative page) (newHome d f page) (tentative page)
-      (pageSize + pageSize)
+      ≡ copyRun (sizeOf d) m (keptHome d f page) (pageAt page) (newHome d f page) (pageAt page)
+      bothHalves
   unfolding copyToNewHome
   copies lost = rw lost
 
@@ -43,36 +42,36 @@ module _ (d : Directory) (f page : ℕ) (m : List ℕ) where
   copies-not whole = rw whole
 
   module _ (lost : lostHome d f page ≡ true) (fits : page < d .pages) where
-    outside : (h o : ℕ) → Outside (sizeOf d) (newHome d f page) (tentative page) (pageSize + pageSize) h o
+    elsewhere : {A : Type 0} (h o : ℕ) → (h ≢ newHome d f page) ⊎ A → (A → NotIn (pageRegion page) o) → o < sizeOf d
         → load (sizeOf d) (copyToNewHome d f page m) h o ≡ load (sizeOf d) m h o
-    outside h o elsewhere =
-        rw (copies lost) (load-copy-run-outside (sizeOf d) m _ _ _ _ (pageSize + pageSize) h o elsewhere)
+    elsewhere h o apart known inside =
+        rw (copies lost)
+        (load-copy-run-outside (sizeOf d) m _ _ _ _ bothHalves h o
+        (outside (pageRegion page) apart known (omega arith) inside))
 
-    copied-low : (h o : ℕ) → o < 676 → load (sizeOf d) (copyToNewHome d f page m) h o ≡ load (sizeOf d) m h o
-    copied-low h o low = outside h o (outside-below (omega arith) (omega arith))
+    copied-low : (h o : ℕ) → o < pagesStart → load (sizeOf d) (copyToNewHome d f page m) h o ≡ load (sizeOf d) m h o
+    copied-low h o low = elsewhere h o (inr low) (λ _ here. omega arith) (omega arith)
 
-    copied-elsewhere : (h p o : ℕ) → p < d .pages → o < 64 → (h ≢ newHome d f page) ⊎ (p ≢ page)
-        → load (sizeOf d) (copyToNewHome d f page m) h (pageStart p + o) ≡ load (sizeOf d) m h (pageStart p + o)
-    copied-elsewhere h p o inside within (inl other) = outside h _
-        (outside-other-card other (omega arith) (omega arith))
-    copied-elsewhere h p o inside within (inr other) =
-        outside h _ (outside-other-offset (λ j below e. omega arith) (omega arith) (omega arith))
+    copied-elsewhere : (h p o : ℕ) → p < d .pages → o < bothHalves → (h ≢ newHome d f page) ⊎ (p ≢ page)
+        → load (sizeOf d) (copyToNewHome d f page m) h (pageAt p + o) ≡ load (sizeOf d) m h (pageAt p + o)
+    copied-elsewhere h p o inside within apart =
+        elsewhere h (pageAt p + o) apart (λ other here. omega arith) (omega arith)
 
     copied-there : Shape d m → isLive d (keptHome d f page) ≡ true → isLive d (newHome d f page) ≡ true → (o : ℕ)
-        → o < 64
-        → load (sizeOf d) (copyToNewHome d f page m) (newHome d f page) (pageStart page + o)
-        ≡ load (sizeOf d) m (keptHome d f page) (pageStart page + o)
+        → o < bothHalves
+        → load (sizeOf d) (copyToNewHome d f page m) (newHome d f page) (pageAt page + o)
+        ≡ load (sizeOf d) m (keptHome d f page) (pageAt page + o)
     copied-there shape kept new o within =
         rw (copies lost)
-        (load-copy-run-inside (sizeOf d) m (keptHome d f page) (tentative page) (newHome d f page) (tentative page)
-        (pageSize + pageSize) (area-of-live shape _ kept) (area-of-live shape _ new) (omega arith) (omega arith) o
+        (load-copy-run-inside (sizeOf d) m (keptHome d f page) (pageAt page) (newHome d f page) (pageAt page)
+        bothHalves (area-of-live shape _ kept) (area-of-live shape _ new) (omega arith) (omega arith) o
         within)
 
 -- ---- the pages below n
 
 pub record HomesCopied (d : Directory) (f : ℕ) (price : ℕ → ℕ) (n : ℕ) (m m′ : List ℕ) : Type 0 where
   pub same-length : length m′ ≡ length m
-  pub low : (h o : ℕ) → o < 676 → load (sizeOf d) m′ h o ≡ load (sizeOf d) m h o
+  pub low : (h o : ℕ) → o < pagesStart → load (sizeOf d) m′ h o ≡ load (sizeOf d) m h o
   pub stays : (h p : ℕ) → p < d .pages → BothHalves (sizeOf d) price m h p → BothHalves (sizeOf d) price m′ h p
   pub new : (p : ℕ) → p < n → p < d .pages → lostHome d f p ≡ true → BothHalves (sizeOf d) price m′ (newHome d f p) p
 

@@ -1,20 +1,19 @@
 -- The records after a recovery: the failed card's on every live card, and that of each card whose backup it was on the
 -- card's new backup. Own words, pages and the other records stay as they were.
-use Rattle.laws.proofs.Prelude.{ℕ, _+_, _*_, _≤_, _<_, _≡_, refl, sym, _∙_, _≢_, _⊎_, inl, inr, List, Bool, true, false}
-use Rattle.laws.proofs.Prelude.{true≢false, arith, ℕ-discrete, decLt, eq-eqb, eqb-true, length}
+use Rattle.laws.proofs.Prelude.{ℕ, _+_, _<_, _≡_, refl, sym, _∙_, _≢_, List, Bool, true, false, true≢false, arith}
+use Rattle.laws.proofs.Prelude.{ℕ-discrete, eq-eqb, eqb-true, length}
 use Rattle.laws.specs.Search.{inTurn}
 use Rattle.laws.proofs.Bools.{and-first, and-second}
-use Rattle.memory.specs.Layout.{pageStart}
-use Rattle.memory.specs.Area.{load}
 use Rattle.directory.specs.declared.Directory.{Directory}
 use Rattle.directory.specs.Directory.{isLive, backupOf, markedLive}
 use Rattle.directory.proofs.Live.{next-live-kept}
-use Rattle.protocol.specs.Release.{Release, sizeOf, ownRelease}
-use Rattle.protocol.specs.Record.{writeOwnRecord}
+use Rattle.area.specs.Prelude.{load, pageAt, recordsStart, bothHalves, Release, ownRelease, writeOwnRecord}
+use Rattle.area.proofs.Prelude.{own-words-kept, In, recordRegion, records-apart}
+use Rattle.protocol.specs.Release.{sizeOf}
 use Rattle.protocol.specs.Recovery.{backupBefore, closeReleases, restoredMemory, copyToNewHomes, failedRelease}
 use Rattle.protocol.specs.Recovery.{writeFailed, backupWas, writeRecords}
 use Rattle.protocol.specs.Book.{none, Book, countOpen, clearOpen}
-use Rattle.protocol.proofs.release.Shape.{Shape, area-of-live, shape-kept, own-words-kept}
+use Rattle.protocol.proofs.release.Shape.{Shape, area-of-live, shape-kept}
 use Rattle.protocol.proofs.records.Recorded.{Recorded, recorded-kept}
 use Rattle.protocol.proofs.records.Failed.{FailedBelow, failed-below}
 use Rattle.protocol.proofs.records.Own.{OwnBelow, own-below}
@@ -24,9 +23,9 @@ use Rattle.protocol.proofs.recovery.BeforeRecords as before-records
 -- the memory with the records written, beside that with the releases closed and that with the pages copied
 pub record RecordsWritten (d : Directory) (b : Book) (memoryClosed memoryCopied memoryRecorded : List ℕ) : Type 0 where
   pub same-length : length memoryRecorded ≡ length memoryClosed
-  pub own-word : (c o : ℕ) → o < 20 → load (sizeOf d) memoryRecorded c o ≡ load (sizeOf d) memoryClosed c o
-  pub page-word : (h p o : ℕ) → p < d .pages → o < 64
-      → load (sizeOf d) memoryRecorded h (pageStart p + o) ≡ load (sizeOf d) memoryCopied h (pageStart p + o)
+  pub own-word : (c o : ℕ) → o < recordsStart → load (sizeOf d) memoryRecorded c o ≡ load (sizeOf d) memoryClosed c o
+  pub page-word : (h p o : ℕ) → p < d .pages → o < bothHalves
+      → load (sizeOf d) memoryRecorded h (pageAt p + o) ≡ load (sizeOf d) memoryCopied h (pageAt p + o)
   -- a live card's record stands on its backup, a dead card's on every live card
   pub live-recorded : (c : ℕ) → isLive d c ≡ true
       → Recorded c none (b .last c) (load (sizeOf d) memoryRecorded (backupOf d c))
@@ -73,7 +72,7 @@ module _ (d : Directory) (f : ℕ) (m : List ℕ) (b : Book) (rack : AwaitingRac
   own-still c =
       own-words-kept (sizeOf d) memoryClosed memoryFailed c
       (failed .same-length ∙ before-records.pages-length d f m b rack)
-      (λ o small. failed .same c o (omega arith) (inl (omega arith))
+      (λ o small. failed .same c o (omega arith) (λ here. omega arith)
       ∙ before-records.low-kept d f m b rack c o (omega arith))
 
   own-last : (c : ℕ) → isLive d c ≡ true → ownRelease (sizeOf d) memoryClosed c ≡ bookAfter .last c
@@ -106,27 +105,23 @@ module _ (d : Directory) (f : ℕ) (m : List ℕ) (b : Book) (rack : AwaitingRac
       (λ c due. rw (own-still c, own-last c (due-live c due)) (before-records.closed d f m b rack .last-eight c))
       (d .cards)
 
-  own-word : (c o : ℕ) → o < 20 → load (sizeOf d) memoryRecorded c o ≡ load (sizeOf d) memoryClosed c o
+  own-word : (c o : ℕ) → o < recordsStart → load (sizeOf d) memoryRecorded c o ≡ load (sizeOf d) memoryClosed c o
   own-word c o low =
-      backed .low c o low ∙ failed .same c o (omega arith) (inl (omega arith))
+      backed .low c o low ∙ failed .same c o (omega arith) (λ here. omega arith)
       ∙ before-records.low-kept d f m b rack c o (omega arith)
 
-  page-word : (h p o : ℕ) → p < d .pages → o < 64
-      → load (sizeOf d) memoryRecorded h (pageStart p + o) ≡ load (sizeOf d) memoryCopied h (pageStart p + o)
+  page-word : (h p o : ℕ) → p < d .pages → o < bothHalves
+      → load (sizeOf d) memoryRecorded h (pageAt p + o) ≡ load (sizeOf d) memoryCopied h (pageAt p + o)
   page-word h p o page within =
-      backed .high h _ (omega arith) (omega arith) ∙ failed .same h _ (omega arith) (inr (omega (arith, few)))
+      backed .high h _ (omega arith) (omega arith) ∙ failed .same h _ (omega arith) (λ here. omega (arith, few))
 
   -- a record that is not written
-  other-record : (g h o : ℕ) → g < 8 → g ≢ f → (isLive d g ≡ true → backupBefore d f g ≢ f) → 20 + 18 * g ≤ o
-      → o < 38 + 18 * g
+  other-record : (g h o : ℕ) → g < 8 → g ≢ f → (isLive d g ≡ true → backupBefore d f g ≢ f) → In (recordRegion g) o
       → load (sizeOf d) memoryRecorded h o ≡ load (sizeOf d) memoryClosed h o
-  other-record g h o little other not-his above below =
-      backed .records g h o little (not-due g not-his) above below
-      ∙ failed .same h o (omega arith) (apart (decLt g f)) ∙ before-records.low-kept d f m b rack h o (omega arith)
-    where
-      apart : Dec (g < f) → (o < 20 + 18 * f) ⊎ (38 + 18 * f ≤ o)
-      apart (yes less) = inl (omega arith)
-      apart (no more) = inr (omega arith)
+  other-record g h o little other not-his in-record =
+      backed .records g h o little (not-due g not-his) in-record
+      ∙ failed .same h o (omega arith) (records-apart other in-record)
+      ∙ before-records.low-kept d f m b rack h o (omega arith)
 
   -- a card whose backup was not f has the same backup still
   same-backup : (c : ℕ) → backupBefore d f c ≢ f → backupOf d c ≡ backupBefore d f c
@@ -144,7 +139,7 @@ module _ (d : Directory) (f : ℕ) (m : List ℕ) (b : Book) (rack : AwaitingRac
         | no other ↦
             rw (same-backup c other)
             (recorded-kept c none (bookAfter .last c) _ _
-            (λ o above below. other-record c _ o (small c live) (not-failed c live) (λ _. other) above below)
+            (λ o in-record. other-record c _ o (small c live) (not-failed c live) (λ _. other) in-record)
             (before-records.closed d f m b rack .recorded c live (rw (← (same-backup c other)) (backups c))))
       ]
     where
@@ -159,17 +154,17 @@ module _ (d : Directory) (f : ℕ) (m : List ℕ) (b : Book) (rack : AwaitingRac
         | yes same ↦
             rw (same, before-records.last-same d f m b rack f (rack .lost), ← (before-records.answers d f m b rack))
             (recorded-kept f none r _ _
-            (λ o above below. backed .records f h o few (not-due f (λ up. absurd (true≢false (sym up ∙ rack .lost))))
-            above below)
+            (λ o in-record. backed .records f h o few (not-due f (λ up. absurd (true≢false (sym up ∙ rack .lost))))
+            in-record)
             (failed .recorded h (rack .core .shape .below h live) live))
         | no other ↦
             rw (before-records.last-same d f m b rack g dead)
             (recorded-kept g none (b .last g) _ _
-            (λ o above below.
+            (λ o in-record.
             other-record g h o (omega (arith, rack .core .shape .few-cards)) other
             (λ up. absurd (true≢false (sym up ∙ dead)))
-            above below
-            ∙ before-records.closed d f m b rack .dead g h o dead less live above below)
+            in-record
+            ∙ before-records.closed d f m b rack .dead g h o dead less live in-record)
             (rack .records g h dead other less live))
       ]
 

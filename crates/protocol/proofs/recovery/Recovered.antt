@@ -1,16 +1,15 @@
 -- The rack after a recovery: it runs, beside the book that counted and struck out.
 use Rattle.laws.proofs.Prelude.{ℕ, _<_, _≡_, refl, sym, _∙_, _≢_, _⊎_, inl, inr, List, Bool, true, false, arith}
-use Rattle.memory.specs.Layout.{openFlag}
-use Rattle.memory.specs.Area.{load}
 use Rattle.directory.specs.declared.Directory.{Directory}
 use Rattle.directory.specs.declared.Status.the-variants.{Running}
 use Rattle.directory.specs.Directory.{directoryOf, isLive, primaryOf, secondaryOf, backupOf}
+use Rattle.area.specs.Prelude.{load, openFlag, tentative, committed}
+use Rattle.area.proofs.Prelude.{own-words-kept}
 use Rattle.diff.proofs.Prices.{names-none}
 use Rattle.protocol.specs.Release.{sizeOf}
 use Rattle.protocol.specs.Recovery.{closeReleases, restoredMemory, lostHome, keptHome, newHome, copyToNewHomes}
 use Rattle.protocol.specs.Recovery.{failedRelease, writeRecords, recoveredDirectory, recoveredMemory}
 use Rattle.protocol.specs.Book.{Book, countOpen, clearOpen}
-use Rattle.protocol.proofs.release.Shape.{own-words-kept}
 use Rattle.protocol.proofs.release.WordAfter.{HomeOf}
 use Rattle.protocol.proofs.claims.Claim.{claim-idle}
 use Rattle.protocol.proofs.claims.Halves.{tentatives, committeds}
@@ -19,8 +18,8 @@ use Rattle.protocol.proofs.recovery.Copying.{BothHalves, both-halves-sa
 use Rattle.protocol.proofs.recovery.Homes.{MovedBelow, movedHomes, moved, recovered-parts, whole-primary}
 use Rattle.protocol.proofs.recovery.Homes.{whole-secondary, kept-primary}
 use Rattle.protocol.proofs.invariant.Rack.{RunningRack, AwaitingRack}
-use Rattle.protocol.proofs.recovery.BeforeRecords as before-records
 use Rattle.protocol.proofs.recovery.Records.{RecordsWritten, records-written}
+use Rattle.protocol.proofs.recovery.BeforeRecords as before-records
 
 module _ (d : Directory) (f : ℕ) (m : List ℕ) (b : Book) (rack : AwaitingRack d f m b) where
   abbrev bookAfter : Book
@@ -127,7 +126,7 @@ module _ (d : Directory) (f : ℕ) (m : List ℕ) (b : Book) (rack : AwaitingRac
             (bookAfter .price) memoryRecorded (λ c. refl)
             (λ h p w word. home-both-halves h p (word .home) (word .page) .committeds w (word .word));
         recorded = λ c live up. written .live-recorded c live;
-        dead = λ g h o gone less live above below. refl;
+        dead = λ g h o gone less live in-record. refl;
       }
 
   runs : RunningRack d′ memoryRecorded bookAfter

@@ -4,12 +4,12 @@ use Rattle.laws.proofs.Prelude.{ℕ, zero, suc, _+_, _≤_, _<_, _≡_, refl, _
 use Rattle.laws.proofs.Prelude.{false, cond, arith, ℕ-discrete, length}
 use native.Mathlib.Nat.{add-zero}
 use Rattle.laws.specs.Search.{inTurn}
-use Rattle.memory.specs.Layout.{pageStart, pageSize, tentative, committed, tentativeHalf, committedHalf}
-use Rattle.memory.specs.Area.{load, copyRun}
-use Rattle.memory.proofs.Index.{Outside, outside-other-card, outside-below, outside-other-offset}
-use Rattle.memory.proofs.Runs.{length-copy-run, load-copy-run-outside, load-copy-run-inside}
 use Rattle.directory.specs.declared.Directory.{Directory}
 use Rattle.directory.specs.Directory.{isLive, primaryOf, secondaryOf}
+use Rattle.area.specs.Prelude.{load, copyRun, pageAt, pageSize, tentative, committed, tentativeHalf, committedHalf}
+use Rattle.area.specs.Prelude.{pagesStart}
+use Rattle.area.proofs.Prelude.{outside, NotIn, halfRegion, length-copy-run, load-copy-run-outside}
+use Rattle.area.proofs.Prelude.{load-copy-run-inside}
 use Rattle.protocol.specs.Release.{sizeOf}
 use Rattle.protocol.specs.Recovery.{restoreHome, restorePage, restorePages}
 use Rattle.protocol.proofs.release.Shape.{Shape, area-of-live, shape-kept}
@@ -24,13 +24,14 @@ target forward = cond forward committedHalf tentativeHalf
 
 -- a word of a half of a page
 abbrev pub halfWord : ℕ → List ℕ → ℕ → ℕ → ℕ → ℕ → ℕ
-halfWord size m h p half w = load size m h (pageStart p + (half + w))
+halfWord size m h p half w = load size m h (pageAt p + (half + w))
 
-halves-apart : (forward : Bool) → (source forward + 32 ≤ target forward) ⊎ (target forward + 32 ≤ source forward)
+halves-apart : (forward : Bool)
+    → (source forward + pageSize ≤ target forward) ⊎ (target forward + pageSize ≤ source forward)
 halves-apart true = inl (omega arith)
 halves-apart false = inr (omega arith)
 
-halves-small : (forward : Bool) → (source forward ≤ 32) × (target forward ≤ 32)
+halves-small : (forward : Bool) → (source forward ≤ pageSize) × (target forward ≤ pageSize)
 halves-small true = (omega arith, omega arith)
 halves-small false = (omega arith, omega arith)
 
@@ -39,7 +40,7 @@ halves-small false = (omega arith, omega arith)
 module _ (d : Directory) (forward : Bool) (page home : ℕ) (m : List ℕ) where
   -- a live home copies
   restores : isLive d home ≡ true → restoreHome d forward page home m
-      ≡ copyRun (sizeOf d) m home (pageStart page + source forward) home (pageStart page + target forward) pageSize
+      ≡ copyRun (sizeOf d) m home (pageAt page + source forward) home (pageAt page + target forward) pageSize
   unfolding restoreHome
   restores live = go forward
     where
@@ -47,9 +48,9 @@ module _ (d : Directory) (forward : Bool) (page home : ℕ) (m : List ℕ) where
           → cond (isLive d home)
           (cond forward (copyRun (sizeOf d) m home (tentative page) home (committed page) pageSize)
           (copyRun (sizeOf d) m home (committed page) home (tentative page) pageSize)) m
-          ≡ copyRun (sizeOf d) m home (pageStart page + source forward) home (pageStart page + target forward) pageSize
-      go true = rw (live, add-zero (pageStart page))
-      go false = rw (live, add-zero (pageStart page))
+          ≡ copyRun (sizeOf d) m home (pageAt page + source forward) home (pageAt page + target forward) pageSize
+      go true = rw (live, add-zero (pageAt page))
+      go false = rw (live, add-zero (pageAt page))
 
   -- a dead one does not
   restores-not : isLive d home ≡ false → restoreHome d forward page home m ≡ m
@@ -65,56 +66,51 @@ module _ (d : Directory) (forward : Bool) (page home : ℕ) (m : List ℕ) where
 
   module _ (fits : page < d .pages) where
     -- words outside the copied half
-    elsewhere : (h o : ℕ) → Outside (sizeOf d) home (pageStart page + target forward) pageSize h o
-        → load (sizeOf d) (restoreHome d forward page home m) h o ≡ load (sizeOf d) m h o
-    elsewhere h o outside = go (isLive d home) refl
+    elsewhere : {A : Type 0} (h o : ℕ) → (h ≢ home) ⊎ A → (A → NotIn (halfRegion page (target forward)) o)
+        → o < sizeOf d → load (sizeOf d) (restoreHome d forward page home m) h o ≡ load (sizeOf d) m h o
+    elsewhere h o apart known inside = go (isLive d home) refl
       where
         go : (up : Bool) → isLive d home ≡ up
             → load (sizeOf d) (restoreHome d forward page home m) h o ≡ load (sizeOf d) m h o
-        go true live = rw (restores live) (load-copy-run-outside (sizeOf d) m home _ home _ pageSize h o outside)
+        go true live =
+            rw (restores live)
+            (load-copy-run-outside (sizeOf d) m home _ home _ pageSize h o
+            (outside (halfRegion page (target forward)) apart known (omega (arith, halves-small forward .1)) inside))
         go false dead = rw (restores-not dead)
 
-    pub restore-low : (h o : ℕ) → o < 676
+    pub restore-low : (h o : ℕ) → o < pagesStart
         → load (sizeOf d) (restoreHome d forward page home m) h o ≡ load (sizeOf d) m h o
-    restore-low h o low =
-        elsewhere h o (outside-below (omega arith) (omega (arith, halves-small forward .1)))
+    restore-low h o low = elsewhere h o (inr low) (λ _ here. omega arith) (omega arith)
 
     -- the copied half, and every half of another page or card
-    pub restore-source : (h p w : ℕ) → p < d .pages → w < 32
+    pub restore-source : (h p w : ℕ) → p < d .pages → w < pageSize
         → halfWord (sizeOf d) (restoreHome d forward page home m) h p (source forward) w
         ≡ halfWord (sizeOf d) m h p (source forward) w
     restore-source h p w inside within =
-        elsewhere h _
-        (outside-other-offset (λ j below e. apart j below e (halves-apart forward))
-        (omega (arith, halves-small forward .1))
-        (omega (arith, halves-small forward .0)))
+        elsewhere h (pageAt p + (source forward + w)) (inr (halves-apart forward)) apart
+        (omega (arith, halves-small forward .0))
       where
-        apart : (j : ℕ) → j < pageSize → pageStart p + (source forward + w) ≡ pageStart page + target forward + j
-            → (source forward + 32 ≤ target forward) ⊎ (target forward + 32 ≤ source forward) → ⊥
-        apart j below e (inl first) = omega (arith, halves-small forward .1)
-        apart j below e (inr second) = omega (arith, halves-small forward .0)
+        apart : (source forward + pageSize ≤ target forward) ⊎ (target forward + pageSize ≤ source forward)
+            → NotIn (halfRegion page (target forward)) (pageAt p + (source forward + w))
+        apart (inl first) here = omega (arith, halves-small forward .1)
+        apart (inr second) here = omega (arith, halves-small forward .0)
 
-    pub restore-other : (h p w half : ℕ) → p < d .pages → w < 32 → half ≤ 32 → (h ≢ home) ⊎ (p ≢ page)
+    pub restore-other : (h p w half : ℕ) → p < d .pages → w < pageSize → half ≤ pageSize → (h ≢ home) ⊎ (p ≢ page)
         → halfWord (sizeOf d) (restoreHome d forward page home m) h p half w ≡ halfWord (sizeOf d) m h p half w
-    restore-other h p w half inside within small (inl other) =
-        elsewhere h _ (outside-other-card other (omega (arith, halves-small forward .1)) (omega arith))
-    restore-other h p w half inside within small (inr other) =
-        elsewhere h _
-        (outside-other-offset (λ j below e. omega (arith, halves-small forward .1))
-        (omega (arith, halves-small forward .1))
-        (omega arith))
+    restore-other h p w half inside within small apart =
+        elsewhere h (pageAt p + (half + w)) apart (λ other here. omega (arith, halves-small forward .1)) (omega arith)
 
     -- the half that it is copied to
-    pub restore-target : Shape d m → isLive d home ≡ true → (w : ℕ) → w < 32
+    pub restore-target : Shape d m → isLive d home ≡ true → (w : ℕ) → w < pageSize
         → halfWord (sizeOf d) (restoreHome d forward page home m) home page (target forward) w
         ≡ halfWord (sizeOf d) m home page (source forward) w
     restore-target shape live w within =
         let area = area-of-live shape home live in
-        let to : pageStart page + (target forward + w) ≡ pageStart page + target forward + w = omega arith in
-        let from : pageStart page + source forward + w ≡ pageStart page + (source forward + w) = omega arith in
+        let to : pageAt page + (target forward + w) ≡ pageAt page + target forward + w = omega arith in
+        let from : pageAt page + source forward + w ≡ pageAt page + (source forward + w) = omega arith in
         rw (restores live, to)
-        (load-copy-run-inside (sizeOf d) m home (pageStart page + source forward) home
-        (pageStart page + target forward) pageSize
+        (load-copy-run-inside (sizeOf d) m home (pageAt page + source forward) home
+        (pageAt page + target forward) pageSize
         area area (omega (arith, halves-small forward .0)) (omega (arith, halves-small forward .1)) w within
         ∙ rw from)
 
@@ -122,19 +118,19 @@ module _ (d : Directory) (forward : Bool) (page home : ℕ) (m : List ℕ) where
 
 pub record RestoredBelow (d : Directory) (forward : Bool) (n : ℕ) (m m′ : List ℕ) : Type 0 where
   pub same-length : length m′ ≡ length m
-  pub low : (h o : ℕ) → o < 676 → load (sizeOf d) m′ h o ≡ load (sizeOf d) m h o
-  pub kept : (h p w : ℕ) → p < d .pages → w < 32
+  pub low : (h o : ℕ) → o < pagesStart → load (sizeOf d) m′ h o ≡ load (sizeOf d) m h o
+  pub kept : (h p w : ℕ) → p < d .pages → w < pageSize
       → halfWord (sizeOf d) m′ h p (source forward) w ≡ halfWord (sizeOf d) m h p (source forward) w
-  pub copied : (h p w : ℕ) → p < n → p < d .pages → w < 32 → isLive d h ≡ true → HomeOf d h p
+  pub copied : (h p w : ℕ) → p < n → p < d .pages → w < pageSize → isLive d h ≡ true → HomeOf d h p
       → halfWord (sizeOf d) m′ h p (target forward) w ≡ halfWord (sizeOf d) m h p (source forward) w
 
 module _ (d : Directory) (forward : Bool) (m : List ℕ) (shape : Shape d m) where
   -- one home more of page n, with `done` saying which of its homes are copied
   one-home : (n home : ℕ) (m′ : List ℕ) (done : ℕ → Type 0) → n < d .pages → RestoredBelow d forward n m m′
-      → ((h w : ℕ) → w < 32 → isLive d h ≡ true → done h
+      → ((h w : ℕ) → w < pageSize → isLive d h ≡ true → done h
       → halfWord (sizeOf d) m′ h n (target forward) w ≡ halfWord (sizeOf d) m h n (source forward) w)
       → RestoredBelow d forward n m (restoreHome d forward n home m′)
-      × ((h w : ℕ) → w < 32 → isLive d h ≡ true → done h ⊎ (h ≡ home)
+      × ((h w : ℕ) → w < pageSize → isLive d h ≡ true → done h ⊎ (h ≡ home)
       → halfWord (sizeOf d) (restoreHome d forward n home m′) h n (target forward) w
       ≡ halfWord (sizeOf d) m h n (source forward) w)
   one-home n home m′ done fits below homes = (
@@ -151,7 +147,7 @@ module _ (d : Directory) (forward : Bool) (m : List ℕ) (shape : Shape d m) whe
     λ h w within live which. at h w within live which (ℕ-discrete h home),
   )
     where
-      at : (h w : ℕ) → w < 32 → isLive d h ≡ true → done h ⊎ (h ≡ home) → Dec (h ≡ home)
+      at : (h w : ℕ) → w < pageSize → isLive d h ≡ true → done h ⊎ (h ≡ home) → Dec (h ≡ home)
           → halfWord (sizeOf d) (restoreHome d forward n home m′) h n (target forward) w
           ≡ halfWord (sizeOf d) m h n (source forward) w
       at h w within live which (yes same) =

@@ -1,12 +1,13 @@
 -- What an opening makes of the words of an area: the release and its list stand there, and no other word changes.
-use Rattle.laws.proofs.Prelude.{ℕ, suc, _+_, _-_, _≤_, _<_, _≡_, refl, sym, ap, _∙_, _≢_, _⊎_, inl, inr, List, _∷_}
-use Rattle.laws.proofs.Prelude.{_++_, arith, length, getD}
+use Rattle.laws.proofs.Prelude.{ℕ, suc, _+_, _-_, _≤_, _<_, _≡_, refl, sym, ap, _∙_, _≢_, _⊎_, List, _∷_, _++_, arith}
+use Rattle.laws.proofs.Prelude.{length, getD}
 use native.Mathlib.Nat.{zero-add}
-use Rattle.memory.specs.Layout.{deskSize, openFlag, releaseDesk, listStart, listSize}
-use Rattle.memory.specs.Area.{AreaIn, load, loadRun, storeRun}
-use Rattle.memory.proofs.Index.{outside-other-card, outside-below, outside-above}
-use Rattle.memory.proofs.Runs.{length-store-run, load-store-run-outside, load-store-run-inside, load-run-store-run}
-use Rattle.memory.proofs.Runs.{load-run-append, load-run-is}
+use lib.ListN.{length-append}
+use Rattle.area.specs.Prelude.{AreaIn, load, loadRun, storeRun, releaseNumber, deskSize, openFlag, listStart, listSize}
+use Rattle.area.specs.Prelude.{ownSize, releaseSize, pagesStart, Release, openRelease, openList, releaseWords}
+use Rattle.area.proofs.Prelude.{outside-below, outside-fewer, length-store-run, load-store-run-outside}
+use Rattle.area.proofs.Prelude.{load-store-run-inside, load-run-store-run, load-run-append, outside, NotIn, openRegion}
+use Rattle.area.proofs.Prelude.{listRegion, length-number, number-read, desk-read}
 use Rattle.diff.specs.declared.Verdict.the-variants.{Good}
 use Rattle.diff.specs.Reading.{start, readDiff}
 use Rattle.diff.specs.Prices.{pricesOf}
@@ -14,13 +15,12 @@ use Rattle.diff.specs.OnlyDiff.{Allowed}
 use Rattle.diff.proofs.Derivation.{Reads, reads-derived, reads-good-then, reads-prices-then, reads-prices}
 use Rattle.diff.proofs.Derivation.{reads-more-pages}
 use Rattle.diff.proofs.OnlyDiff.{allowed-whole}
-use Rattle.protocol.specs.Release.{Release, openRelease, openList}
 use Rattle.protocol.specs.Opening.{openMemory}
 use Rattle.protocol.specs.Book.{listPrices}
 
 -- ---- a list that is allowed, read where it is stored
 
-module _ (pages : ℕ) (list rest : List ℕ) (few-pages : pages ≤ 64) (few : length list ≤ 512)
+module _ (pages : ℕ) (list rest : List ℕ) (few-pages : pages ≤ 64) (few : length list ≤ listSize)
     (allowed : Allowed pages list) where
   whole-reads : (ps : List _) × Reads pages start 0 list ps
   whole-reads = let w = allowed-whole pages list allowed in (_, reads-derived pages (w .0) list start 0 (w .1))
@@ -41,52 +41,50 @@ module _ (pages : ℕ) (list rest : List ℕ) (few-pages : pages ≤ 64) (few : 
 
 -- ---- the words after an opening
 
-module _ (size : ℕ) (m : List ℕ) (c : ℕ) (r : Release) (list : List ℕ) (long : 676 ≤ size)
-    (eight : length (r .desk) ≡ 8)
-    (few : length list ≤ 512) where
+module _ (size : ℕ) (m : List ℕ) (c : ℕ) (r : Release) (list : List ℕ) (long : pagesStart ≤ size)
+    (eight : length (r .desk) ≡ deskSize) (few : length list ≤ listSize) where
   abbrev head : List ℕ
-  head = 1 ∷ 0 ∷ r .number ∷ r .desk
+  head = 1 ∷ 0 ∷ releaseWords r
+
+  length-head : length head ≡ releaseSize
+  length-head = simp length-append (omega (arith, length-number (r .number)))
 
   pub length-open : length (openMemory size m c r list) ≡ length m
   unfolding openMemory
   length-open = length-store-run size _ c listStart list ∙ length-store-run size m c openFlag head
 
   -- another card's words; the own stamp and desk, the records and the pages
-  pub load-open : (h o : ℕ) → o < size → (h ≢ c) ⊎ ((o < 9) ⊎ (((20 ≤ o) × (o < 164)) ⊎ (676 ≤ o)))
+  pub load-open : (h o : ℕ) → o < size → (h ≢ c) ⊎ (NotIn openRegion o × NotIn listRegion o)
       → load size (openMemory size m c r list) h o ≡ load size m h o
   unfolding openMemory
-  load-open h o inside (inl other) =
-      load-store-run-outside size _ c listStart list h o (outside-other-card other (omega arith) inside)
-      ∙ load-store-run-outside size m c openFlag head h o (outside-other-card other (omega arith) inside)
-  load-open h o inside (inr (inl own)) =
-      load-store-run-outside size _ c listStart list h o (outside-below (omega arith) (omega arith))
-      ∙ load-store-run-outside size m c openFlag head h o (outside-below (omega arith) (omega arith))
-  load-open h o inside (inr (inr (inl records))) =
-      load-store-run-outside size _ c listStart list h o (outside-below (omega arith) (omega arith))
-      ∙ load-store-run-outside size m c openFlag head h o (outside-above (omega arith) inside)
-  load-open h o inside (inr (inr (inr page))) =
-      load-store-run-outside size _ c listStart list h o (outside-above (omega arith) inside)
-      ∙ load-store-run-outside size m c openFlag head h o (outside-above (omega arith) inside)
+  load-open h o inside kept =
+      load-store-run-outside size _ c listStart list h o
+      (outside-fewer few (outside listRegion kept (λ k. k .1) (omega arith) inside))
+      ∙ load-store-run-outside size m c openFlag head h o
+      (outside-fewer (omega (arith, length-head)) (outside openRegion kept (λ k. k .0) (omega arith) inside))
 
   module _ (area : AreaIn (length m) size c) where
-    -- words 9 to 19
-    pub open-word : (j : ℕ) → j < 11 → load size (openMemory size m c r list) c (openFlag + j) ≡ getD head j 0
+    pub open-word : (j : ℕ) → j < releaseSize → load size (openMemory size m c r list) c (openFlag + j) ≡ getD head j 0
     unfolding openMemory
     open-word j small =
         load-store-run-outside size _ c listStart list c (openFlag + j) (outside-below (omega arith) (omega arith))
-        ∙ load-store-run-inside size m c openFlag head area (omega arith) j (omega arith)
+        ∙ load-store-run-inside size m c openFlag head area (omega (arith, length-head)) j (omega (arith, length-head))
+
+    release-word : (j : ℕ) → j < ownSize
+        → load size (openMemory size m c r list) c (releaseNumber + j) ≡ getD (releaseWords r) j 0
+    release-word j within =
+        let at : releaseNumber + j ≡ openFlag + suc (suc j) = omega arith in
+        rw at (open-word (suc (suc j)) (omega arith))
 
     pub opened-release : openRelease size (openMemory size m c r list) c ≡ r
     unfolding openRelease
     opened-release =
-        let desk =
-        load-run-is size (openMemory size m c r list) c releaseDesk deskSize (r .desk) eight (rw length-open area)
-        (omega arith)
-        (λ j within.
-        let at : releaseDesk + j ≡ openFlag + (3 + j) = omega arith in
-        let on : 3 + j ≡ suc (suc (suc j)) = omega arith in
-        rw at (open-word (3 + j) (omega arith) ∙ rw on)) in
-        rw (open-word 2 (omega arith), desk)
+        rw (
+          number-read size (openMemory size m c r list) c releaseNumber r eight (rw length-open area) (omega arith)
+              release-word,
+          desk-read size (openMemory size m c r list) c releaseNumber r eight (rw length-open area) (omega arith)
+              release-word,
+        )
 
     pub opened-list : (rest : List ℕ) × (openList size (openMemory size m c r list) c ≡ list ++ rest)
     unfolding openList openMemory

@@ -2,58 +2,63 @@
 use Rattle.laws.proofs.Prelude.{ℕ, suc, _+_, _*_, _/_, _≤_, _<_, _≡_, _∙_, _≢_, _⊎_, inl, inr, List, true, arith}
 use Rattle.laws.proofs.Prelude.{lt-ltb, le-ltb, length, getD}
 use native.Mathlib.Numerals.{add-one}
-use Rattle.memory.specs.Layout.{areaSize, deskSize, stepsMade, releaseDesk, pageStart}
-use Rattle.memory.specs.Area.{indexOf, AreaIn, load, store}
-use Rattle.memory.proofs.Index.{index-same-card, index-same-offset}
-use Rattle.memory.proofs.Words.{length-store, load-store-same, load-store-elsewhere}
-use Rattle.memory.proofs.Runs.{length-load-run}
 use Rattle.directory.specs.declared.Directory.{Directory}
 use Rattle.directory.specs.Directory.{isLive}
+use Rattle.area.specs.Prelude.{indexOf, AreaIn, load, store, areaSize, deskSize, stepsMade, releaseDesk, numberSize}
+use Rattle.area.specs.Prelude.{recordsStart, recordSize, recordAt, recordStamp, recordDone, pagesStart, pageSize}
+use Rattle.area.specs.Prelude.{tentativeHalf, committedHalf, Release, openRelease, stepsOf, numberWords}
+use Rattle.area.proofs.Prelude.{index-same-card, index-same-offset, length-store, load-store-same, load-store-elsewhere}
+use Rattle.area.proofs.Prelude.{length-load-run, SameOwn, SameRelease, length-number, In, NotIn, Contains, recordRegion}
+use Rattle.area.proofs.Prelude.{listRegion, records-apart}
 use Rattle.diff.specs.declared.Price.{Price}
 use Rattle.diff.proofs.Stored.{OnPages, prices-on-pages, price-on-page}
-use Rattle.protocol.specs.Release.{Release, Write, noWrite, sizeOf, openRelease, openPrices, stepsOf}
-use Rattle.protocol.specs.Release.{releaseWrites, makeWrite, close, stepMemory}
-use Rattle.protocol.proofs.release.Writes.{noPrice, length-writes, Phase, phase, to-tentative, to-desk, to-stamp}
-use Rattle.protocol.proofs.release.Writes.{to-committed, to-done, to-close, write-tentative, write-desk}
-use Rattle.protocol.proofs.release.Writes.{write-stamp, write-committed, write-done}
-use Rattle.protocol.proofs.release.WordAfter.{written}
-use Rattle.protocol.proofs.release.Shape.{SameOwn, SameRelease}
+use Rattle.protocol.specs.Release.{Write, writeOf, noWrite, priceWrite, sizeOf, openPrices, releaseWrites}
+use Rattle.protocol.specs.Release.{makeWrite, close, stepMemory}
+use Rattle.protocol.proofs.release.Writes.{noPrice, homeOf, length-writes, Phase, phase, to-tentative, to-desk}
+use Rattle.protocol.proofs.release.Writes.{to-stamp, to-committed, to-done, to-close, write-tentative}
+use Rattle.protocol.proofs.release.Writes.{write-desk, write-stamp, write-committed, write-done}
+use Rattle.protocol.proofs.release.WordAfter.{written, target}
 use Rattle.protocol.proofs.release.OneWrite.{length-make-write, load-make-write, make-write-other}
 
 -- ---- the writes of a release stand in its areas' records and pages
 
--- an offset that a step of card c writes: one of c's record, or of a page
-pub record StepOffset (pages c o : ℕ) : Type 0 where
-  pub place : ((20 + 18 * c ≤ o) × (o < 38 + 18 * c)) ⊎ (676 ≤ o)
-  pub inside : o < areaSize pages
+-- where a step of card c writes: in c's record, or in a page
+pub record StepPlace (pages c : ℕ) (w : Write) : Type 0 where
+  pub place : Contains (recordRegion c) (target w) ⊎ (pagesStart ≤ w .offset)
+  pub inside : w .offset + length (w .words) ≤ areaSize pages
 
-module _ (d : Directory) (backup c : ℕ) (r : Release) (ps : List Price) (eight : length (r .desk) ≡ 8) (few : c < 8)
-    (on : OnPages (d .pages) ps) where
-  price-offset : (i half : ℕ) → i < length ps → half ≤ 32
-      → StepOffset (d .pages) c (pageStart (getD ps i noPrice .page) + (half + getD ps i noPrice .word))
-  price-offset i half within small =
+module _ (d : Directory) (backup c : ℕ) (r : Release) (ps : List Price) (eight : length (r .desk) ≡ deskSize)
+    (few : c < 8) (on : OnPages (d .pages) ps) where
+  price-place : (home : ℕ → ℕ) (i half : ℕ) → i < length ps → half ≤ pageSize
+      → StepPlace (d .pages) c (priceWrite home half (getD ps i noPrice))
+  price-place home i half within small =
       let p = price-on-page (d .pages) ps i noPrice on within in
       record { place = inr (omega arith); inside = omega arith }
 
-  pub write-offset : (s : ℕ) → s < 4 * length ps + 10
-      → StepOffset (d .pages) c (getD (releaseWrites d backup c r ps) s noWrite .offset)
-  write-offset s before = go (phase (length ps) s (omega arith))
+  number-place : (offset : ℕ) → recordAt c ≤ offset → offset + numberSize ≤ recordAt c + recordSize
+      → StepPlace (d .pages) c (writeOf backup offset (numberWords (r .number)))
+  number-place offset above under =
+      let long = length-number (r .number) in
+      record { place = inl (omega arith, omega arith); inside = omega arith }
+
+  pub write-place : (s : ℕ) → s < 4 * length ps + 10
+      → StepPlace (d .pages) c (getD (releaseWrites d backup c r ps) s noWrite)
+  write-place s before = go (phase (length ps) s (omega arith))
     where
-      go : Phase (length ps) s → StepOffset (d .pages) c (getD (releaseWrites d backup c r ps) s noWrite .offset)
-      go (to-tentative early) = rw (write-tentative d backup c r ps eight s early)
-          (price-offset (s / 2) 0 (omega arith) (omega arith))
+      go : Phase (length ps) s → StepPlace (d .pages) c (getD (releaseWrites d backup c r ps) s noWrite)
+      go (to-tentative early) =
+          rw (write-tentative d backup c r ps eight s early)
+          (price-place (homeOf d s) (s / 2) tentativeHalf (omega arith) (omega arith))
       go (to-desk j at within) =
           rw (write-desk d backup c r ps eight s j at within)
           (record { place = inl (omega arith, omega arith); inside = omega arith })
       go (to-stamp at) =
-          rw (write-stamp d backup c r ps eight s at)
-          (record { place = inl (omega arith, omega arith); inside = omega arith })
+          rw (write-stamp d backup c r ps eight s at) (number-place (recordStamp c) (omega arith) (omega arith))
       go (to-committed j at within) =
           rw (write-committed d backup c r ps eight s j at within)
-          (price-offset (j / 2) 32 (omega arith) (omega arith))
+          (price-place (homeOf d j) (j / 2) committedHalf (omega arith) (omega arith))
       go (to-done at) =
-          rw (write-done d backup c r ps eight s at)
-          (record { place = inl (omega arith, omega arith); inside = omega arith })
+          rw (write-done d backup c r ps eight s at) (number-place (recordDone c) (omega arith) (omega arith))
       go (to-close at) = absurd (omega arith)
 
 -- ---- a step
@@ -70,7 +75,7 @@ stepWrite d backup c r ps s = getD (releaseWrites d backup c r ps) s noWrite
 
 module _ (d : Directory) (backup : ℕ) (m : List ℕ) (c : ℕ) (area : AreaIn (length m) (sizeOf d) c) {r : Release}
     {ps : List Price} {s : ℕ} (stands : StandsIn (d .pages) m c r ps s) where
-  eight : length (r .desk) ≡ 8
+  eight : length (r .desk) ≡ deskSize
   unfolding openRelease
   eight = rw (← (stands .release)) (length-load-run (sizeOf d) m c releaseDesk deskSize area (omega arith))
 
@@ -99,8 +104,8 @@ module _ (d : Directory) (backup : ℕ) (m : List ℕ) (c : ℕ) (area : AreaIn 
     abbrev w : Write
     w = stepWrite d backup c r ps s
 
-    write-in : StepOffset (d .pages) c (w .offset)
-    write-in = write-offset d backup c r ps eight few on-pages s before
+    write-in : StepPlace (d .pages) c w
+    write-in = write-place d backup c r ps eight few on-pages s before
 
     pub length-step : length (stepMemory d backup m c) ≡ length m
     length-step = rw (step-writes before) (length-store _ _ _ _ _ ∙ length-make-write (d .live) (sizeOf d) m w)
@@ -128,46 +133,46 @@ module _ (d : Directory) (backup : ℕ) (m : List ℕ) (c : ℕ) (area : AreaIn 
         → load (sizeOf d) (stepMemory d backup m c) h o ≡ written w h o (load (sizeOf d) m h o)
     load-step h o up area′ inside other =
         beside-steps h o inside other
-        ∙ load-make-write (d .live) (sizeOf d) m w h o up area′ inside (write-in .inside)
+        ∙ load-make-write (d .live) (sizeOf d) m w (write-in .inside) h o up area′ inside
 
-    -- one that is at another offset than the write
-    unwritten : (x o : ℕ) → o < sizeOf d → (x ≡ c → o ≢ stepsMade) → w .offset ≢ o
+    -- one that is at no offset of the write
+    unwritten : (x o : ℕ) → o < sizeOf d → (x ≡ c → o ≢ stepsMade) → NotIn (target w) o
         → load (sizeOf d) (stepMemory d backup m c) x o ≡ load (sizeOf d) m x o
     unwritten x o inside other apart =
-        beside-steps x o inside other ∙ make-write-other (d .live) (sizeOf d) m w x o (write-in .inside) inside apart
+        beside-steps x o inside other ∙ make-write-other (d .live) (sizeOf d) m w (write-in .inside) x o inside apart
 
     -- what a card's own words say stays, but for the steps of c
-    own-word : (x o : ℕ) → (x ≡ c → o ≢ stepsMade) → (o < 20) ⊎ ((164 ≤ o) × (o < 676))
+    own-word : (x o : ℕ) → (x ≡ c → o ≢ stepsMade) → (o < recordsStart) ⊎ In listRegion o
         → load (sizeOf d) (stepMemory d backup m c) x o ≡ load (sizeOf d) m x o
     own-word x o other place = unwritten x o (fits place) other (apart place (write-in .place))
       where
-        fits : (o < 20) ⊎ ((164 ≤ o) × (o < 676)) → o < sizeOf d
+        fits : (o < recordsStart) ⊎ In listRegion o → o < sizeOf d
         fits (inl low) = omega arith
         fits (inr list) = omega arith
 
-        apart : (o < 20) ⊎ ((164 ≤ o) × (o < 676))
-            → ((20 + 18 * c ≤ w .offset) × (w .offset < 38 + 18 * c)) ⊎ (676 ≤ w .offset) → w .offset ≢ o
-        apart (inl low) (inl records) e = omega arith
-        apart (inl low) (inr page) e = omega arith
-        apart (inr list) (inl records) e = omega (arith, few)
-        apart (inr list) (inr page) e = omega arith
+        apart : (o < recordsStart) ⊎ In listRegion o
+            → Contains (recordRegion c) (target w) ⊎ (pagesStart ≤ w .offset) → NotIn (target w) o
+        apart (inl low) (inl records) here = omega arith
+        apart (inl low) (inr page) here = omega arith
+        apart (inr list) (inl records) here = omega (arith, few)
+        apart (inr list) (inr page) here = omega arith
 
     -- the record of another card
-    pub step-keeps-record : (x h o : ℕ) → x < 8 → x ≢ c → 20 + 18 * x ≤ o → o < 38 + 18 * x
+    pub step-keeps-record : (x h o : ℕ) → x < 8 → x ≢ c → In (recordRegion x) o
         → load (sizeOf d) (stepMemory d backup m c) h o ≡ load (sizeOf d) m h o
-    step-keeps-record x h o small other above under =
+    step-keeps-record x h o small other in-record =
         unwritten h o (omega arith) (λ _ e. omega arith) (apart (write-in .place))
       where
-        apart : ((20 + 18 * c ≤ w .offset) × (w .offset < 38 + 18 * c)) ⊎ (676 ≤ w .offset) → w .offset ≢ o
-        apart (inl records) e = omega arith
-        apart (inr page) e = omega arith
+        apart : Contains (recordRegion c) (target w) ⊎ (pagesStart ≤ w .offset) → NotIn (target w) o
+        apart (inl records) here = records-apart other in-record (omega arith, omega arith)
+        apart (inr page) here = omega arith
 
     pub step-keeps : SameRelease (sizeOf d) m (stepMemory d backup m c) c
     step-keeps =
         record {
           same-length = length-step;
           low = λ o small other. own-word c o (λ _. other) (inl small);
-          list = λ o above under. own-word c o (λ _. omega arith) (inr (above, under));
+          list = λ o inside. own-word c o (λ _. omega arith) (inr inside);
         }
 
     pub step-keeps-other : (x : ℕ) → x ≢ c → SameOwn (sizeOf d) m (stepMemory d backup m c) x
@@ -175,5 +180,5 @@ module _ (d : Directory) (backup : ℕ) (m : List ℕ) (c : ℕ) (area : AreaIn 
         record {
           same-length = length-step;
           low = λ o small. own-word x o (λ same. absurd (other same)) (inl small);
-          list = λ o above under. own-word x o (λ same. absurd (other same)) (inr (above, under));
+          list = λ o inside. own-word x o (λ same. absurd (other same)) (inr inside);
         }

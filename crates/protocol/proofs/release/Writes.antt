@@ -3,13 +3,14 @@ use Rattle.laws.proofs.Prelude.{ℕ, zero, suc, _+_, _-_, _*_, _/_, _%_, _<_, _
 use Rattle.laws.proofs.Prelude.{cond, arith, decLt, length, getD, eqb}
 use native.Mathlib.Nat.{add-zero}
 use lib.ListN.{length-append, List·getD-append}
-use lib.Seq.{getD-append-add}
-use Rattle.memory.specs.Layout.{recordStamp, recordDone, recordDesk, tentativeHalf, committedHalf}
+use Rattle.laws.proofs.Lists.{getD-right}
 use Rattle.directory.specs.declared.Directory.{Directory}
 use Rattle.directory.specs.Directory.{primaryOf, secondaryOf}
+use Rattle.area.specs.Prelude.{recordStamp, recordDone, recordDesk, tentativeHalf, committedHalf, deskSize, Release}
+use Rattle.area.specs.Prelude.{numberWords}
 use Rattle.diff.specs.declared.Price.{Price}
-use Rattle.protocol.specs.Release.{Release, Write, writeOf, noWrite, priceWrite, priceWrites, runWrites}
-use Rattle.protocol.specs.Release.{releaseWrites, stepsIn}
+use Rattle.protocol.specs.Release.{Write, writeOf, noWrite, priceWrite, priceWrites, runWrites, releaseWrites}
+use Rattle.protocol.specs.Release.{stepsIn}
 
 abbrev pub noPrice : Price
 noPrice = record { page = 0; word = 0; price = 0 }
@@ -40,7 +41,7 @@ length-run-writes card offset [] = refl
 length-run-writes card offset (v ∷ vs) = ap suc (length-run-writes card (suc offset) vs)
 
 pub run-write-at : (card offset : ℕ) (vs : List ℕ) (j : ℕ) → j < length vs
-    → getD (runWrites card offset vs) j noWrite ≡ writeOf card (offset + j) (getD vs j 0)
+    → getD (runWrites card offset vs) j noWrite ≡ writeOf card (offset + j) (getD vs j 0 ∷ [])
 run-write-at card offset [] j within = absurd (omega arith)
 run-write-at card offset (v ∷ vs) zero within = rw (add-zero offset)
 run-write-at card offset (v ∷ vs) (suc j) within =
@@ -53,22 +54,15 @@ run-write-at card offset (v ∷ vs) (suc j) within =
 getD-left : (xs ys : List Write) (i : ℕ) → i < length xs → getD (xs ++ ys) i noWrite ≡ getD xs i noWrite
 getD-left xs ys i within = List·getD-append xs ys noWrite i within
 
-getD-right : (xs ys : List Write) (n i j : ℕ) → length xs ≡ n → i ≡ n + j
-    → getD (xs ++ ys) i noWrite ≡ getD ys j noWrite
-getD-right xs ys n i j size at = rw (at, ← size) (getD-append-add xs ys j noWrite)
-
-module _ (d : Directory) (backup c : ℕ) (r : Release) (ps : List Price) (eight : length (r .desk) ≡ 8) where
-  -- what follows the committed words, and what follows the stamp
+module _ (d : Directory) (backup c : ℕ) (r : Release) (ps : List Price) (eight : length (r .desk) ≡ deskSize) where
+  -- what follows the committed words
   abbrev last : List Write
-  last = runWrites backup (recordDone c) (r .number ∷ [])
-
-  abbrev second : List Write
-  second = priceWrites d committedHalf ps ++ last
+  last = writeOf backup (recordDone c) (numberWords (r .number)) ∷ []
 
   tentatives : length (priceWrites d tentativeHalf ps) ≡ 2 * length ps
   tentatives = length-price-writes d tentativeHalf ps
 
-  desks : length (runWrites backup (recordDesk c (r .number)) (r .desk)) ≡ 8
+  desks : length (runWrites backup (recordDesk c (r .number)) (r .desk)) ≡ deskSize
   desks = length-run-writes backup (recordDesk c (r .number)) (r .desk) ∙ eight
 
   committeds : length (priceWrites d committedHalf ps) ≡ 2 * length ps
@@ -90,20 +84,20 @@ module _ (d : Directory) (backup c : ℕ) (r : Release) (ps : List Price) (eight
   -- 2. step 2k + j + 1
   pub write-desk : (s j : ℕ) → s ≡ 2 * length ps + j → j < 8
       → getD (releaseWrites d backup c r ps) s noWrite ≡ writeOf backup (recordDesk c (r .number) + j)
-      (getD (r .desk) j 0)
+      (getD (r .desk) j 0 ∷ [])
   unfolding releaseWrites
   write-desk s j at within =
-      getD-right (priceWrites d tentativeHalf ps) _ (2 * length ps) s j tentatives at
+      getD-right noWrite (priceWrites d tentativeHalf ps) _ (2 * length ps) s j tentatives at
       ∙ getD-left (runWrites backup (recordDesk c (r .number)) (r .desk)) _ j (omega (arith, desks))
       ∙ run-write-at backup (recordDesk c (r .number)) (r .desk) j (omega (arith, eight))
 
   -- 3. step 2k + 9
   pub write-stamp : (s : ℕ) → s ≡ 2 * length ps + 8
-      → getD (releaseWrites d backup c r ps) s noWrite ≡ writeOf backup (recordStamp c) (r .number)
+      → getD (releaseWrites d backup c r ps) s noWrite ≡ writeOf backup (recordStamp c) (numberWords (r .number))
   unfolding releaseWrites
   write-stamp s at =
-      getD-right (priceWrites d tentativeHalf ps) _ (2 * length ps) s 8 tentatives at
-      ∙ getD-right (runWrites backup (recordDesk c (r .number)) (r .desk)) _ 8 8 0 desks (omega arith)
+      getD-right noWrite (priceWrites d tentativeHalf ps) _ (2 * length ps) s 8 tentatives at
+      ∙ getD-right noWrite (runWrites backup (recordDesk c (r .number)) (r .desk)) _ 8 8 0 desks (omega arith)
 
   -- 4. step 2k + 10 + j
   pub write-committed : (s j : ℕ) → s ≡ 2 * length ps + 9 + j → j < 2 * length ps
@@ -111,25 +105,23 @@ module _ (d : Directory) (backup c : ℕ) (r : Release) (ps : List Price) (eight
       (getD ps (j / 2) noPrice)
   unfolding releaseWrites
   write-committed s j at within =
-      getD-right (priceWrites d tentativeHalf ps) _ (2 * length ps) s (9 + j) tentatives (omega arith)
-      ∙ getD-right (runWrites backup (recordDesk c (r .number)) (r .desk)) _ 8 (9 + j) (1 + j) desks (omega arith)
-      ∙ getD-right (runWrites backup (recordStamp c) (r .number ∷ [])) second 1 (1 + j) j refl (omega arith)
+      getD-right noWrite (priceWrites d tentativeHalf ps) _ (2 * length ps) s (9 + j) tentatives (omega arith)
+      ∙ getD-right noWrite (runWrites backup (recordDesk c (r .number)) (r .desk)) _ 8 (9 + j) (suc j) desks
+      (omega arith)
       ∙ getD-left (priceWrites d committedHalf ps) last j (omega (arith, committeds))
       ∙ price-write-at d committedHalf ps j within
 
   -- 5. step 4k + 10
   pub write-done : (s : ℕ) → s ≡ 4 * length ps + 9
-      → getD (releaseWrites d backup c r ps) s noWrite ≡ writeOf backup (recordDone c) (r .number)
+      → getD (releaseWrites d backup c r ps) s noWrite ≡ writeOf backup (recordDone c) (numberWords (r .number))
   unfolding releaseWrites
   write-done s at =
-      getD-right (priceWrites d tentativeHalf ps) _ (2 * length ps) s (9 + 2 * length ps) tentatives (omega arith)
-      ∙ getD-right (runWrites backup (recordDesk c (r .number)) (r .desk)) _ 8 (9 + 2 * length ps) (1 + 2 * length ps)
-      desks
+      getD-right noWrite (priceWrites d tentativeHalf ps) _ (2 * length ps) s (9 + 2 * length ps) tentatives
       (omega arith)
-      ∙ getD-right (runWrites backup (recordStamp c) (r .number ∷ [])) second 1 (1 + 2 * length ps) (2 * length ps)
-      refl
+      ∙ getD-right noWrite (runWrites backup (recordDesk c (r .number)) (r .desk)) _ 8 (9 + 2 * length ps)
+      (suc (2 * length ps)) desks (omega arith)
+      ∙ getD-right noWrite (priceWrites d committedHalf ps) last (2 * length ps) (2 * length ps) 0 committeds
       (omega arith)
-      ∙ getD-right (priceWrites d committedHalf ps) last (2 * length ps) (2 * length ps) 0 committeds (omega arith)
 
 -- ---- the steps of a release of k prices, by what they are
 

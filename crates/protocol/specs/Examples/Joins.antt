@@ -3,13 +3,14 @@
 -- Assumes nothing: these are definitions.
 use Rattle.laws.specs.Prelude.{List, [], _∷_, _++_, replicate}
 use Rattle.laws.specs.Examples.{Example, computed}
-use Rattle.memory.specs.Area.{zeros}
 use Rattle.directory.specs.declared.Directory.{Directory}
 use Rattle.directory.specs.Directory.{formattedDirectory, markedDead, withHomes}
+use Rattle.area.specs.Prelude.{zeros}
+use Rattle.area.specs.Examples.{numbersFrom}
 use Rattle.protocol.specs.Result.{Result}
 use Rattle.protocol.specs.Join.{joinedMemory, join}
 use Rattle.protocol.specs.DeskQuestion.{deskOf}
-use Rattle.protocol.specs.Examples.Racks.{numbersFrom, outcomeOf, directoryWords}
+use Rattle.protocol.specs.Examples.Racks.{outcomeOf, directoryWords}
 
 -- Cards 1 and 2 of four are dead; one page, on cards 3 and 0. An area has 740 words.
 abbrev pub twoDead : Directory

@@ -1,11 +1,12 @@
 -- The racks of the examples.
 -- Assumes nothing: these are definitions.
-use Rattle.laws.specs.Prelude.{ℕ, _+_, _*_, List, _++_, Bool, cond, take, drop}
+use Rattle.laws.specs.Prelude.{ℕ, _+_, _*_, List, _++_, take, drop}
 use Rattle.answer.specs.Outcome.{inWords}
-use Rattle.memory.specs.Area.{zeros}
 use Rattle.directory.specs.declared.Directory.{Directory}
-use Rattle.directory.specs.Directory.{isLive, formattedDirectory, table, tableFrom}
+use Rattle.directory.specs.Directory.{isLive, formattedDirectory, table}
 use Rattle.directory.specs.Examples.{statusWords}
+use Rattle.area.specs.Prelude.{zeros}
+use Rattle.area.specs.Examples.{bit}
 use Rattle.protocol.specs.Result.{Result}
 
 -- Three live cards and one page, on cards 0 and 1. An area has 740 words.
@@ -15,17 +16,9 @@ smallRack = formattedDirectory 3 1
 unfoldable pub smallMemory : List ℕ
 smallMemory = zeros 2220
 
--- n numbers from i on: words that all differ, so that it shows where each comes from
-abbrev pub numbersFrom : ℕ → ℕ → List ℕ
-numbersFrom i n = tableFrom (λ j. j) i n
-
 -- n words of a card's area, from an offset on
 abbrev pub wordsAt : ℕ → List ℕ → ℕ → ℕ → ℕ → List ℕ
 wordsAt size m card offset n = take n (drop (card * size + offset) m)
-
--- a test as a word
-abbrev pub bit : Bool → ℕ
-bit test = cond test 1 0
 
 -- ---- results as words
 

@@ -3,16 +3,15 @@
 -- Assumes nothing: these are definitions.
 use Rattle.laws.specs.Prelude.{ℕ, List, [], _∷_, _++_, replicate}
 use Rattle.laws.specs.Examples.{Example, computed}
-use Rattle.memory.specs.Area.{store, zeros}
 use Rattle.directory.specs.declared.Directory.{Directory}
 use Rattle.directory.specs.declared.Status.the-variants.{Awaiting}
 use Rattle.directory.specs.Directory.{formattedDirectory, markedDead, withHomes, withStatus}
-use Rattle.protocol.specs.Release.{releaseOf}
-use Rattle.protocol.specs.Record.{writeRecord}
+use Rattle.area.specs.Prelude.{store, zeros, releaseOf, writeRecord, listStart, pagesStart}
+use Rattle.area.specs.Examples.{numbersFrom}
 use Rattle.protocol.specs.Result.{Result}
 use Rattle.protocol.specs.Opening.{openMemory}
 use Rattle.protocol.specs.Recovery.{closeReleases, recoveredMemory, recoveredDirectory, recovery}
-use Rattle.protocol.specs.Examples.Racks.{smallRack, numbersFrom, wordsAt, outcomeOf, directoryWords}
+use Rattle.protocol.specs.Examples.Racks.{smallRack, wordsAt, outcomeOf, directoryWords}
 
 -- ---- card 1 has failed
 
@@ -74,20 +73,22 @@ recoveryExamples =
     -- cards; card 0's, made from its own stamp and desk, on its new backup. No other word changes.
     ∷ computed rolledForward
     (numbersFrom 0 38 ++ 1646 ∷ 1646 ∷ numbersFrom 1648 8 ++ zeros 8 ++ numbersFrom 56 620
-    ++ numbersFrom 676 32 ++ numbersFrom 676 32 ++ numbersFrom 740 32 ++ numbersFrom 740 32
+    ++ numbersFrom pagesStart 32 ++ numbersFrom pagesStart 32 ++ numbersFrom 740 32 ++ numbersFrom 740 32
     ++ numbersFrom 804 804
     ++ numbersFrom 1608 20 ++ 0 ∷ 0 ∷ numbersFrom 1 8 ++ zeros 8
     ++ 1646 ∷ 1646 ∷ numbersFrom 1648 8 ++ zeros 8 ++ numbersFrom 1664 620
-    ++ numbersFrom 676 32 ++ numbersFrom 676 32 ++ numbersFrom 2348 32 ++ numbersFrom 2348 32)
+    ++ numbersFrom pagesStart 32 ++ numbersFrom pagesStart 32 ++ numbersFrom 2348 32 ++ numbersFrom 2348 32)
     -- Rolled back, they have the committed ones; of an odd stamp the odd desk is kept, and the even one zero.
-    ∷ computed (wordsAt 804 rolledBack 0 676 128 ++ wordsAt 804 rolledBack 2 676 128 ++ wordsAt 804 rolledBack 0 38 18)
+    ∷ computed
+    (wordsAt 804 rolledBack 0 pagesStart 128 ++ wordsAt 804 rolledBack 2 pagesStart 128 ++ wordsAt 804 rolledBack 0 38
+    18)
     (numbersFrom 708 32 ++ numbersFrom 708 32 ++ numbersFrom 772 32 ++ numbersFrom 772 32
     ++ numbersFrom 708 32 ++ numbersFrom 708 32 ++ numbersFrom 2380 32 ++ numbersFrom 2380 32
     ++ 1647 ∷ 1647 ∷ zeros 8 ++ numbersFrom 1656 8)
     -- A live card's release is run to its close. Its stores to the failed card, which is its backup and the page's
     -- secondary, are dropped.
     ∷ computed
-    (wordsAt 740 closedWithout1 0 0 12 ++ wordsAt 740 closedWithout1 0 164 4 ++ wordsAt 740 closedWithout1 0 680 1
+    (wordsAt 740 closedWithout1 0 0 12 ++ wordsAt 740 closedWithout1 0 listStart 4 ++ wordsAt 740 closedWithout1 0 680 1
     ++ wordsAt 740 closedWithout1 0 712 1 ++ wordsAt 740 closedWithout1 1 0 740)
     (1 ∷ numbersFrom 50 8 ++ zeros 7 ++ 7 ∷ 7 ∷ replicate 740 3)
     -- One card's release is run to its close before the next card's, from the lowest card on.

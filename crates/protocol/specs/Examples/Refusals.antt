@@ -2,17 +2,17 @@
 -- Assumes nothing: these are definitions.
 use Rattle.laws.specs.Prelude.{ℕ, List, [], _∷_, _++_, replicate}
 use Rattle.laws.specs.Examples.{Example, computed}
-use Rattle.memory.specs.Area.{store, storeRun, zeros}
 use Rattle.directory.specs.declared.Directory.{Directory}
 use Rattle.directory.specs.declared.Status.the-variants.{Awaiting}
 use Rattle.directory.specs.Directory.{markedDead, withHomes, withStatus}
+use Rattle.area.specs.Prelude.{store, storeRun, zeros, releaseOf, pagesStart}
+use Rattle.area.specs.Examples.{numbersFrom, bit}
 use Rattle.diff.specs.Format.{runWord}
-use Rattle.protocol.specs.Release.{releaseOf}
 use Rattle.protocol.specs.Checks.{outsideLimits, unfitRack}
 use Rattle.protocol.specs.Result.{Result}
 use Rattle.protocol.specs.Calls.{formatting, opening, step, fetch, failure, recovery, join, deskQuestion}
 use Rattle.protocol.specs.Opening.{openMemory}
-use Rattle.protocol.specs.Examples.Racks.{smallRack, smallMemory, numbersFrom, bit, outcomeOf, directoryWords}
+use Rattle.protocol.specs.Examples.Racks.{smallRack, smallMemory, outcomeOf, directoryWords}
 
 -- ---- limits, and racks that do not fit
 
@@ -73,7 +73,7 @@ bothAt steps = withOpen 2 4 steps (withOpen 1 6 steps smallMemory)
 -- page 0 at its homes, cards 0 and 1: tentative words 100 to 131 and 300 to 331, committed 200 to 231 and 400 to 431
 unfoldable pub fourCopies : List ℕ
 fourCopies =
-    storeRun 740 (storeRun 740 smallMemory 0 676 (numbersFrom 100 32 ++ numbersFrom 200 32)) 1 676
+    storeRun 740 (storeRun 740 smallMemory 0 pagesStart (numbersFrom 100 32 ++ numbersFrom 200 32)) 1 pagesStart
     (numbersFrom 300 32 ++ numbersFrom 400 32)
 
 abbrev pub refusalExamples : List Example

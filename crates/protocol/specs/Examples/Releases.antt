@@ -2,22 +2,22 @@
 -- Assumes nothing: these are definitions.
 use Rattle.laws.specs.Prelude.{ℕ, List, [], _∷_, _++_}
 use Rattle.laws.specs.Examples.{Example, computed}
-use Rattle.memory.specs.Area.{store, storeRun, zeros}
+use Rattle.area.specs.Prelude.{store, storeRun, zeros, releaseOf, pagesStart}
+use Rattle.area.specs.Examples.{numbersFrom}
 use Rattle.diff.specs.declared.Price.{Price}
-use Rattle.protocol.specs.Release.{Release, releaseOf, Write, releaseWrites, close}
-use Rattle.protocol.specs.Record.{recordedRelease, underWay, settledRecord}
+use Rattle.protocol.specs.Release.{Write, releaseWrites, close}
 use Rattle.protocol.specs.Result.{Result}
 use Rattle.protocol.specs.Calls.{opening, step, deskQuestion}
-use Rattle.protocol.specs.Examples.Racks.{smallRack, smallMemory, numbersFrom, bit, outcomeOf}
+use Rattle.protocol.specs.Examples.Racks.{smallRack, smallMemory, outcomeOf}
 
 -- the desk words 50 to 57
 abbrev pub desk : List ℕ
 desk = numbersFrom 50 8
 
--- card, offset and value of each store
+-- card, offset and words of each store
 abbrev pub inOrder : List Write → List ℕ
 inOrder [] = []
-inOrder (w ∷ ws) = w .card ∷ w .offset ∷ w .value ∷ inOrder ws
+inOrder (w ∷ ws) = w .card ∷ w .offset ∷ (w .words ++ inOrder ws)
 
 -- words 4 and 5 of page 0, to 250 and 199: as prices, and as a list
 abbrev pub twoPrices : List Price
@@ -45,15 +45,6 @@ steppedTwice = step smallRack (steppedOnce .memory) 1
 -- after 13 steps the release counts
 unfoldable pub askedInMotion : Result
 askedInMotion = deskQuestion smallRack (store 740 (opened .memory) 1 10 13) 1
-
--- ---- an area and a record of words that all differ
-
--- a record of card 1 on card 0, with this stamp
-abbrev pub recordWith : ℕ → Release
-recordWith stamp = recordedRelease 740 (store 740 (numbersFrom 0 740) 0 38 stamp) 0 1
-
-abbrev pub differs : ℕ → ℕ → ℕ
-differs stamp done = bit (underWay 740 (store 740 (store 740 smallMemory 0 38 stamp) 0 39 done) 0 1)
 
 abbrev pub releaseExamples : List Example
 releaseExamples =
@@ -86,13 +77,5 @@ releaseExamples =
     -- The close takes number and desk for own stamp and desk, and zeroes the release's words and the list's; records
     -- and pages stay.
     ∷ computed (close 740 (numbersFrom 0 740) 0)
-    (numbersFrom 11 9 ++ zeros 11 ++ numbersFrom 20 144 ++ zeros 512 ++ numbersFrom 676 64)
-    -- A record tells its stamp, and the desk of the stamp's evenness, whatever the done mark.
-    ∷ computed (recordWith 5 .number ∷ recordWith 5 .desk) (5 ∷ numbersFrom 48 8)
-    ∷ computed (recordWith 6 .number ∷ recordWith 6 .desk) (6 ∷ numbersFrom 40 8)
-    -- A release is under way where stamp and done mark differ, also with the done mark above the stamp.
-    ∷ computed (differs 5 4 ∷ differs 5 5 ∷ differs 4 5 ∷ []) (1 ∷ 0 ∷ 1 ∷ [])
-    -- A record that is written anew has the done mark of its stamp, and zeros for the other desk.
-    ∷ computed (settledRecord (releaseOf 5 desk)) (5 ∷ 5 ∷ (zeros 8 ++ desk))
-    ∷ computed (settledRecord (releaseOf 6 desk)) (6 ∷ 6 ∷ (desk ++ zeros 8))
+    (numbersFrom 11 9 ++ zeros 11 ++ numbersFrom 20 144 ++ zeros 512 ++ numbersFrom pagesStart 64)
     ∷ []

@@ -3,7 +3,7 @@ use mathlib.Core.Path.{_≡_, refl}
 use native.Mathlib.Omega.{arith}
 use borrow.Author.Needs.{needs, length-unmapped}
 use lib.ListN.{length}
-use Rattle.memory.specs.Area.{zeros}
+use Rattle.memory.specs.Words.{zeros}
 use Rattle.protocol.specs.DeskQuestion.{deskOf}
 use Rattle.rack.proofs.ValidRack.{valid-rack}
 use Rattle.rack.proofs.Results.{desk-facts, desk-refused, desk-accepted}

@@ -1,7 +1,7 @@
 -- Rests on its checks: a refused fetch leaves the buffer, an accepted one finds its page and a primary that is a card.
+use borrow.Author.Needs.{needs}
 use mathlib.Core.Path.{refl}
 use native.Mathlib.Omega.{arith}
-use borrow.Author.Needs.{needs}
 use Rattle.memory.proofs.Index.{area-in}
 use Rattle.protocol.specs.Fetch.{committedPage}
 use Rattle.rack.proofs.ValidRack.{valid-rack}
@@ -54,8 +54,8 @@ cast-home c =
     let fit = valid-rack (passed .runs .fits) in
     omega (arith, fit .primary-below (a .page) (passed .page-below), fit .within .cards-most)
 
-load-run-requires : tie.Need-load-run-requires
-load-run-requires c κs =
+load-committed-requires : tie.Need-load-committed-requires
+load-committed-requires c κs =
     let sized = c .before in
     let test = sized .before in
     let first = test .before .before .before in
@@ -66,8 +66,8 @@ load-run-requires c κs =
     let passed = fetch-facts d m (a .page) (a .buffer .now) (first .fetch .ensures) (test .if1 .left) in
     let fit = valid-rack (passed .runs .fits) in
     let primary = area-in _ (fit .primary-below (a .page) (passed .page-below)) (fit .within .whole) in
-    let secondary = area-in _ (fit .secondary-below (a .page) (passed .page-below)) (fit .within .whole) in
-    rw (sized .area-size .ensures) (omega arith, omega arith)
+    let few = fit .within .pages-most in
+    rw (sized .area-size .ensures) (omega arith, ((omega arith, omega arith), passed .room-is))
 
 returns-2 : tie.Need-returns-2
 unfolding committedPage
@@ -82,7 +82,7 @@ returns-2 c =
     let d = a .directory in
     let m = a .memory .now in
     let passed = fetch-facts d m (a .page) (a .buffer .now) (first .fetch .ensures) (test .if1 .left) in
-    let words = rw (sized .area-size .ensures, passed .room-is) at (loaded .load-run .ensures) in
+    let words = rw (sized .area-size .ensures) at (loaded .load-committed .ensures) in
     rw (fetch-accepted d m (a .page) (a .buffer .now) (first .fetch .ensures) (test .if1 .left))
     (answered .answer-of .ensures, (refl, words))
 
@@ -91,4 +91,4 @@ fetch-page-spec =
     tie.close
     (tie.spec (λ c. search needs) (λ c. search needs) (λ c. search needs) (λ c κs. search needs)
     (λ c κs. search needs) returns area-size-requires (λ c. search needs) array-read-home cast-home
-    (λ c. search needs) (λ c. search needs) (λ c. search needs) load-run-requires (λ c. search needs) returns-2)
+    load-committed-requires (λ c. search needs) returns-2)

@@ -4,8 +4,8 @@ use native.Mathlib.Omega.{arith}
 use borrow.Author.Needs.{needs}
 use lib.ListN.{length}
 use Rattle.memory.proofs.Index.{area-in}
+use Rattle.area.specs.Releases.{releaseOf}
 use Rattle.diff.proofs.OnlyDiff.{allowed-few}
-use Rattle.protocol.specs.Release.{releaseOf}
 use Rattle.rack.proofs.ValidRack.{valid-rack}
 use Rattle.rack.proofs.Results.{opening-facts, opening-refused, opening-accepted}
 use Rattle.rack.proofs.open_release.Statement.{statement}

@@ -1,6 +1,6 @@
 -- Rests on the words of no desk, which are 0.
 use mathlib.Core.Path.{refl}
-use Rattle.memory.specs.Area.{zeros}
+use Rattle.memory.specs.Words.{zeros}
 use Rattle.rack.proofs.refused_recovery.Statement.{statement}
 use Rattle.rack.proofs.refused_recovery.Tie as tie
 

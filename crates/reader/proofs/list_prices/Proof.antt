@@ -1,113 +1,81 @@
--- `reader::list_prices` meets its contract. The loop's invariant: what is left to write gives the whole.
-use Prim.Native.Nat.{_≤_, _-_}
-use mathlib.Core.Path.{_≡_, refl, sym, _∙_}
-use mathlib.Core.List.{map}
+-- Rests on `Listing`: to write what is left of the prices writes what all of them write.
+use Prim.Native.Nat.{_-_}
+use mathlib.Core.Path.{_≡_, sym, _∙_}
 use native.Mathlib.Omega.{arith}
 use lib.ListN.{length}
-use lib.Seq.{sets}
 use borrow.Author.Needs.{needs}
 use Rattle.diff.specs.Prices.{labelOf, pricesOf}
-use Rattle.reader.specs.WellFormed.{WellFormed}
 use Rattle.reader.specs.Listed.{priceOf}
-use Rattle.reader.proofs.Keeping.{Idle, word-passed, passed-well-formed}
-use Rattle.reader.proofs.Listing.{listLeft, list-first, list-end, list-due, list-next, list-over}
-use Rattle.reader.proofs.Listing.{countLeft, count-first, count-end, count-due, count-next, count-over}
+use Rattle.reader.proofs.Walking.{Reached, reached-next, fewer-left}
+use Rattle.reader.proofs.Listing.{Listing, listing-first, listing-next, listing-end}
+use Rattle.reader.proofs.Listing.{countLeft, count-first, count-next, count-end}
 use Rattle.reader.proofs.list_prices.Statement.{statement}
 use Rattle.reader.proofs.list_prices.Tie as tie
 
 abbrev Inv-loop : tie.InvT-loop
-Inv-loop list pages labels₀ prices₀ s₀ index₀ labels prices s index =
-    (index ≤ length list) × WellFormed s × (s .prices ≤ index) × (s .next ≤ pages)
-    × (length labels ≡ length labels₀) × (length prices ≡ length prices₀)
-    × (listLeft labelOf pages list index s labels ≡ sets labels₀ 0 (map labelOf (pricesOf pages list)))
-    × (listLeft priceOf pages list index s prices ≡ sets prices₀ 0 (map priceOf (pricesOf pages list)))
-    × (countLeft pages list index s ≡ length (pricesOf pages list))
+Inv-loop list pages labels₀ prices₀ at₀ labels prices at =
+    Reached pages (length list) at
+    × Listing labelOf pages list labels₀ labels at
+    × Listing priceOf pages list prices₀ prices at
+    × (countLeft pages list at ≡ length (pricesOf pages list))
 
 abbrev μ-loop : tie.MeasureT-loop
-μ-loop list pages labels₀ prices₀ s₀ index₀ labels prices s index = length list - index
+μ-loop list pages labels₀ prices₀ at₀ labels prices at = length list - at .index
 
 loop-holds : tie.Need-loop-holds Inv-loop μ-loop
-loop-holds c = rw (c .cursor .ensures, list-first, list-first, count-first) (search needs)
+loop-holds c =
+    rw (c .first-word .ensures)
+    (omega arith, listing-first labelOf _ _ _, listing-first priceOf _ _ _, count-first _ _)
+
+put-due-requires : tie.Need-put-due-requires Inv-loop μ-loop
+put-due-requires c κs =
+    let at = c .before .before .before .before .before .loop in
+    let reached = at .inv .0 in
+    let labels = at .inv .1 .same-length in
+    let prices = at .inv .2 .same-length in (
+      record { within = omega arith; one = omega arith; few = omega arith; named = omega arith },
+      ((omega arith, omega arith), omega arith),
+    )
+
+next-word-requires : tie.Need-next-word-requires Inv-loop μ-loop
+next-word-requires c κs =
+    let at = c .before .before .before .before .before .before .before .before .before .before .loop in
+    let reached = at .inv .0 in (
+      record { within = omega arith; one = omega arith; few = omega arith; named = omega arith },
+      search needs,
+    )
+
+loop-less : tie.Need-loop-less Inv-loop μ-loop
+loop-less c =
+    let turn = c .before .before .before .before .before .before .before .before .before in
+    let at = turn .before .before .loop in
+    let list = turn .before .before .before .before .before .before .before .args .list .now in
+    rw (c .next-word .ensures) (fewer-left _ list (at .at) (turn .if1 .taken) (at .inv .0))
 
 loop-again : tie.Need-loop-again Inv-loop μ-loop
 loop-again c =
-    let at = c .before .before .before .before .before .before .before .before .loop in
-    let within = c .before .before .before .before .before .before .before .loop-test .taken in
-    let due = c .before .before .before .before .if1 .taken in
-    rw (c .price-read .ensures) (
-      search needs,
-      record { within = search needs; one = search needs; few = search needs; named = search needs },
-      search needs,
-      search needs,
-      search needs,
-      search needs,
-      sym (list-due labelOf _ _ _ (at .s) (at .labels) within due) ∙ at .inv .6,
-      sym (list-due priceOf _ _ _ (at .s) (at .prices) within due) ∙ at .inv .7,
-      sym (count-due _ _ _ (at .s) within due) ∙ at .inv .8,
-    )
-
-loop-again-2 : tie.Need-loop-again-2 Inv-loop μ-loop
-loop-again-2 c =
-    let at = c .before .before .before .before .before .before .before .before .loop in
-    let within = c .before .before .before .before .before .before .before .loop-test .taken in
-    let idle = c .before .before .before .before .if1 .left in
-    let does = sym (c .before .t .given .1) ∙ c .before .before .before .read-word .ensures in
-    let free : Idle (at .s) = record { idle = omega arith; inside = omega arith; one = at .inv .1 .one } in
-    let passed = word-passed _ _ _ _ free _ does in (
-      search needs,
-      passed-well-formed _ _ passed (omega arith),
-      omega arith,
-      passed .on (at .inv .3),
-      at .inv .4,
-      at .inv .5,
-      sym (list-next labelOf _ _ _ (at .s) (at .labels) _ does within idle _ refl (passed .counts)) ∙ at .inv .6,
-      sym (list-next priceOf _ _ _ (at .s) (at .prices) _ does within idle _ refl (passed .counts)) ∙ at .inv .7,
-      sym (count-next _ _ _ (at .s) _ does within idle _ refl (passed .counts)) ∙ at .inv .8,
+    let put = c .before .before .before .before .before in
+    let turn = put .before .before .before .before in
+    let at = turn .before .before .loop in
+    let inside = turn .if1 .taken in
+    let stored = put .put-due .ensures in
+    rw (c .next-word .ensures) (
+      reached-next _ _ (at .at) inside (at .inv .0),
+      listing-next labelOf _ _ _ (at .inv .1) inside (stored .0),
+      listing-next priceOf _ _ _ (at .inv .2) inside (stored .1),
+      sym (count-next _ _ (at .at) inside) ∙ at .inv .3,
     )
 
 returns : tie.Need-returns Inv-loop μ-loop
 returns c =
-    let at = c .before .before .before .before .before .before .before .loop in
-    let within = c .before .before .before .before .before .before .loop-test .taken in
-    let idle = c .before .before .before .if1 .left in
-    let does = sym (c .enum-told .given .1) ∙ c .before .before .read-word .ensures in (
-      sym (count-over _ _ _ (at .s) _ does within idle refl) ∙ at .inv .8,
-      (
-        sym (list-over labelOf _ _ _ (at .s) (at .labels) _ does within idle refl) ∙ at .inv .6,
-        sym (list-over priceOf _ _ _ (at .s) (at .prices) _ does within idle refl) ∙ at .inv .7,
-      ),
-    )
-
-returns-2 : tie.Need-returns-2 Inv-loop μ-loop
-returns-2 c =
-    let at = c .before .before .before .before .before .before .before .loop in
-    let within = c .before .before .before .before .before .before .loop-test .taken in
-    let idle = c .before .before .before .if1 .left in
-    let does = sym (c .enum-told2 .given .1) ∙ c .before .before .read-word .ensures in (
-      sym (count-over _ _ _ (at .s) _ does within idle refl) ∙ at .inv .8,
-      (
-        sym (list-over labelOf _ _ _ (at .s) (at .labels) _ does within idle refl) ∙ at .inv .6,
-        sym (list-over priceOf _ _ _ (at .s) (at .prices) _ does within idle refl) ∙ at .inv .7,
-      ),
-    )
-
-returns-3 : tie.Need-returns-3 Inv-loop μ-loop
-returns-3 c =
-    let at = c .before .loop in (
-      sym (count-end _ _ _ (at .s) (c .loop-test .left)) ∙ at .inv .8,
-      (
-        sym (list-end labelOf _ _ _ (at .s) (at .labels) (c .loop-test .left)) ∙ at .inv .6,
-        sym (list-end priceOf _ _ _ (at .s) (at .prices) (c .loop-test .left)) ∙ at .inv .7,
-      ),
+    let at = c .before .before .loop in
+    let end = c .if1 .left in (
+      sym (count-end _ _ (at .at) end) ∙ at .inv .3,
+      (listing-end labelOf _ _ _ (at .inv .1) end, listing-end priceOf _ _ _ (at .inv .2) end),
     )
 
 pub list-prices-spec : {M : Type 1} → statement M
 list-prices-spec =
     tie.close
     (tie.spec Inv-loop μ-loop (λ c κs. search needs) loop-holds (λ c. search needs) (λ c. search needs)
-    (λ c. search needs) (λ c. search needs) (λ c. search needs) (λ c. search needs) (λ c. search needs)
-    (λ c. search needs) (λ c. search needs) (λ c. search needs) (λ c κs. search needs) (λ c. search needs)
-    (λ c. search needs) loop-again (λ c κs. search needs) (λ c. search needs) (λ c. search needs)
-    (λ c. search needs) loop-again-2 (λ c. search needs) (λ c. search needs) (λ c. search needs) returns
-    (λ c. search needs) (λ c. search needs) (λ c. search needs) returns-2 (λ c. search needs)
-    (λ c. search needs) returns-3)
+    put-due-requires next-word-requires loop-less loop-again (λ c. search needs) (λ c. search needs) returns)

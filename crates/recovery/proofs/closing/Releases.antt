@@ -1,14 +1,13 @@
 -- A release run to its close: its steps fall one by one, and what other cards' releases stand in is left as it was.
 use Rattle.laws.proofs.Prelude.{ℕ, zero, suc, _+_, _<_, _≤_, _≡_, sym, _∙_, _≢_, List, true, false, arith, length, set}
 use Rattle.laws.proofs.Bools.{by-cond, and-first}
-use Rattle.memory.specs.Area.{AreaIn}
-use Rattle.memory.proofs.Index.{area-in}
 use Rattle.directory.specs.declared.Directory.{Directory}
 use Rattle.directory.specs.Directory.{liveAt}
 use Rattle.directory.proofs.Live.{next-live-below}
-use Rattle.protocol.specs.Release.{sizeOf, isOpen, stepMemory}
+use Rattle.area.specs.Prelude.{AreaIn, isOpen}
+use Rattle.area.proofs.Prelude.{area-in, SameOwn, same-own-release, is-open-kept}
+use Rattle.protocol.specs.Release.{sizeOf, stepMemory}
 use Rattle.protocol.specs.Recovery.{backupBefore, stepTimes, runToClose}
-use Rattle.protocol.proofs.release.Shape.{SameOwn, same-own-release, is-open-kept}
 use Rattle.release.specs.Stepping.{CardIn, GoodRelease, StepsLeft, leftOf}
 use Rattle.release.proofs.Callers.{homes, times-by-homes}
 use Rattle.release.proofs.Kept.{step-keeps-others}

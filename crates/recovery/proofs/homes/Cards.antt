@@ -1,11 +1,10 @@
 -- Homes of a page: the one that it keeps is a card, and so is the next live card after it.
 use Rattle.laws.proofs.Prelude.{ℕ, _<_, _≤_, List, Bool, arith, getD, eqb}
 use Rattle.laws.proofs.Bools.{by-cond}
-use Rattle.memory.specs.Layout.{areaSize}
-use Rattle.memory.specs.Area.{AreaIn}
-use Rattle.memory.proofs.Index.{area-in}
 use Rattle.directory.specs.Directory.{nextLive}
 use Rattle.directory.proofs.Live.{next-live-below}
+use Rattle.area.specs.Prelude.{AreaIn, areaSize, pagesStart}
+use Rattle.area.proofs.Prelude.{area-in}
 use Rattle.protocol.specs.Recovery.{keptHome}
 use Rattle.release.specs.Stepping.{CardIn, HomesIn}
 use Rattle.recovery.specs.Rack.{RackIn, SomeLive, homesOnly}
@@ -24,5 +23,5 @@ next-below {live} {cards} some c = next-live-below live cards c (some .card) (so
 
 -- so a record is read there
 pub next-in : {live : List Bool} {cards pages words : ℕ} → RackIn live cards pages words → SomeLive live cards
-    → (c : ℕ) → (676 ≤ areaSize pages) × AreaIn words (areaSize pages) (nextLive live cards c)
+    → (c : ℕ) → (pagesStart ≤ areaSize pages) × AreaIn words (areaSize pages) (nextLive live cards c)
 next-in rack some c = (omega arith, area-in _ (next-below some c) (rack .whole))

@@ -1,12 +1,13 @@
 -- Rests on what its parts ensure, each of them a part of the definition.
 use mathlib.Core.Path.{_∙_}
+use borrow.Author.Needs.{needs}
+use Rattle.area.proofs.Record.{load-record}
 use Rattle.release.proofs.Callers.{homes-kept}
 use Rattle.recovery.specs.Closing.{recoveredClosed}
 use Rattle.recovery.specs.Rack.{rackOf}
 use Rattle.recovery.proofs.Kept.{rack-kept}
 use Rattle.recovery.proofs.Recovering.{same-pages, same-records}
 use Rattle.recovery.proofs.homes.Cards.{next-in}
-use borrow.Author.Needs.{needs}
 use Rattle.recovery.proofs.recover_closed.Statement.{statement}
 use Rattle.recovery.proofs.recover_closed.Tie as tie
 

@@ -4,7 +4,7 @@ use native.Mathlib.Omega.{arith}
 use borrow.Author.Needs.{needs}
 use borrow.Author.Tests.{lt-ltb, le-ltb, le-leb, lt-leb}
 use Rattle.memory.proofs.Index.{area-in}
-use Rattle.protocol.specs.Release.{ownRelease}
+use Rattle.area.specs.Releases.{ownRelease}
 use Rattle.checks.proofs.Order.{first-refuses, first-passes}
 use Rattle.refusals.proofs.number_refusal.Statement.{statement}
 use Rattle.refusals.proofs.number_refusal.Tie as tie
@@ -22,8 +22,8 @@ returns c =
     let opened = sym (rw size at (busy .before .is-open .ensures)) ∙ busy .if1 .taken in
     c .refused .ensures ∙ sym (first-refuses _ _ _ _ _ opened)
 
-load-word-requires : tie.Need-load-word-requires
-load-word-requires c κs =
+load-number-requires : tie.Need-load-number-requires
+load-number-requires c κs =
     let start = c .before .before .before .before .before .before in
     rw (c .before .before .area-size .ensures) (area-in _ (start .pre .1 .1) (start .pre .0 .1), omega arith)
 
@@ -34,7 +34,7 @@ returns-2 c =
     let used = c .before in
     let size = busy .before .before .area-size .ensures in
     let opened = sym (rw size at (busy .before .is-open .ensures)) ∙ busy .if1 .left in
-    let stamp = rw size at (used .before .load-word .ensures) in
+    let stamp = rw size at (used .before .load-number .ensures) in
     (rw stamp at (c .refused2 .ensures))
     ∙ sym (first-passes _ _ _ _ _ opened
     ∙ first-refuses _ _ _ _ _ (rw stamp at (le-leb _ _ (used .if2 .taken))))
@@ -46,7 +46,7 @@ returns-3 c =
     let busy = used .before .before in
     let size = busy .before .before .area-size .ensures in
     let opened = sym (rw size at (busy .before .is-open .ensures)) ∙ busy .if1 .left in
-    let stamp = rw size at (used .before .load-word .ensures) in
+    let stamp = rw size at (used .before .load-number .ensures) in
     c .refused3 .ensures
     ∙ sym (first-passes _ _ _ _ _ opened
     ∙ first-passes _ _ _ _ _ (rw stamp at (lt-leb _ _ (used .if2 .left)))
@@ -59,7 +59,7 @@ returns-4 c =
     let busy = used .before .before in
     let size = busy .before .before .area-size .ensures in
     let opened = sym (rw size at (busy .before .is-open .ensures)) ∙ busy .if1 .left in
-    let stamp = rw size at (used .before .load-word .ensures) in
+    let stamp = rw size at (used .before .load-number .ensures) in
     c .list-refusal .ensures
     ∙ sym (first-passes _ _ _ _ _ opened
     ∙ first-passes _ _ _ _ _ (rw stamp at (lt-leb _ _ (used .if2 .left)))
@@ -68,6 +68,6 @@ returns-4 c =
 pub number-refusal-spec : {M : Type 1} → statement M
 number-refusal-spec =
     tie.close
-    (tie.spec (λ c κs. search needs) is-open-requires (λ c κs. search needs) returns load-word-requires
+    (tie.spec (λ c κs. search needs) is-open-requires (λ c κs. search needs) returns load-number-requires
     (λ c. search needs) (λ c κs. search needs) returns-2 (λ c. omega arith) (λ c κs. search needs) returns-3
     (λ c κs. search needs) returns-4)

@@ -17,9 +17,9 @@ returns c =
       list .clear-run2 .ensures,
       release .clear-run .ensures,
       desk .store-run .ensures,
-      stamp .store-word .ensures,
+      stamp .store-number .ensures,
       desk-read .load-run .ensures,
-      number-read .load-word .ensures,
+      number-read .load-number .ensures,
     )
     (close-stores (a .size) (a .memory .now) (a .card))
 

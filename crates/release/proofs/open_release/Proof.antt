@@ -15,7 +15,7 @@ returns c =
     rw (
       list .store-run2 .ensures,
       desk .store-run .ensures,
-      number .store-word3 .ensures,
+      number .store-number .ensures,
       steps .store-word2 .ensures,
       mark .store-word .ensures,
     )

@@ -1,6 +1,6 @@
 -- Rests on `home-in`: both homes of a page are cards.
-use native.Mathlib.Omega.{arith}
 use borrow.Author.Needs.{needs}
+use native.Mathlib.Omega.{arith}
 use Rattle.release.proofs.Stores.{home-in}
 use Rattle.release.proofs.step_price.Statement.{statement}
 use Rattle.release.proofs.step_price.Tie as tie
@@ -19,7 +19,7 @@ write-price-requires c κs =
     let pre = start .pre in
     rw (sized .area-size .ensures, c .before .before .home-at .ensures) (
       home-in (a .pages) (a .live .now) (a .primary .now) (a .secondary .now) (pre .0) (a .at) _ (pre .1 .0),
-      (omega arith, omega arith),
+      (omega arith, omega arith, omega arith),
     )
 
 returns : tie.Need-returns
@@ -32,4 +32,4 @@ pub step-price-spec : {M : Type 1} → statement M
 step-price-spec =
     tie.close
     (tie.spec (λ c κs. search needs) (λ c. search needs) home-at-requires (λ c. search needs) (λ c. search needs)
-    (λ c. search needs) (λ c. search needs) (λ c. search needs) write-price-requires (λ c. search needs) returns)
+    (λ c. search needs) write-price-requires (λ c. search needs) returns)

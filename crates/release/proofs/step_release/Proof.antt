@@ -2,7 +2,6 @@
 use Prim.Native.Nat.{_/_}
 use native.Mathlib.Omega.{arith}
 use borrow.Author.Needs.{needs}
-use Rattle.protocol.specs.Release.{stepsOf}
 use Rattle.release.specs.Stepping.{homesOf}
 use Rattle.release.proofs.Halves.{next-price, half-bounds}
 use Rattle.release.proofs.Prices.{price-at}
@@ -17,11 +16,11 @@ count-prices-requires c κs =
     let pre = start .pre in
     ((size, rw size (pre .1 .0 .area)), pre .1 .1 .1)
 
-load-word-requires : tie.Need-load-word-requires
-load-word-requires c κs =
+steps-made-requires : tie.Need-steps-made-requires
+steps-made-requires c κs =
     let sized = c .before .before .before in
     let start = sized .before .before .before .before .before in
-    rw (sized .area-size .ensures) (start .pre .1 .0 .area, omega arith)
+    rw (sized .area-size .ensures) (omega arith, start .pre .1 .0 .area)
 
 prices-next-requires : tie.Need-prices-next-requires
 prices-next-requires c κs = c .before .before .count-prices .ensures .few
@@ -52,7 +51,7 @@ step-price-requires c κs =
     let a = start .args in
     let counted = counting .count-prices .ensures in
     let k = counting .count-prices .result in
-    let next = next-price k (nexts .before .load-word .result) (omega (arith, nexts .prices-next .ensures)) in
+    let next = next-price k (nexts .before .steps-made .result) (omega (arith, nexts .prices-next .ensures)) in
     let bounds = half-bounds (next .half) in
     let price =
     price-at (a .pages) (a .memory .now) (a .card) (numbering .number-next .result / 2) (found .find-price .result)
@@ -61,19 +60,17 @@ step-price-requires c κs =
     (start .pre .0, (price .on-page, price .in-page, omega (arith, bounds .1, c .before .half-next .ensures)))
 
 count-steps-requires : tie.Need-count-steps-requires
-unfolding stepsOf
 count-steps-requires c κs =
     let loaded = c .before .before .before .before .before .before .before .before .before .before .before in
     let counting = loaded .before .before in
     let sized = counting .before .before in
     let start = sized .before .before .before .before .before in
     let counted = counting .count-prices .ensures in
-    let made = rw (sized .area-size .ensures) at (loaded .load-word .ensures) in
+    let made = rw (sized .area-size .ensures) at (loaded .steps-made .ensures) in
     let area = start .pre .1 .0 .area in
     rw (sized .area-size .ensures) (omega arith, omega arith, omega (arith, counted .under, counted .few))
 
 returns : tie.Need-returns
-unfolding stepsOf
 returns c =
     let stored = c .before .before .before .before .before .before in
     let halving = stored .before .before in
@@ -89,8 +86,8 @@ returns c =
     let area = start .pre .1 .0 .area in
     let size = sized .area-size .ensures in
     let counted = counting .count-prices .ensures in
-    let steps = loaded .load-word .result in
-    let made = rw size at (loaded .load-word .ensures) in
+    let steps = loaded .steps-made .result in
+    let made = rw size at (loaded .steps-made .ensures) in
     let at = numbering .number-next .result in
     let number = numbering .number-next .ensures in
     let next = next-price (counting .count-prices .result) steps (omega (arith, nexts .prices-next .ensures)) in
@@ -112,7 +109,6 @@ returns c =
     (rw (size, stored .step-price .ensures) at (c .before .before .count-steps .ensures))
 
 other-step-requires : tie.Need-other-step-requires
-unfolding stepsOf
 other-step-requires c κs =
     let nexts = c .before .before in
     let loaded = nexts .before in
@@ -120,7 +116,7 @@ other-step-requires c κs =
     let sized = counting .before .before in
     let start = sized .before .before .before .before .before in
     let pre = start .pre in
-    let made = rw (sized .area-size .ensures) at (loaded .load-word .ensures) in (
+    let made = rw (sized .area-size .ensures) at (loaded .steps-made .ensures) in (
       pre .1 .0,
       (
         pre .1 .1 .0,
@@ -137,6 +133,6 @@ returns-2 c = c .before .before .other-step .ensures _ _
 pub step-release-spec : {M : Type 1} → statement M
 step-release-spec =
     tie.close
-    (tie.spec (λ c κs. search needs) count-prices-requires load-word-requires prices-next-requires
+    (tie.spec (λ c κs. search needs) count-prices-requires steps-made-requires prices-next-requires
     number-next-requires find-price-requires half-next-requires step-price-requires count-steps-requires
     (λ c. search needs) returns other-step-requires (λ c. search needs) returns-2)

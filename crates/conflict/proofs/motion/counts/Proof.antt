@@ -1,12 +1,10 @@
 -- Rests on the steps made, as the card's area has them.
 use borrow.Author.Needs.{needs}
-use Rattle.protocol.specs.Release.{stepsOf}
 use Rattle.conflict.proofs.motion.counts.Statement.{statement}
 use Rattle.conflict.proofs.motion.counts.Tie as tie
 
 returns : tie.Need-returns
-unfolding stepsOf
-returns c = rw (c .load-word .ensures)
+returns c = rw (c .steps-made .ensures)
 
 pub counts-spec : {M : Type 1} → statement M
 counts-spec =

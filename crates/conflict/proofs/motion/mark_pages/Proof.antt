@@ -6,8 +6,8 @@ use native.Mathlib.Omega.{arith}
 use borrow.Author.Needs.{needs}
 use lib.ListN.{length}
 use Rattle.diff.specs.Prices.{pricesOf}
+use Rattle.reader.proofs.Walking.{pricesLeft, left-first, left-end, fewer-left}
 use Rattle.conflict.specs.Motion.{pageOf}
-use Rattle.conflict.proofs.Walking.{pricesLeft, left-first, left-end, fewer-left}
 use Rattle.conflict.proofs.Marks.{Marking, marking-first, marking-next, marking-end}
 use Rattle.conflict.proofs.motion.Turns.{count-turn}
 use Rattle.conflict.proofs.motion.mark_pages.Statement.{statement}

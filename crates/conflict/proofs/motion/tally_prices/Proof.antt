@@ -8,7 +8,7 @@ use borrow.Author.Needs.{needs}
 use lib.ListN.{length}
 use Rattle.diff.specs.Prices.{pricesOf}
 use Rattle.protocol.specs.Fetch.{namesPage}
-use Rattle.conflict.proofs.Walking.{Reached, pricesLeft, left-first, left-end, reached-next, fewer-left}
+use Rattle.reader.proofs.Walking.{Reached, pricesLeft, left-first, left-end, reached-next, fewer-left}
 use Rattle.conflict.proofs.motion.Turns.{page-turn, page-end, count-turn}
 use Rattle.conflict.proofs.motion.tally_prices.Statement.{statement}
 use Rattle.conflict.proofs.motion.tally_prices.Tie as tie

@@ -4,7 +4,7 @@ use mathlib.Core.Path.{refl}
 use borrow.Author.Needs.{needs}
 use lib.ListN.{length}
 use Rattle.diff.specs.Prices.{labelOf}
-use Rattle.conflict.proofs.Walking.{fewer-left}
+use Rattle.reader.proofs.Walking.{fewer-left}
 use Rattle.conflict.proofs.Marks.{Marking, marking-first, marking-next, marking-end}
 use Rattle.conflict.proofs.sharing.mark_labels.Statement.{statement}
 use Rattle.conflict.proofs.sharing.mark_labels.Tie as tie

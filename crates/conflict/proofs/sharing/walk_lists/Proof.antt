@@ -7,8 +7,8 @@ use lib.ListN.{length}
 use Rattle.laws.proofs.Search.{Passed, passed-none, passed-more, lowest-found, lowest-none}
 use Rattle.memory.proofs.Index.{area-in}
 use Rattle.diff.specs.Prices.{pricesOf}
+use Rattle.reader.proofs.Walking.{Reached, pricesLeft, left-first, reached-next, fewer-left}
 use Rattle.conflict.specs.Sharing.{anyMarked, marksWith}
-use Rattle.conflict.proofs.Walking.{Reached, pricesLeft, left-first, reached-next, fewer-left}
 use Rattle.conflict.proofs.sharing.Turns.{any-turn, any-end, marks-not, marks-list}
 use Rattle.conflict.proofs.sharing.walk_lists.Statement.{statement}
 use Rattle.conflict.proofs.sharing.walk_lists.Tie as tie

@@ -1,10 +1,10 @@
 -- Rests on the two tests, and on `next-below`: the holder is a card.
+use borrow.Author.Needs.{needs}
 use native.Mathlib.Omega.{arith}
 use borrow.Author.Tests.{eq-eqb, ne-eqb}
 use Rattle.memory.proofs.Index.{area-in}
 use Rattle.protocol.specs.Join.{copyDeadRecord}
 use Rattle.recovery.proofs.homes.Cards.{next-below}
-use borrow.Author.Needs.{needs}
 use Rattle.recovery.proofs.joining.copy_dead_record.Statement.{statement}
 use Rattle.recovery.proofs.joining.copy_dead_record.Tie as tie
 
@@ -23,7 +23,7 @@ copy-record-requires c κs =
     let below = next-below (pre .1 .0) (start .args .card) in
     rw (c .before .area-size .ensures, c .before .before .next-live-after .ensures) (
       area-in _ below (pre .0 .whole),
-      (area-in _ (pre .1 .1 .0) (pre .0 .whole), omega arith),
+      (area-in _ (pre .1 .1 .0) (pre .0 .whole), (omega arith, omega (arith, pre .0 .eight))),
     )
 
 returns-3 : tie.Need-returns-3
@@ -38,5 +38,5 @@ returns-3 c =
 pub copy-dead-record-spec : {M : Type 1} → statement M
 copy-dead-record-spec =
     tie.close
-    (tie.spec (λ c. search needs) returns returns-2 (λ c κs. search needs) (λ c. search needs) (λ c. search needs)
-    (λ c. search needs) (λ c κs. search needs) copy-record-requires (λ c. search needs) returns-3)
+    (tie.spec (λ c. search needs) returns returns-2 (λ c κs. search needs) (λ c. search needs) (λ c κs. search needs)
+    copy-record-requires (λ c. search needs) returns-3)

@@ -1,10 +1,11 @@
--- Rests on `own-stores`: own stamp and desk are one run.
+-- Rests on `number-then`: own stamp and desk are one run.
 use native.Mathlib.Omega.{arith}
+use borrow.Author.Needs.{needs}
 use Rattle.memory.proofs.Index.{area-in}
+use Rattle.area.proofs.NumberWords.{number-then}
+use Rattle.area.proofs.Record.{load-record}
 use Rattle.protocol.specs.Join.{resetArea}
 use Rattle.recovery.proofs.homes.Cards.{next-in}
-use Rattle.recovery.proofs.records.Stores.{own-stores}
-use borrow.Author.Needs.{needs}
 use Rattle.recovery.proofs.joining.reset_area.Statement.{statement}
 use Rattle.recovery.proofs.joining.reset_area.Tie as tie
 
@@ -22,8 +23,8 @@ clear-run-requires c κs =
     let pre = size .before .before .before .pre in
     rw (size .area-size .ensures) (area-in _ (pre .1 .1) (pre .0 .whole), omega arith)
 
-store-word-requires : tie.Need-store-word-requires
-store-word-requires c κs =
+store-number-requires : tie.Need-store-number-requires
+store-number-requires c κs =
     let size = c .before .before .before .before .before .before .before .before .before .before in
     let pre = size .before .before .before .pre in
     let area = area-in _ (pre .1 .1) (pre .0 .whole) in
@@ -47,12 +48,12 @@ returns c =
     let next = read .before .before .before in
     let size = next .before in
     let says = read .load-record .ensures in
-    rw (run .store-run .ensures, word .store-word .ensures, clear .clear-run .ensures, says .0, says .1)
-    (rw (next .next-live-after .ensures, size .area-size .ensures) (own-stores _ _ _ _ _))
+    rw (run .store-run .ensures, word .store-number .ensures, clear .clear-run .ensures, says .0, says .1)
+    (rw (next .next-live-after .ensures, size .area-size .ensures) (number-then _ _ _ _ _ _))
 
 pub reset-area-spec : {M : Type 1} → statement M
 reset-area-spec =
     tie.close
     (tie.spec (λ c κs. search needs) (λ c κs. search needs) (λ c. search needs) (λ c. search needs)
-    load-record-requires clear-run-requires store-word-requires (λ c. search needs) store-run-requires
+    load-record-requires clear-run-requires store-number-requires (λ c. search needs) store-run-requires
     (λ c. search needs) returns)

@@ -2,10 +2,10 @@
 use mathlib.Core.Path.{sym, _∙_}
 use native.Mathlib.Omega.{arith}
 use borrow.Author.Tests.{eq-eqb, ne-eqb}
+use borrow.Author.Needs.{needs}
 use Rattle.memory.proofs.Index.{area-in}
 use Rattle.directory.proofs.Live.{next-live-below}
-use Rattle.protocol.specs.Record.{writeOwnRecord}
-use borrow.Author.Needs.{needs}
+use Rattle.area.specs.Record.{writeOwnRecord}
 use Rattle.recovery.proofs.records.write_own_record.Statement.{statement}
 use Rattle.recovery.proofs.records.write_own_record.Tie as tie
 

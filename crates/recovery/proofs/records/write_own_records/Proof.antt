@@ -2,9 +2,9 @@
 use Prim.Native.Nat.{_-_}
 use native.Mathlib.Omega.{arith}
 use borrow.Author.Needs.{needs}
-use Rattle.memory.specs.Layout.{areaSize}
 use Rattle.directory.specs.Live.{nextLive}
-use Rattle.protocol.specs.Record.{writeOwnRecord}
+use Rattle.area.specs.Layout.{areaSize}
+use Rattle.area.specs.Record.{writeOwnRecord}
 use Rattle.recovery.specs.Rack.{backedBy}
 use Rattle.recovery.proofs.Kept.{rack-kept}
 use Rattle.recovery.proofs.Turns.{Turned, turn-none, turn-more, turn-all}

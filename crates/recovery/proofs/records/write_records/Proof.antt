@@ -1,12 +1,12 @@
 -- Rests on `records-by-marks`: the records by the marks before and after the failure are those of the rack.
 use mathlib.Core.Path.{_∙_}
-use Rattle.protocol.specs.Release.{releaseOf}
-use Rattle.protocol.specs.Record.{writeRecord}
+use borrow.Author.Needs.{needs}
+use Rattle.area.specs.Releases.{releaseOf}
+use Rattle.area.specs.Record.{writeRecord}
 use Rattle.protocol.specs.Recovery.{writeFailed}
 use Rattle.recovery.specs.Rack.{marksOf}
 use Rattle.recovery.proofs.Kept.{rack-kept}
 use Rattle.recovery.proofs.Recovering.{records-by-marks}
-use borrow.Author.Needs.{needs}
 use Rattle.recovery.proofs.records.write_records.Statement.{statement}
 use Rattle.recovery.proofs.records.write_records.Tie as tie
 

@@ -1,7 +1,6 @@
 -- Rests on `StepsMade`: what is left of the steps gives what all of them give; the list stays, and so does its table.
 use native.Mathlib.Omega.{arith}
 use borrow.Author.Needs.{needs}
-use Rattle.protocol.specs.Release.{stepsOf}
 use Rattle.release.specs.Stepping.{homesOf}
 use Rattle.release.proofs.Callers.{homes-kept, card-kept}
 use Rattle.release.proofs.Prices.{listed-kept}
@@ -19,19 +18,18 @@ abbrev μ-loop : tie.MeasureT-loop
 loop-holds : tie.Need-loop-holds Inv-loop μ-loop
 loop-holds c = steps-none (c .before .before .before .before .before .before .before .pre .1 .1 .1 .0)
 
-load-word-requires : tie.Need-load-word-requires Inv-loop μ-loop
-load-word-requires c κs =
+steps-made-requires : tie.Need-steps-made-requires Inv-loop μ-loop
+steps-made-requires c κs =
     let turn = c .before .before in
     let sized = turn .before in
     let start = sized .before .before .before .before .before .before .before in
     let card = card-kept (start .pre .1 .0) (turn .loop .inv .same) in
-    rw (sized .area-size .ensures) (card .area, omega arith)
+    rw (sized .area-size .ensures) (omega arith, card .area)
 
 prices-next-requires : tie.Need-prices-next-requires Inv-loop μ-loop
 prices-next-requires c κs = c .before .before .before .loop .inv .some (c .before .before .loop-test .taken) .few
 
 store-prices-requires : tie.Need-store-prices-requires Inv-loop μ-loop
-unfolding stepsOf
 store-prices-requires c κs =
     let least = c .before .before in
     let tested = least .before .before .before .before in
@@ -41,7 +39,7 @@ store-prices-requires c κs =
     let pre = start .pre in
     let far = turn .loop .inv in
     let more = tested .loop-test .taken in
-    let made = rw (sized .area-size .ensures) at (least .before .before .load-word .ensures) in
+    let made = rw (sized .area-size .ensures) at (least .before .before .steps-made .ensures) in
     let run = least .smaller .ensures in (
       homes-kept (pre .0) (far .same),
       (
@@ -70,7 +68,6 @@ loop-again c =
     (steps-run _ (card .eight) (card .area) (turn .loop .inv) (omega (arith, run)))
 
 other-step-requires : tie.Need-other-step-requires Inv-loop μ-loop
-unfolding stepsOf
 other-step-requires c κs =
     let least = c .before .before in
     let tested = least .before .before .before .before in
@@ -80,7 +77,7 @@ other-step-requires c κs =
     let pre = start .pre in
     let far = turn .loop .inv in
     let more = tested .loop-test .taken in
-    let made = rw (sized .area-size .ensures) at (least .before .before .load-word .ensures) in
+    let made = rw (sized .area-size .ensures) at (least .before .before .steps-made .ensures) in
     let next = least .before .prices-next .ensures in (
       card-kept (pre .1 .0) (far .same),
       (
@@ -107,6 +104,6 @@ returns c = steps-all (c .before .loop .inv) (c .loop-test .left)
 pub make-listed-spec : {M : Type 1} → statement M
 make-listed-spec =
     tie.close
-    (tie.spec Inv-loop μ-loop (λ c κs. search needs) loop-holds load-word-requires prices-next-requires
+    (tie.spec Inv-loop μ-loop (λ c κs. search needs) loop-holds steps-made-requires prices-next-requires
     (λ c κs. search needs) store-prices-requires sub-left (λ c. omega arith) loop-again other-step-requires
     (λ c. omega arith) (λ c. omega arith) loop-again-2 (λ c. search needs) returns)

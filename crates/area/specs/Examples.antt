@@ -1,0 +1,40 @@
+-- Worked examples of a card's area, computed from the definitions: the layout, and records.
+-- Assumes nothing: these are definitions.
+use Rattle.laws.specs.Prelude.{ℕ, List, [], _∷_, _++_, Bool, cond}
+use Rattle.laws.specs.Examples.{Example, computed}
+use Rattle.memory.specs.Words.{store, zeros}
+use Rattle.directory.specs.Directory.{tableFrom}
+use Rattle.area.specs.Releases.{Release, releaseOf}
+use Rattle.area.specs.Record.{recordedRelease, underWay, settledRecord}
+use Rattle.area.specs.LayoutExamples.{layoutExamples}
+
+-- n numbers from i on: words that all differ, so that it shows where each comes from
+abbrev pub numbersFrom : ℕ → ℕ → List ℕ
+numbersFrom i n = tableFrom (λ j. j) i n
+
+-- a test as a word
+abbrev pub bit : Bool → ℕ
+bit test = cond test 1 0
+
+-- ---- an area of one page, each word of which is its offset, with a record of card 1
+
+-- with this stamp
+abbrev pub recordWith : ℕ → Release
+recordWith stamp = recordedRelease 740 (store 740 (numbersFrom 0 740) 0 38 stamp) 0 1
+
+-- whether one with these two is under way
+abbrev pub differs : ℕ → ℕ → ℕ
+differs stamp done = bit (underWay 740 (store 740 (store 740 (numbersFrom 0 740) 0 38 stamp) 0 39 done) 0 1)
+
+abbrev pub examples : List Example
+examples =
+    layoutExamples
+    -- A record tells its stamp, and the desk of the stamp's evenness, whatever the done mark.
+    ++ computed (recordWith 5 .number ∷ recordWith 5 .desk) (5 ∷ numbersFrom 48 8)
+    ∷ computed (recordWith 6 .number ∷ recordWith 6 .desk) (6 ∷ numbersFrom 40 8)
+    -- A release is under way where stamp and done mark differ, also with the done mark above the stamp.
+    ∷ computed (differs 5 4 ∷ differs 5 5 ∷ differs 4 5 ∷ []) (1 ∷ 0 ∷ 1 ∷ [])
+    -- A record that is written anew has the done mark of its stamp, and zeros for the other desk.
+    ∷ computed (settledRecord (releaseOf 5 (numbersFrom 50 8))) (5 ∷ 5 ∷ (zeros 8 ++ numbersFrom 50 8))
+    ∷ computed (settledRecord (releaseOf 6 (numbersFrom 50 8))) (6 ∷ 6 ∷ (numbersFrom 50 8 ++ zeros 8))
+    ∷ []

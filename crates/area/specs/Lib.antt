@@ -1,0 +1,8 @@
+-- A card's area: where things stand in it, and what it says of releases.
+pub mod Layout
+pub mod Numbers
+pub mod Releases
+pub mod Record
+pub mod LayoutExamples
+pub mod Examples
+pub mod Prelude
