@@ -1,7 +1,6 @@
 -- Laws on lines and answers.
 pub mod Examples
 pub mod Parts
-pub mod Digits
 pub mod Forms
 pub mod Unreadable
 pub mod Numbers

@@ -8,7 +8,7 @@ ghost use Rattle.lines.specs.Line.{digitRead, byteRead, hasBegun};
 ghost use Rattle.lines.specs.Command.{isLabel, openForm, stepForm, failForm, joinForm};
 ghost use Rattle.lines.specs.Command.{fetchForm, formOf, commandOf, partFrom};
 ghost use Rattle.lines.specs.Grammar.{ReadsCommands};
-ghost use Rattle.lines.specs.Answer.{decimalBefore, answerLine};
+ghost use Rattle.lines.specs.Answer.{answerLine};
 ghost use Rattle.lines.specs.Examples.{examples};
 
 // What a line asks for.
@@ -288,51 +288,20 @@ pub fn read_part(line: Line, input: &[u8], from: usize) -> Part
 
 // ---- the line that answers: written from its end to its start, so that no digits are counted
 
-// Writes a byte before `end`, and says where it stands.
-fn put_byte(text: &mut [u8], end: usize, b: u8) -> usize
-    requires { ⌜ (0 < end) × (end ≤ length (now text)) ⌝ }
-    ensures { λ r. ⌜ r + 1 ≡ end ⌝ }
-    ensures { λ r. ⌜ drop r (now (text .exit)) ≡ b ∷ drop end (now (text .entry)) ⌝ }
-{
-    let at = end - 1;
-    text[at] = b;
-    at
-}
-
-// Writes a number's digits before `end`, and says where they start.
-fn put_decimal(text: &mut [u8], end: usize, n: u64) -> usize
-    requires { ⌜ (20 ≤ end) × (end ≤ length (now text)) ⌝ }
-    ensures { λ r. ⌜ (r ≤ end) × (end ≤ r + 20) ⌝ }
-    ensures { λ r. ⌜ drop r (now (text .exit)) ≡ decimalBefore n (drop end (now (text .entry))) ⌝ }
-{
-    let mut at = end;
-    let mut left: usize = 20;
-    let mut rest = n;
-    while 0 < left {
-        if rest < 10 {
-            return put_byte(text, at, 48 + rest as u8);
-        }
-        at = put_byte(text, at, 48 + (rest % 10) as u8);
-        rest /= 10;
-        left -= 1;
-    }
-    at
-}
-
 // Writes an answer at the end of a text, and says where it starts.
 fn put_answer(text: &mut [u8], number: u64, letter: u8, refusal: u32, value: u64) -> usize
     requires { ⌜ length (now text) ≡ 80 ⌝ }
     ensures { λ r. ⌜ r ≤ 80 ⌝ }
     ensures { λ r. ⌜ drop r (now (text .exit)) ≡ answerLine number letter refusal value ⌝ }
 {
-    let feed = put_byte(text, 80, 10);
-    let shown = put_decimal(text, feed, value);
-    let third = put_byte(text, shown, 32);
-    let refused = put_decimal(text, third, refusal as u64);
-    let second = put_byte(text, refused, 32);
-    let named = put_byte(text, second, letter);
-    let first = put_byte(text, named, 32);
-    put_decimal(text, first, number)
+    let feed = decimal::put_byte(text, 80, 10);
+    let shown = decimal::put_decimal(text, feed, value);
+    let third = decimal::put_byte(text, shown, 32);
+    let refused = decimal::put_decimal(text, third, refusal as u64);
+    let second = decimal::put_byte(text, refused, 32);
+    let named = decimal::put_byte(text, second, letter);
+    let first = decimal::put_byte(text, named, 32);
+    decimal::put_decimal(text, first, number)
 }
 
 // Copies bytes to a place in a text.

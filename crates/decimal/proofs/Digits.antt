@@ -4,7 +4,7 @@ use Rattle.laws.proofs.Prelude.{length, drop, set}
 use native.Mathlib.Numerals.{add-one}
 use lib.ListN.{length-set}
 use lib.Seq.{drop-cons, drop-set-lt, getD-set-same}
-use Rattle.lines.specs.Answer.{digitsBefore}
+use Rattle.decimal.specs.Decimal.{digitsBefore}
 
 pub digits-none : (left n : ℕ) (text : List ℕ) → left ≤ 0 → digitsBefore left n text ≡ text
 unfolding digitsBefore

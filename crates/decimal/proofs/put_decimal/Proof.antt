@@ -3,10 +3,10 @@ use Prim.Native.Nat.{_+_, _≤_}
 use mathlib.Core.Path.{_≡_, sym, ap, _∙_}
 use borrow.Author.Needs.{needs}
 use lib.ListN.{length, drop}
-use Rattle.lines.specs.Answer.{digitsBefore, decimalBefore}
-use Rattle.lines.proofs.Digits.{digits-none, digits-last, digits-more}
-use Rattle.lines.proofs.put_decimal.Statement.{statement}
-use Rattle.lines.proofs.put_decimal.Tie as tie
+use Rattle.decimal.specs.Decimal.{digitsBefore, decimalBefore}
+use Rattle.decimal.proofs.Digits.{digits-none, digits-last, digits-more}
+use Rattle.decimal.proofs.put_decimal.Statement.{statement}
+use Rattle.decimal.proofs.put_decimal.Tie as tie
 
 abbrev Inv-loop : tie.InvT-loop
 Inv-loop text₀ end n at₀ left₀ rest₀ text at left rest =

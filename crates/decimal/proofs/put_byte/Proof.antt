@@ -3,9 +3,9 @@ use Prim.Native.Nat.{_+_, _-_}
 use mathlib.Core.Path.{_≡_}
 use native.Mathlib.Omega.{arith}
 use borrow.Author.Needs.{needs}
-use Rattle.lines.proofs.Digits.{stored-before}
-use Rattle.lines.proofs.put_byte.Statement.{statement}
-use Rattle.lines.proofs.put_byte.Tie as tie
+use Rattle.decimal.proofs.Digits.{stored-before}
+use Rattle.decimal.proofs.put_byte.Statement.{statement}
+use Rattle.decimal.proofs.put_byte.Tie as tie
 
 returns : tie.Need-returns
 returns c =

@@ -1,0 +1,3 @@
+-- Laws on digits.
+pub mod Digits
+pub mod Examples

@@ -1,0 +1,3 @@
+-- What the contracts on numbers in decimal cite.
+pub mod Decimal
+pub mod Examples
