@@ -4,7 +4,6 @@ ghost use Rattle.laws.specs.Prelude.{_≡_, _+_, _<_, _≤_, length};
 ghost use Prim.Native.Nat.{min};
 ghost use mathlib.Core.List.{map};
 ghost use lib.Seq.{sets};
-ghost use Rattle.answer.specs.Outcome.{answerOf};
 ghost use Rattle.diff.specs.Reading.{start, pastPrice, pageStep, runStep, endStep, wordStep};
 ghost use Rattle.diff.specs.Reading.{readDiff, checkDiff};
 ghost use Rattle.diff.specs.Prices.{labelOf, pricesOf};
@@ -16,7 +15,7 @@ ghost use Rattle.reader.specs.Walking.{priceDue};
 
 pub mod walk;
 
-use answer::Answer;
+use answer::Outcome;
 use diff::Cursor;
 use diff::Price;
 use diff::Step;
@@ -178,18 +177,27 @@ pub fn read(list: &[u32], pages: u32) -> Verdict
 }
 
 // Checks a list handed in: gives the number of its prices, or refusal 7 with its place.
-pub fn check(list: &[u32], pages: u32) -> Answer
-    ensures { λ r. ⌜ r ≡ answerOf (checkDiff pages (now (list .entry))) ⌝ }
+pub fn check(list: &[u32], pages: u32) -> Outcome
+    ensures { λ r. ⌜ r ≡ checkDiff pages (now (list .entry)) ⌝ }
 {
     match read(list, pages) {
         Verdict::Good(prices, words) => {
             if (words as usize) < list.len() {
-                Answer::Refused(answer::FAULTY_LIST, words as u64)
+                Outcome {
+                    number: answer::FAULTY_LIST,
+                    value: words as u64,
+                }
             } else {
-                Answer::Given(prices as u64)
+                Outcome {
+                    number: 0,
+                    value: prices as u64,
+                }
             }
         }
-        Verdict::Faulty(place) => Answer::Refused(answer::FAULTY_LIST, place as u64),
+        Verdict::Faulty(place) => Outcome {
+            number: answer::FAULTY_LIST,
+            value: place as u64,
+        },
     }
 }
 

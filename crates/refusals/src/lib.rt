@@ -5,7 +5,6 @@ ghost use Rattle.laws.specs.Prelude.{_≡_, _*_, _<_, _≤_, [], _∷_, length}
 ghost use Rattle.answer.specs.Outcome.{refusedAt};
 ghost use Rattle.directory.specs.Directory.{directoryOf};
 ghost use Rattle.area.specs.Prelude.{areaSize};
-ghost use Rattle.diff.specs.Reading.{checkDiff};
 ghost use Rattle.protocol.specs.Checks.{check, firstRefusal};
 ghost use Rattle.protocol.specs.Calls.{openingChecks, stepChecks, fetchChecks, failureChecks};
 ghost use Rattle.protocol.specs.Calls.{recoveryChecks, joinChecks, deskChecks};
@@ -35,13 +34,6 @@ fn last_check(refuses: bool, number: u32) -> Outcome
 
 // ---- opening a release
 
-// What the list reads as: the number of its prices, or refusal 7 with its place.
-fn check_list(list: &[u32], pages: u32) -> Outcome
-    ensures { λ r. ⌜ r ≡ checkDiff pages (now (list .entry)) ⌝ }
-{
-    answer::outcome_of(reader::check(list, pages))
-}
-
 // 7 and 8: the list, and words of it that another card's open release prices.
 fn list_refusal(
     memory: &[u32],
@@ -58,7 +50,7 @@ fn list_refusal(
         (listChecks cards pages (now (live .entry)) (now (memory .entry)) card (now (list .entry)))
         0 ⌝ }
 {
-    let read = check_list(list, pages);
+    let read = reader::check(list, pages);
     if 0 < read.number {
         return refused(answer::FAULTY_LIST, read.value);
     }

@@ -4,17 +4,16 @@ use mathlib.Core.Path.{_≡_, sym, _∙_}
 use native.Mathlib.Omega.{arith}
 use borrow.Author.Tests.{lt-ltb, le-ltb}
 use borrow.Author.Needs.{needs}
-use Rattle.answer.specs.declared.Answer.the-variants.{Given, Refused}
-use Rattle.answer.specs.Outcome.{answerOf, faultyList}
+use Rattle.answer.specs.Outcome.{given, refusedAt, faultyList}
 use Rattle.diff.specs.declared.Verdict.the-variants.{Good}
 use Rattle.diff.specs.Reading.{wholeDiff, checkDiff}
 use Rattle.reader.proofs.check.Statement.{statement}
 use Rattle.reader.proofs.check.Tie as tie
 
-longer : (prices end words : ℕ) → end < words → answerOf (wholeDiff words (Good prices end)) ≡ Refused faultyList end
+longer : (prices end words : ℕ) → end < words → wholeDiff words (Good prices end) ≡ refusedAt faultyList end
 longer prices end words more = rw (lt-ltb end words more)
 
-whole : (prices end words : ℕ) → words ≤ end → answerOf (wholeDiff words (Good prices end)) ≡ Given prices
+whole : (prices end words : ℕ) → words ≤ end → wholeDiff words (Good prices end) ≡ given prices
 whole prices end words none = rw (le-ltb end words none)
 
 returns : tie.Need-returns

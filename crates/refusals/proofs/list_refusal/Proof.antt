@@ -11,13 +11,13 @@ use Rattle.refusals.proofs.list_refusal.Tie as tie
 returns : tie.Need-returns
 returns c =
     let faulty = c .before in
-    let read = faulty .before .before .check-list .ensures in
+    let read = faulty .before .before .check .ensures in
     (rw read at (c .refused .ensures)) ∙ sym (first-refuses _ _ _ _ _ (rw read at (lt-ltb _ _ (faulty .if1 .taken))))
 
 lowest-sharing-requires : tie.Need-lowest-sharing-requires
 lowest-sharing-requires c κs =
     let start = c .before .before .before .before .before .before in
-    let read = c .before .before .check-list .ensures in
+    let read = c .before .before .check .ensures in
     let a = start .args in
     let few = allowed-few (a .pages) (a .list .now) (rw (← read) (omega arith)) in
     search needs
@@ -26,7 +26,7 @@ returns-2 : tie.Need-returns-2
 returns-2 c =
     let shared = c .before in
     let faulty = shared .before .before in
-    let read = faulty .before .before .check-list .ensures in
+    let read = faulty .before .before .check .ensures in
     let found = shared .before .lowest-sharing .ensures in
     (rw found at (c .refused2 .ensures))
     ∙ sym (first-passes _ _ _ _ _ (rw read at (le-ltb _ _ (faulty .if1 .left)))
@@ -36,7 +36,7 @@ returns-3 : tie.Need-returns-3
 returns-3 c =
     let shared = c .before in
     let faulty = shared .before .before in
-    let read = faulty .before .before .check-list .ensures in
+    let read = faulty .before .before .check .ensures in
     let found = shared .before .lowest-sharing .ensures in
     c .refused3 .ensures
     ∙ sym (first-passes _ _ _ _ _ (rw read at (le-ltb _ _ (faulty .if1 .left)))
