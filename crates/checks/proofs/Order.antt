@@ -29,6 +29,38 @@ module _ (refuses : Bool) (number place : ℕ) where
   unfolding firstRefusal
   last-passes value miss = rw miss
 
+-- ---- checks that come to an outcome, before others
+
+-- the checks refuse by a number other than 0
+abbrev pub named : List Check → Bool
+named [] = true
+named (c ∷ cs) = not (eqb (c .number) 0) && named cs
+
+module _ (more : List Check) (value : ℕ) where
+  first-then : (cs : List Check) → named cs ≡ true
+      → firstRefusal (cs ++ more) value
+      ≡ cond (eqb (firstRefusal cs 0 .number) 0) (firstRefusal more value) (firstRefusal cs 0)
+  unfolding firstRefusal
+  first-then [] all = refl
+  first-then (c ∷ cs) all =
+      go (c .refuses) (first-then cs (and-second (not (eqb (c .number) 0)) (named cs) all))
+    where
+      go : (refuses : Bool)
+          → (firstRefusal (cs ++ more) value
+          ≡ cond (eqb (firstRefusal cs 0 .number) 0) (firstRefusal more value) (firstRefusal cs 0))
+          → cond refuses (refusedAt (c .number) (c .place)) (firstRefusal (cs ++ more) value)
+          ≡ cond (eqb (cond refuses (refusedAt (c .number) (c .place)) (firstRefusal cs 0) .number) 0)
+          (firstRefusal more value) (cond refuses (refusedAt (c .number) (c .place)) (firstRefusal cs 0))
+      go true later = rw (not-true (eqb (c .number) 0) (and-first (not (eqb (c .number) 0)) (named cs) all))
+      go false later = later
+
+  module _ (cs : List Check) (all : named cs ≡ true) {first : Outcome} (reached : first ≡ firstRefusal cs 0) where
+    pub refused-first : first .number ≢ 0 → firstRefusal (cs ++ more) value ≡ first
+    refused-first some = first-then cs all ∙ rw (← reached) (rw (ne-eqb _ _ some))
+
+    pub passed-first : first .number ≡ 0 → firstRefusal (cs ++ more) value ≡ firstRefusal more value
+    passed-first none = first-then cs all ∙ rw (← reached) (rw none)
+
 -- ---- checks that come to a number, before others
 
 -- the checks refuse by a number other than 0, and name no place

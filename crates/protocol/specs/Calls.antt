@@ -8,7 +8,7 @@ use Rattle.protocol.specs.Result.{Result}
 unfoldable pub use Rattle.protocol.specs.Formatting.{formatting}
 unfoldable pub use Rattle.protocol.specs.Opening.{opening, openingChecks}
 unfoldable pub use Rattle.protocol.specs.Step.{step, stepChecks}
-unfoldable pub use Rattle.protocol.specs.Fetch.{fetch, fetchChecks}
+unfoldable pub use Rattle.protocol.specs.Fetch.{fetch, pageChecks, fetchChecks}
 unfoldable pub use Rattle.protocol.specs.Failure.{failure, failureChecks}
 unfoldable pub use Rattle.protocol.specs.Recovery.{recovery, recoveryChecks}
 unfoldable pub use Rattle.protocol.specs.Join.{join, joinChecks}

@@ -23,14 +23,18 @@ inMotion marks pages m page c =
     && (leb (countsAt (length (openPrices pages m c))) (stepsOf (areaSize pages) m c)
     && namesPage (openPrices pages m c) page)
 
-abbrev pub fetchChecks : Directory → List ℕ → ℕ → ℕ → List Check
-fetchChecks d m page room =
+-- those of a page that is to be shown
+abbrev pub pageChecks : Directory → List ℕ → ℕ → List Check
+pageChecks d m page =
     runningChecks d m
     ++ check (leb (d .pages) page) noPage
     ∷ checkAt (someBelow (inMotion (d .live) (d .pages) m page) (d .cards)) pageInMotion
     (lowest (inMotion (d .live) (d .pages) m page) (d .cards))
-    ∷ check (not (eqb room pageSize)) wrongBuffer
     ∷ []
+
+-- and that of the buffer
+abbrev pub fetchChecks : Directory → List ℕ → ℕ → ℕ → List Check
+fetchChecks d m page room = pageChecks d m page ++ check (not (eqb room pageSize)) wrongBuffer ∷ []
 
 unfoldable pub committedPage : Directory → List ℕ → ℕ → List ℕ
 committedPage d m page = loadRun (sizeOf d) m (primaryOf d page) (committed page) pageSize

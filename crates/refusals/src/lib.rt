@@ -6,7 +6,8 @@ ghost use Rattle.answer.specs.Outcome.{refusedAt};
 ghost use Rattle.directory.specs.Directory.{directoryOf};
 ghost use Rattle.area.specs.Prelude.{areaSize};
 ghost use Rattle.protocol.specs.Checks.{check, firstRefusal};
-ghost use Rattle.protocol.specs.Calls.{openingChecks, stepChecks, fetchChecks, failureChecks};
+ghost use Rattle.protocol.specs.Calls.{openingChecks, stepChecks, pageChecks, fetchChecks};
+ghost use Rattle.protocol.specs.Calls.{failureChecks};
 ghost use Rattle.protocol.specs.Calls.{recoveryChecks, joinChecks, deskChecks};
 ghost use Rattle.refusals.specs.Parts.{listChecks, numberChecks};
 use answer::Outcome;
@@ -172,6 +173,40 @@ pub fn step(
     )
 }
 
+// 1, 2, 11, 9 and 10: those of a page that is to be shown.
+fn page_refusal(
+    memory: &[u32],
+    cards: u32,
+    pages: u32,
+    live: &[bool],
+    primary: &[u32],
+    secondary: &[u32],
+    status: Status,
+    page: u32,
+) -> Outcome
+    requires { ⌜ (length (now live) ≡ 8) × (length (now primary) ≡ 64) × (length (now secondary) ≡ 64) ⌝ }
+    ensures { λ r. ⌜ r
+        ≡ firstRefusal
+        (pageChecks
+        (directoryOf cards pages (now (live .entry)) (now (primary .entry))
+        (now (secondary .entry)) status)
+        (now (memory .entry)) page)
+        0 ⌝ }
+{
+    let first = checks::running_refusal(memory, cards, pages, live, primary, secondary, status);
+    if first != 0 {
+        return refused(first, 0);
+    }
+    if pages <= page {
+        return refused(answer::NO_PAGE, 0);
+    }
+    let card = conflict::lowest_in_motion(memory, cards, pages, live, page);
+    if card < cards {
+        return refused(answer::PAGE_IN_MOTION, card as u64);
+    }
+    refused(0, 0)
+}
+
 // `room`: how many words the page buffer has.
 pub fn fetch(
     memory: &[u32],
@@ -193,16 +228,9 @@ pub fn fetch(
         (now (memory .entry)) page room)
         0 ⌝ }
 {
-    let first = checks::running_refusal(memory, cards, pages, live, primary, secondary, status);
-    if first != 0 {
-        return refused(first, 0);
-    }
-    if pages <= page {
-        return refused(answer::NO_PAGE, 0);
-    }
-    let card = conflict::lowest_in_motion(memory, cards, pages, live, page);
-    if card < cards {
-        return refused(answer::PAGE_IN_MOTION, card as u64);
+    let first = page_refusal(memory, cards, pages, live, primary, secondary, status, page);
+    if first.number != 0 {
+        return first;
     }
     last_check(room != area::layout::PAGE_SIZE, answer::WRONG_BUFFER)
 }
