@@ -1,13 +1,13 @@
 -- What follows from demand 3's invariant beside demand 3: a rack so reached always fits, and a release counts once.
 -- Assumes nothing: these are definitions.
-use Rattle.laws.specs.Prelude.{ℕ, suc, _≤_, _≡_, _≢_, _⊎_, [], _∷_, true}
+use Rattle.laws.specs.Prelude.{ℕ, suc, _≤_, _≡_, _≢_, _⊎_, List, [], _∷_, true}
 use Rattle.answer.specs.Outcome.{unfit, releaseOpen, numberUsed}
 use Rattle.directory.specs.declared.Directory.{Directory}
 use Rattle.directory.specs.declared.Status.the-variants.{Running}
 use Rattle.directory.specs.Directory.{isLive}
+use Rattle.area.specs.Prelude.{Release}
 use Rattle.protocol.specs.Result.{accepted}
-use Rattle.protocol.specs.Calls.{Call, open-release, make-step, fetch-page, fail-card, recover, join-card}
-use Rattle.protocol.specs.Calls.{ask-desk}
+use Rattle.protocol.specs.Calls.{open-release}
 use Rattle.protocol.specs.Book.{Opened, none, opened, Book, transitionIf}
 use Rattle.protocol.specs.Demand1.{isAmong}
 use Rattle.protocol.specs.Demand3.{Event, answerTo, Everywhere}
@@ -26,19 +26,14 @@ abbrev pub HasTaken : Book → ℕ → ℕ → Type 0
 HasTaken b card number = (number ≤ b .last card .number) ⊎ OpenUnder (b .release card) number
 
 -- a release resent to its card, live on a running rack, is refused with 4 or 5
-unfoldable pub ResendRefused : Book → Directory → Event → Call → Type 0
-ResendRefused b d e (open-release card r list) =
-    d .status ≡ Running → isLive d card ≡ true → HasTaken b card (r .number)
+unfoldable pub ResendRefused : Book → Directory → Event → Type 0
+ResendRefused b d e =
+    (card : ℕ) (r : Release) (list : List ℕ) → e .call ≡ open-release card r list → d .status ≡ Running
+    → isLive d card ≡ true → HasTaken b card (r .number)
     → isAmong (releaseOpen ∷ numberUsed ∷ []) (answerTo d e .outcome .number) ≡ true
-ResendRefused b d e (make-step card) = Unit {0}
-ResendRefused b d e (fetch-page page buffer) = Unit {0}
-ResendRefused b d e (fail-card card) = Unit {0}
-ResendRefused b d e recover = Unit {0}
-ResendRefused b d e (join-card card) = Unit {0}
-ResendRefused b d e (ask-desk card) = Unit {0}
 
 abbrev pub ResendsRefused : Type 0
-ResendsRefused = Everywhere (λ b d e. ResendRefused b d e (e .call))
+ResendsRefused = Everywhere ResendRefused
 
 -- A call counts at most the next number of a card, so that no number counts twice.
 abbrev pub CountsNext : Book → Book → Type 0

@@ -1,21 +1,22 @@
 -- Several prices of a run read at once: the cursor moved past them. A run that is cut short ends the reading.
-use Rattle.laws.proofs.Prelude.{ℕ, zero, suc, _+_, _-_, _*_, _≤_, _<_, _≡_, refl, sym, ap, _∙_, List, [], decLt, arith}
+use Rattle.laws.proofs.Prelude.{ℕ, zero, suc, _+_, _-_, _*_, _≤_, _<_, _≡_, refl, sym, ap, _∙_, List, decLt, arith}
 use Rattle.laws.proofs.Prelude.{lt-ltb, le-ltb, length, drop, getD}
 use Prim.Native.Nat.{min}
 use native.Mathlib.Nat.{add-zero, sub-zero}
 use Rattle.diff.specs.declared.Cursor.{Cursor}
-use Rattle.diff.specs.declared.Step.{Step}
 use Rattle.diff.specs.declared.Step.the-variants.{Next}
 use Rattle.diff.specs.declared.Verdict.the-variants.{Faulty}
 use Rattle.diff.specs.Reading.{pastPrice, wordStep, readFrom}
-use Rattle.diff.specs.Prices.{pricesAfter, pricesFrom}
+use Rattle.diff.specs.Prices.{pricesFrom}
 use Rattle.diff.proofs.Derivation.{step-price}
 use Rattle.reader.specs.declared.Found.the-variants.{Nothing}
 use Rattle.reader.specs.Found.{nthPrice}
 use Rattle.reader.specs.Runs.{pastPrices, nthDue}
+use Rattle.reader.specs.Walking.{Walk, pastRun}
 use Rattle.reader.proofs.Keeping.{Idle, Passed, word-passed}
-use Rattle.reader.proofs.Turns.{read-end, read-long, read-turn, prices-end, prices-due, prices-turn, nth-first}
-use Rattle.reader.proofs.Turns.{nth-later, nth-none}
+use Rattle.reader.proofs.Walking.{Reached, pricesLeft, left-end, left-passed}
+use Rattle.reader.proofs.Turns.{read-end, read-long, read-turn, prices-end, prices-due, nth-first, nth-later}
+use Rattle.reader.proofs.Turns.{nth-none}
 
 -- ---- the cursor
 
@@ -153,31 +154,27 @@ module _ (pages : ℕ) (list : List ℕ) (index : ℕ) (s : Cursor) (free : Idle
         let due = due-of s t (words - (index + 1)) passed (omega arith) in
         next ∙ read-cut pages list words (index + 1) t due (omega arith) all
 
-  module _ (within : index < length list) (left : ℕ) where
-    later : nthPrice (pricesFrom pages (drop index list) index s) left
-        ≡ nthPrice (pricesFrom pages (drop (index + 1) list) (index + 1) t) left
-    later = ap (λ ps. nthPrice ps left) (prices-turn pages list index s (Next t) does within (omega arith))
+-- ---- a turn of a walk by runs
 
-    pub nth-run : t .due ≤ left
-        → nthPrice (pricesFrom pages (drop index list) index s) left
-        ≡ nthPrice (pricesFrom pages (drop (index + (1 + t .due)) list) (index + (1 + t .due)) (pastPrices t (t .due)))
-        (left - t .due)
-    nth-run enough =
-        let past : index + 1 + t .due ≡ index + (1 + t .due) = omega arith in
-        later
-        ∙ nth-skip pages list (t .due) (index + 1) t left (due-of s t (t .due) passed (omega arith)) enough
-        ∙ rw past
+module _ (pages : ℕ) (list : List ℕ) (at : Walk) (inside : at .index < length list)
+    (reached : Reached pages (length list) at) (left : ℕ) where
+  due-at : (n : ℕ) → n ≤ at .cursor .due → Due (at .cursor) n
+  due-at n many = record { many = many; one = omega arith; ran = omega arith }
 
-    pub nth-in-run : left < t .due
-        → nthPrice (pricesFrom pages (drop index list) index s) left ≡ nthDue list (index + 1) t left
-    nth-in-run inside =
-        later ∙ nth-found pages list left (index + 1) t (due-of s t (left + 1) passed (omega arith))
+  pub nth-passed : at .cursor .due ≤ left
+      → nthPrice (pricesLeft pages list at) left
+      ≡ nthPrice (pricesLeft pages list (pastRun pages list at)) (left - at .cursor .due)
+  unfolding pricesLeft
+  nth-passed enough =
+      nth-skip pages list (at .cursor .due) (at .index) (at .cursor) left (due-at _ (omega arith)) enough
+      ∙ ap (λ ps. nthPrice ps (left - at .cursor .due)) (left-passed pages list at inside reached)
 
--- reading stops at a word that ends the list or breaks a rule
-pub nth-over : (pages : ℕ) (list : List ℕ) (index : ℕ) (s : Cursor) (free : Idle s) (step : Step)
-    → step ≡ wordStep pages s index (getD list index 0) → index < length list
-    → pricesAfter (pricesFrom pages (drop (index + 1) list) (index + 1)) step ≡ [] → (left : ℕ)
-    → nthPrice (pricesFrom pages (drop index list) index s) left ≡ Nothing
-nth-over pages list index s free step does within over left =
-    ap (λ ps. nthPrice ps left) (prices-turn pages list index s step does within (omega arith) ∙ over)
-    ∙ nth-none left
+  pub nth-here : left < at .cursor .due
+      → nthPrice (pricesLeft pages list at) left ≡ nthDue list (at .index) (at .cursor) left
+  unfolding pricesLeft
+  nth-here within = nth-found pages list left (at .index) (at .cursor) (due-at (left + 1) (omega arith))
+
+-- nothing is left at the end
+pub nth-end : (pages : ℕ) (list : List ℕ) (at : Walk) (left : ℕ) → length list ≤ at .index
+    → nthPrice (pricesLeft pages list at) left ≡ Nothing
+nth-end pages list at left end = ap (λ ps. nthPrice ps left) (left-end pages list at end) ∙ nth-none left

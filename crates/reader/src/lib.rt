@@ -128,7 +128,7 @@ pub fn read_word(s: Cursor, w: u32, index: usize, pages: u32) -> Step
 }
 
 // Past all prices of a run: they are not looked at.
-fn run_read(s: Cursor) -> Cursor
+pub(crate) fn run_read(s: Cursor) -> Cursor
     requires { ⌜ WellFormed s ⌝ }
     ensures { λ r. ⌜ r ≡ pastPrices s (s .due) ⌝ }
 {
@@ -230,26 +230,15 @@ pub fn nth_price(list: &[u32], pages: u32, n: u32) -> Found
     requires { ⌜ length (now list) ≤ 512 ⌝ }
     ensures { λ r. ⌜ r ≡ nthPrice (pricesOf pages (now (list .entry))) n ⌝ }
 {
-    let mut s = cursor();
+    let mut at = walk::first_word();
     let mut left = n;
-    let mut index: usize = 0;
-    while index < list.len() {
-        match read_word(s, list[index], index, pages) {
-            Step::Next(t) => {
-                if left < t.due {
-                    return nth_due(list, index + 1, t, left);
-                }
-                left -= t.due;
-                s = run_read(t);
-                index += 1 + t.due as usize;
-            }
-            Step::End => {
-                return Found::Nothing;
-            }
-            Step::Fault => {
-                return Found::Nothing;
-            }
+    while at.index < list.len() {
+        let due = at.cursor.due;
+        if left < due {
+            return nth_due(list, at.index, at.cursor, left);
         }
+        left -= due;
+        at = walk::next_run(list, at, pages);
     }
     Found::Nothing
 }

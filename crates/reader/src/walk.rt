@@ -1,7 +1,7 @@
-// A walk over the words of a list.
-ghost use Rattle.laws.specs.Prelude.{_≡_, _<_, length};
+// A walk over a list, word by word or run by run.
+ghost use Rattle.laws.specs.Prelude.{_≡_, _<_, _≤_, length};
 ghost use Rattle.reader.specs.WellFormed.{WellFormed};
-ghost use Rattle.reader.specs.Walking.{atFirst, pastWord};
+ghost use Rattle.reader.specs.Walking.{atFirst, pastWord, pastRun};
 use diff::Cursor;
 use diff::Step;
 
@@ -40,5 +40,28 @@ pub fn next_word(list: &[u32], at: Walk, pages: u32) -> Walk
             cursor,
             index: list.len(),
         },
+    }
+}
+
+// Past the prices that are due, and the next word: the prices are not looked at.
+pub fn next_run(list: &[u32], at: Walk, pages: u32) -> Walk
+    requires { ⌜ WellFormed (at .cursor) ⌝ }
+    requires { ⌜ (at .index < length (now list)) × (length (now list) ≤ 512) ⌝ }
+    requires { ⌜ at .cursor .prices ≤ at .index ⌝ }
+    ensures { λ r. ⌜ r ≡ pastRun pages (now (list .entry)) at ⌝ }
+{
+    let cursor = at.cursor;
+    let index = at.index + cursor.due as usize;
+    if index < list.len() {
+        let past = crate::run_read(cursor);
+        let here = Walk {
+            cursor: past,
+            index,
+        };
+        return next_word(list, here, pages);
+    }
+    Walk {
+        cursor,
+        index: list.len(),
     }
 }

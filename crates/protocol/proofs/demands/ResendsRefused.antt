@@ -8,8 +8,7 @@ use Rattle.protocol.specs.Release.{sizeOf}
 use Rattle.protocol.specs.Checks.{firstRefusal, awaitsRecovery}
 use Rattle.protocol.specs.Result.{Result}
 use Rattle.protocol.specs.Opening.{opening, openingChecks, openMemory}
-use Rattle.protocol.specs.Calls.{Call, open-release, make-step, fetch-page, fail-card, recover, join-card}
-use Rattle.protocol.specs.Calls.{ask-desk, perform}
+use Rattle.protocol.specs.Calls.{perform}
 use Rattle.protocol.specs.Book.{Opened, none, opened, Book}
 use Rattle.protocol.specs.Demand1.{isAmong}
 use Rattle.protocol.specs.Demand3.{Event}
@@ -55,22 +54,12 @@ module _ (d : Directory) (m : List ℕ) (b : Book) (rack : RunningRack d m b) (f
       )))
   resent (opened r′ list′ s) is taken = rw (number-is 4 (rw (is-open d m b rack c r′ list′ s is)))
 
-resend-refused : (d : Directory) (b : Book) (e : Event) → Rack d (e .found) b → (call : Call) → e .call ≡ call
-    → ResendRefused b d e call
+resend-refused : (d : Directory) (b : Book) (e : Event) → Rack d (e .found) b → ResendRefused b d e
 unfolding ResendRefused perform
-resend-refused d b e rack (open-release card r list) is = λ running live taken.
+resend-refused d b e rack card r list is running live taken =
     rw is
     (resent d (e .found) b (running-rack rack running) (rack-fits d (e .found) b rack) card live r list
-    (b .release card) refl
-    taken)
-resend-refused d b e rack (make-step card) is = tt
-resend-refused d b e rack (fetch-page page buffer) is = tt
-resend-refused d b e rack (fail-card card) is = tt
-resend-refused d b e rack recover is = tt
-resend-refused d b e rack (join-card card) is = tt
-resend-refused d b e rack (ask-desk card) is = tt
+    (b .release card) refl taken)
 
 pub resends-refused : ResendsRefused
-resends-refused =
-    everywhere (λ b d e. ResendRefused b d e (e .call))
-    (λ d offline b e rack online typed. resend-refused d b e rack (e .call) refl)
+resends-refused = everywhere ResendRefused (λ d offline b e rack online typed. resend-refused d b e rack)
