@@ -14,4 +14,4 @@ pub use Rattle.area.proofs.Regions.{desk-in, pageRegion, halfRegion}
 pub use Rattle.area.proofs.OwnWords.{number-read, desk-read, SameOwn, SameRelease, same-own-release}
 pub use Rattle.area.proofs.OwnWords.{own-words-kept, own-kept, open-kept, list-kept, is-open-kept, steps-kept}
 pub use Rattle.area.proofs.Record.{recorded-is, under-way-yes, under-way-no, settled-stamp, settled-done}
-pub use Rattle.area.proofs.Record.{settled-desk, length-record, load-record, record-word}
+pub use Rattle.area.proofs.Record.{settled-desk, length-record, load-beside-record, record-word}

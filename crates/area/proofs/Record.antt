@@ -60,32 +60,29 @@ module _ (r : Release) (eight : length (r .desk) ≡ deskSize) where
   length-desks true = simp length-append (omega (arith, length-zeros deskSize))
   length-desks false = simp length-append (omega (arith, length-zeros deskSize))
 
-  -- a number of so many words
-  number-long : length (numberWords (r .number)) ≡ numberSize
-  number-long = length-number (r .number)
-
-  pub length-settled : length (settledRecord r) ≡ recordSize
+  length-settled : length (settledRecord r) ≡ recordSize
   unfolding settledRecord
-  length-settled = simp length-append (omega (arith, number-long, length-desks (eqb (r .number % 2) 0)))
+  length-settled = simp length-append (omega (arith, length-number (r .number), length-desks (eqb (r .number % 2) 0)))
 
   pub settled-stamp : (j : ℕ) → j < numberSize → getD (settledRecord r) j 0 ≡ getD (numberWords (r .number)) j 0
   unfolding settledRecord
-  settled-stamp j within = List·getD-append (numberWords (r .number)) _ 0 j (omega (arith, number-long))
+  settled-stamp j within = List·getD-append (numberWords (r .number)) _ 0 j (omega (arith, length-number (r .number)))
 
   pub settled-done : (j : ℕ) → j < numberSize
       → getD (settledRecord r) (numberSize + j) 0 ≡ getD (numberWords (r .number)) j 0
   unfolding settledRecord
   settled-done j within =
-      getD-right 0 (numberWords (r .number)) _ numberSize (numberSize + j) j number-long refl
-      ∙ List·getD-append (numberWords (r .number)) _ 0 j (omega (arith, number-long))
+      getD-right 0 (numberWords (r .number)) _ numberSize (numberSize + j) j (length-number (r .number)) refl
+      ∙ List·getD-append (numberWords (r .number)) _ 0 j (omega (arith, length-number (r .number)))
 
   -- the desk stands by the number's evenness
   pub settled-desk : (j : ℕ) → j < deskSize
       → getD (settledRecord r) (deskInRecord (r .number) + j) 0 ≡ getD (r .desk) j 0
   unfolding settledRecord
   settled-desk j within =
-      getD-right 0 (numberWords (r .number)) _ numberSize _ (numberSize + place) number-long (omega arith)
-      ∙ getD-right 0 (numberWords (r .number)) _ numberSize _ place number-long refl
+      getD-right 0 (numberWords (r .number)) _ numberSize _ (numberSize + place) (length-number (r .number))
+      (omega arith)
+      ∙ getD-right 0 (numberWords (r .number)) _ numberSize _ place (length-number (r .number)) refl
       ∙ go (eqb (r .number % 2) 0) refl
     where
       place : ℕ
@@ -108,10 +105,10 @@ module _ (size : ℕ) (m : List ℕ) (holder c : ℕ) (r : Release) (long : page
   length-record = length-store-run size m holder (recordAt c) (settledRecord r)
 
   -- every other word
-  pub load-record : (h o : ℕ) → o < size → (h ≢ holder) ⊎ NotIn (recordRegion c) o
+  pub load-beside-record : (h o : ℕ) → o < size → (h ≢ holder) ⊎ NotIn (recordRegion c) o
       → load size (writeRecord size m holder c r) h o ≡ load size m h o
   unfolding writeRecord
-  load-record h o inside apart =
+  load-beside-record h o inside apart =
       load-store-run-outside size m holder (recordAt c) (settledRecord r) h o
       (outside-fewer (omega (arith, length-settled r eight))
       (outside (recordRegion c) apart (λ not. not) (omega arith) inside))

@@ -4,7 +4,7 @@ use Rattle.laws.proofs.Prelude.{ℕ, _+_, _≤_, _<_, _≢_, _⊎_, inl, inr, a
 use Rattle.memory.proofs.Index.{Outside, outside-other-card, outside-other-offset}
 use Rattle.area.specs.Layout.{numberSize, deskSize, ownStamp, ownSize, openFlag, releaseSize, recordAt}
 use Rattle.area.specs.Layout.{recordSize, recordStamp, recordDone, recordDesk, listStart, listSize, pageAt}
-use Rattle.area.specs.Layout.{pageSize, bothHalves}
+use Rattle.area.specs.Layout.{pageSize, storedPageSize}
 
 -- words that follow one another
 pub record Region : Type 0 where
@@ -57,7 +57,7 @@ abbrev pub listRegion : Region
 listRegion = region listStart listSize
 
 abbrev pub pageRegion : ℕ → Region
-pageRegion p = region (pageAt p) bothHalves
+pageRegion p = region (pageAt p) storedPageSize
 
 -- a half of a page, by its place in the page
 abbrev pub halfRegion : ℕ → ℕ → Region

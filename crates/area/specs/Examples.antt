@@ -2,8 +2,9 @@
 -- Assumes nothing: these are definitions.
 use Rattle.laws.specs.Prelude.{ℕ, List, [], _∷_, _++_, Bool, cond}
 use Rattle.laws.specs.Examples.{Example, computed}
-use Rattle.memory.specs.Words.{store, zeros}
+use Rattle.memory.specs.Words.{zeros}
 use Rattle.directory.specs.Directory.{tableFrom}
+use Rattle.area.specs.Numbers.{storeNumber}
 use Rattle.area.specs.Releases.{Release, releaseOf}
 use Rattle.area.specs.Record.{recordedRelease, underWay, settledRecord}
 use Rattle.area.specs.LayoutExamples.{layoutExamples}
@@ -20,11 +21,12 @@ bit test = cond test 1 0
 
 -- with this stamp
 abbrev pub recordWith : ℕ → Release
-recordWith stamp = recordedRelease 740 (store 740 (numbersFrom 0 740) 0 38 stamp) 0 1
+recordWith stamp = recordedRelease 740 (storeNumber 740 (numbersFrom 0 740) 0 38 stamp) 0 1
 
 -- whether one with these two is under way
 abbrev pub differs : ℕ → ℕ → ℕ
-differs stamp done = bit (underWay 740 (store 740 (store 740 (numbersFrom 0 740) 0 38 stamp) 0 39 done) 0 1)
+differs stamp done =
+    bit (underWay 740 (storeNumber 740 (storeNumber 740 (numbersFrom 0 740) 0 38 stamp) 0 39 done) 0 1)
 
 abbrev pub examples : List Example
 examples =

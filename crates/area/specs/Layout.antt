@@ -86,11 +86,11 @@ pagesStart = listStart + listSize
 abbrev pub pageSize : ℕ
 pageSize = 32
 
-abbrev pub bothHalves : ℕ
-bothHalves = 2 * pageSize
+abbrev pub storedPageSize : ℕ
+storedPageSize = 2 * pageSize
 
 abbrev pub pageAt : ℕ → ℕ
-pageAt p = pagesStart + bothHalves * p
+pageAt p = pagesStart + storedPageSize * p
 
 -- where each half of a page starts in it
 abbrev pub tentativeHalf : ℕ

@@ -1,4 +1,4 @@
--- A card's area: where things stand in it, and what it says of releases.
+-- A card's area: where things stand in it, and what it says of releases and records.
 pub mod Layout
 pub mod Numbers
 pub mod Releases

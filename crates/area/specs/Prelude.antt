@@ -4,7 +4,7 @@ pub use Rattle.memory.specs.Words.{indexOf, AreaIn}
 pub use Rattle.area.specs.Layout.{numberSize, deskSize, ownStamp, ownDesk, ownSize, openFlag, stepsMade}
 pub use Rattle.area.specs.Layout.{releaseNumber, releaseDesk, releaseSize, recordsStart, recordSize, deskInRecord}
 pub use Rattle.area.specs.Layout.{recordAt, recordStamp, recordDone, recordDesk, listStart, listSize, tentative}
-pub use Rattle.area.specs.Layout.{committed, pagesStart, pageSize, bothHalves, pageAt, tentativeHalf}
+pub use Rattle.area.specs.Layout.{committed, pagesStart, pageSize, storedPageSize, pageAt, tentativeHalf}
 pub use Rattle.area.specs.Layout.{committedHalf, areaSize}
 unfoldable pub use Rattle.area.specs.Numbers.{numberWords, numberAt}
 pub use Rattle.area.specs.Numbers.{loadNumber, storeNumber}

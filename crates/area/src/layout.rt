@@ -24,10 +24,10 @@ pub const RELEASE_DESK: usize = RELEASE_NUMBER + NUMBER_SIZE;
 // From the mark of an open release to the end of its desk.
 pub const RELEASE_SIZE: usize = 2 + NUMBER_SIZE + DESK_SIZE;
 
-pub const RECORDS_START: usize = OPEN_FLAG + RELEASE_SIZE;
+const RECORDS_START: usize = OPEN_FLAG + RELEASE_SIZE;
 
 // A rack has at most eight cards.
-pub const RECORD_COUNT: usize = 8;
+const RECORD_COUNT: usize = 8;
 
 pub const RECORD_SIZE: usize = 2 * NUMBER_SIZE + 2 * DESK_SIZE;
 
@@ -35,12 +35,12 @@ pub const LIST_START: usize = RECORDS_START + RECORD_COUNT * RECORD_SIZE;
 
 pub const LIST_SIZE: usize = 512;
 
-pub const PAGES_START: usize = LIST_START + LIST_SIZE;
+const PAGES_START: usize = LIST_START + LIST_SIZE;
 
 // The words of a page, in each of its halves.
 pub const PAGE_SIZE: usize = 32;
 
-pub const BOTH_HALVES: usize = 2 * PAGE_SIZE;
+pub const STORED_PAGE_SIZE: usize = 2 * PAGE_SIZE;
 
 // Where each half of a page starts in it.
 pub const TENTATIVE_HALF: usize = 0;
@@ -52,7 +52,7 @@ pub fn area_size(pages: u32) -> usize
     requires { ⌜ pages ≤ 64 ⌝ }
     ensures { λ r. ⌜ r ≡ areaSize pages ⌝ }
 {
-    PAGES_START + BOTH_HALVES * (pages as usize)
+    page_at(pages as usize)
 }
 
 // Where the record of a card stands in the area of the card that holds it.
@@ -70,9 +70,9 @@ pub fn desk_in_record(number: u32) -> usize
     2 * NUMBER_SIZE + DESK_SIZE * (number % 2) as usize
 }
 
-pub fn page_at(page: usize) -> usize
+pub(crate) fn page_at(page: usize) -> usize
     requires { ⌜ page ≤ 64 ⌝ }
     ensures { λ r. ⌜ r ≡ pageAt page ⌝ }
 {
-    PAGES_START + BOTH_HALVES * page
+    PAGES_START + STORED_PAGE_SIZE * page
 }

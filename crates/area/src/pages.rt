@@ -1,8 +1,8 @@
 // A page in a card's area: the card's area is lent on as a part of the memory, and the page as a
-// part of it. A word of the page is named by its place in both halves, or in one half.
+// part of it. A word of the page is named by its place in both halves.
 ghost use Rattle.laws.specs.Prelude.{_≡_, _+_, _<_, _≤_, length, set};
 ghost use Rattle.memory.specs.Words.{AreaIn, store, copyRun, loadRun};
-ghost use Rattle.area.specs.Layout.{pageSize, bothHalves, pageAt, committed};
+ghost use Rattle.area.specs.Layout.{pageSize, storedPageSize, pageAt, committed};
 use crate::layout;
 
 fn store_in_page(page: &mut [u32], word: usize, v: u32)
@@ -13,19 +13,19 @@ fn store_in_page(page: &mut [u32], word: usize, v: u32)
 }
 
 fn store_price_in(area: &mut [u32], page: usize, word: usize, v: u32)
-    requires { ⌜ (page < 64) × (pageAt page + bothHalves ≤ length (now area))
-        × (word < bothHalves) ⌝ }
+    requires { ⌜ (page < 64) × (pageAt page + storedPageSize ≤ length (now area))
+        × (word < storedPageSize) ⌝ }
     ensures { λ _. ⌜ now (area .exit) ≡ set (now (area .entry)) (pageAt page + word) v ⌝ }
 {
     let start = layout::page_at(page);
-    let end = start + layout::BOTH_HALVES;
+    let end = start + layout::STORED_PAGE_SIZE;
     store_in_page(&mut area[start..end], word, v);
 }
 
 // Stores a price in one of both halves of a page.
 pub fn store_price(memory: &mut [u32], size: usize, card: usize, page: usize, word: usize, v: u32)
     requires { ⌜ AreaIn (length (now memory)) size card ⌝ }
-    requires { ⌜ (page < 64) × (pageAt page + bothHalves ≤ size) × (word < bothHalves) ⌝ }
+    requires { ⌜ (page < 64) × (pageAt page + storedPageSize ≤ size) × (word < storedPageSize) ⌝ }
     ensures { λ _. ⌜ now (memory .exit)
         ≡ store size (now (memory .entry)) card (pageAt page + word) v ⌝ }
 {
@@ -38,11 +38,11 @@ pub fn store_price(memory: &mut [u32], size: usize, card: usize, page: usize, wo
 pub fn copy_page(memory: &mut [u32], size: usize, from: usize, to: usize, page: usize)
     requires { ⌜ AreaIn (length (now memory)) size from ⌝ }
     requires { ⌜ AreaIn (length (now memory)) size to ⌝ }
-    requires { ⌜ (page < 64) × (pageAt page + bothHalves ≤ size) ⌝ }
+    requires { ⌜ (page < 64) × (pageAt page + storedPageSize ≤ size) ⌝ }
     ensures { λ _. ⌜ now (memory .exit)
-        ≡ copyRun size (now (memory .entry)) from (pageAt page) to (pageAt page) bothHalves ⌝ }
+        ≡ copyRun size (now (memory .entry)) from (pageAt page) to (pageAt page) storedPageSize ⌝ }
 {
-    let mut words = [0u32; layout::BOTH_HALVES];
+    let mut words = [0u32; layout::STORED_PAGE_SIZE];
     let start = layout::page_at(page);
     memory::copy_run(memory, size, from, start, to, start, &mut words);
 }
@@ -50,8 +50,8 @@ pub fn copy_page(memory: &mut [u32], size: usize, from: usize, to: usize, page: 
 // Copies one half of a page to the other; a half is named by its place in the page.
 pub fn copy_half(memory: &mut [u32], size: usize, card: usize, page: usize, from: usize, to: usize)
     requires { ⌜ AreaIn (length (now memory)) size card ⌝ }
-    requires { ⌜ (page < 64) × (pageAt page + bothHalves ≤ size) ⌝ }
-    requires { ⌜ (from + pageSize ≤ bothHalves) × (to + pageSize ≤ bothHalves) ⌝ }
+    requires { ⌜ (page < 64) × (pageAt page + storedPageSize ≤ size) ⌝ }
+    requires { ⌜ (from + pageSize ≤ storedPageSize) × (to + pageSize ≤ storedPageSize) ⌝ }
     ensures { λ _. ⌜ now (memory .exit)
         ≡ copyRun size (now (memory .entry)) card (pageAt page + from) card (pageAt page + to)
         pageSize ⌝ }
@@ -72,7 +72,7 @@ pub fn copy_half(memory: &mut [u32], size: usize, card: usize, page: usize, from
 // Loads the committed words of a page into a buffer of their number.
 pub fn load_committed(memory: &[u32], size: usize, card: usize, page: usize, buffer: &mut [u32])
     requires { ⌜ AreaIn (length (now memory)) size card ⌝ }
-    requires { ⌜ (page < 64) × (pageAt page + bothHalves ≤ size) ⌝ }
+    requires { ⌜ (page < 64) × (pageAt page + storedPageSize ≤ size) ⌝ }
     requires { ⌜ length (now buffer) ≡ pageSize ⌝ }
     ensures { λ _. ⌜ now (buffer .exit)
         ≡ loadRun size (now (memory .entry)) card (committed page) pageSize ⌝ }

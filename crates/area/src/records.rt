@@ -1,6 +1,6 @@
 // A card's record in the area of another card, its holder: read, and written from a release or from
 // the card's own stamp and desk.
-ghost use Rattle.laws.specs.Prelude.{_≡_, _<_, _+_, _≤_, length};
+ghost use Rattle.laws.specs.Prelude.{_≡_, _<_, _≤_, length};
 ghost use Rattle.memory.specs.Words.{AreaIn, copyRun};
 ghost use Rattle.area.specs.Layout.{deskSize, pagesStart, recordAt, recordSize};
 ghost use Rattle.area.specs.Releases.{releaseOf, ownRelease};
@@ -59,7 +59,7 @@ pub fn settled_record(number: u32, desk: &[u32]) -> [u32; layout::RECORD_SIZE]
 }
 
 // Writes the record of a card, for this release.
-pub fn write_record(
+fn write_record(
     memory: &mut [u32],
     size: usize,
     holder: usize,

@@ -19,7 +19,7 @@ use Rattle.batch.specs.Steps.{stepsFrom, steps, steppedTo, stoppedAt}
 use Rattle.batch.proofs.Checked.{Shut, some-left, next-passed, one-fewer, next-shut}
 
 module _ (d : Directory) (c : ℕ) (below : c < d .cards) (live : isLive d c ≡ true) where
-  -- on a rack that runs, a step of a live card comes to what its word 9 says
+  -- on a rack that runs, a step of a live card comes to what its open flag says
   comes-to : (m : List ℕ) → Runs d m → {opened : Bool} → isOpen (d .live) (sizeOf d) m c ≡ opened
       → cond (not opened) (refused noneOpen) (given 0) ≡ firstRefusal (stepChecks d m c) 0
   unfolding firstRefusal awaitsRecovery

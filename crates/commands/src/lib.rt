@@ -40,7 +40,7 @@ fn open_one(
         price,
         0xF0000003,
     ];
-    let desk = [0u32; 8];
+    let desk = [0u32; area::layout::DESK_SIZE];
     let reply = rack::open_release(memory, directory, card, number, desk, &list);
     let directory = reply.directory;
     let answer = reply.answer;
@@ -83,7 +83,7 @@ fn fetch_word(memory: &[u32], directory: Directory, page: u8, word: u8) -> Shown
     ensures directory { λ r. ⌜ r .directory
         ≡ fetchWord page word directory (now (memory .entry)) .directory ⌝ }
 {
-    let mut buffer = [0u32; 32];
+    let mut buffer = [0u32; area::layout::PAGE_SIZE];
     let reply = rack::fetch_page(memory, directory, page as u32, &mut buffer);
     let directory = reply.directory;
     let answer = reply.answer;

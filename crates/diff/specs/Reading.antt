@@ -100,7 +100,7 @@ readFrom pages (w ∷ ws) index s =
     cond (eqb index mostWords) (Faulty mostWords)
     (verdictAfter (readFrom pages ws (index + 1)) s index (wordStep pages s index w))
 
--- a list read to its end word, as those in word 164 onward are
+-- a list read to its end word, as those in a card's area are
 abbrev pub readDiff : ℕ → List ℕ → Verdict
 readDiff pages ws = readFrom pages ws 0 start
 

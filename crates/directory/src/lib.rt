@@ -1,6 +1,6 @@
 // The directory of a rack: a value that every call takes and hands back (document 01,
 // "Cards, pages, memory").
-ghost use Rattle.laws.specs.Prelude.{_≡_, _+_, _<_, _≤_, length};
+ghost use Rattle.laws.specs.Prelude.{_≡_, _<_, _≤_, length};
 ghost use Rattle.laws.specs.Examples.{AllHold};
 ghost use Rattle.directory.specs.Live.{firstLive, nextLive};
 ghost use Rattle.directory.specs.Directory.{nextLiveOf, backupOf, markedDead, markedLive};

@@ -1,5 +1,5 @@
 -- Lists appended, and runs of stores in a list, beside what `lib.Seq` has.
-use Rattle.laws.proofs.Prelude.{_≡_, refl, _∙_, _≢_, List, [], _∷_, _++_, ℕ, zero, suc, _+_, _≤_, _<_, arith}
+use Rattle.laws.proofs.Prelude.{_≡_, refl, ap, _∙_, _≢_, List, [], _∷_, _++_, ℕ, zero, suc, _+_, _≤_, _<_, arith}
 use Rattle.laws.proofs.Prelude.{length, getD, set, take, drop}
 use mathlib.Core.List.{append-nil}
 use native.Mathlib.Nat.{add-zero, zero-add}
@@ -24,6 +24,17 @@ sets-append [] vs l i = rw add-zero
 sets-append (u ∷ us) vs l i =
     let e : i + suc (length us) ≡ suc i + length us = omega arith in
     rw (e, sets-append us vs)
+
+-- a run stored behind the first element, and behind a first part
+pub sets-later : (vs : List ℕ) (w : ℕ) (ws : List ℕ) (i : ℕ) → sets (w ∷ ws) (suc i) vs ≡ w ∷ sets ws i vs
+sets-later [] w ws i = refl
+sets-later (v ∷ vs) w ws i = sets-later vs w (set ws i v) (suc i)
+
+pub sets-second : (us ws : List ℕ) (i : ℕ) (vs : List ℕ) → sets (us ++ ws) (length us + i) vs ≡ us ++ sets ws i vs
+sets-second [] ws i vs = rw zero-add
+sets-second (u ∷ us) ws i vs =
+    let on : suc (length us) + i ≡ suc (length us + i) = omega arith in
+    rw on (sets-later vs u (us ++ ws) (length us + i) ∙ ap (λ l. u ∷ l) (sets-second us ws i vs))
 
 -- a run stored from the front on
 pub sets-front : (vs l : List ℕ) → length vs ≤ length l → sets l 0 vs ≡ vs ++ drop (length vs) l

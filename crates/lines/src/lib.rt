@@ -1,6 +1,6 @@
 // The lines of the program shelfrun (document 01, "Numbers to hold it against"): a line read byte
 // by byte into a command, and the line that answers it.
-ghost use Rattle.laws.specs.Prelude.{_≡_, _+_, _≤_, _<_, _∷_, length, drop};
+ghost use Rattle.laws.specs.Prelude.{_≡_, _+_, _≤_, length, drop};
 ghost use lib.Seq.{sets};
 ghost use Rattle.laws.specs.Examples.{AllHold};
 ghost use Rattle.lines.specs.Line.{freshLine, unreadableLine, endedField, letterRead};

@@ -5,7 +5,7 @@ use Prim.Native.Nat.{min}
 use native.Mathlib.Nat.{add-assoc}
 use lib.ListN.{length-take, length-drop, length-replicate}
 use lib.Seq.{sets, drop-drop, take-add, getD-take, getD-drop, ext-getD, length-sets}
-use Rattle.laws.proofs.Lists.{sets-append, getD-sets-outside, getD-sets-inside}
+use Rattle.laws.proofs.Lists.{sets-append, sets-later, getD-sets-outside, getD-sets-inside}
 use Rattle.memory.specs.Words.{indexOf, AreaIn, load, store, loadRun, overwrite, storeRun, zeros, clearRun}
 use Rattle.memory.specs.Words.{copyRun}
 use Rattle.memory.proofs.Index.{Outside, outside-fewer}
@@ -78,10 +78,6 @@ load-run-kept size m m′ card offset n same words =
     getD-load-run size m′ card offset n j inside ∙ words j inside ∙ sym (getD-load-run size m card offset n j inside))
 
 -- ---- a run stored
-
-sets-later : (vs : List ℕ) (w : ℕ) (ws : List ℕ) (i : ℕ) → sets (w ∷ ws) (suc i) vs ≡ w ∷ sets ws i vs
-sets-later [] w ws i = refl
-sets-later (v ∷ vs) w ws i = sets-later vs w (set ws i v) (suc i)
 
 sets-nowhere : (vs : List ℕ) (i : ℕ) → sets [] i vs ≡ []
 sets-nowhere [] i = refl

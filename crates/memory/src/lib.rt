@@ -1,7 +1,7 @@
 // The lent memory: one area per card, ascending (document 01, "Cards, pages, memory"). Words and
 // runs of words of an area are loaded, stored, copied and cleared here; what stands where in an
 // area is told by `area`.
-ghost use Rattle.laws.specs.Prelude.{_≡_, _+_, _*_, _<_, _≤_, length, set};
+ghost use Rattle.laws.specs.Prelude.{_≡_, _+_, _<_, _≤_, length};
 ghost use lib.Seq.{sets};
 ghost use Rattle.laws.specs.Examples.{AllHold};
 ghost use Rattle.memory.specs.Words.{AreaIn, load, store, loadRun, storeRun, zeros, clearRun};

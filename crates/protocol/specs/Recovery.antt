@@ -9,8 +9,8 @@ use Rattle.directory.specs.declared.Status.{Status}
 use Rattle.directory.specs.declared.Status.the-variants.{Running, Awaiting}
 use Rattle.directory.specs.Directory.{isLive, primaryOf, secondaryOf, nextLiveOf, backupOf, markedLive, withHomes}
 use Rattle.directory.specs.Directory.{withStatus}
-use Rattle.area.specs.Prelude.{copyRun, zeros, deskSize, pageSize, tentative, committed, bothHalves, pageAt, Release}
-use Rattle.area.specs.Prelude.{stepsOf, isOpen, recordedRelease, underWay, writeRecord, writeOwnRecord}
+use Rattle.area.specs.Prelude.{copyRun, zeros, deskSize, pageSize, tentative, committed, storedPageSize, pageAt}
+use Rattle.area.specs.Prelude.{Release, stepsOf, isOpen, recordedRelease, underWay, writeRecord, writeOwnRecord}
 use Rattle.protocol.specs.Release.{sizeOf, openPrices, stepsIn, stepMemory}
 use Rattle.protocol.specs.Checks.{Check, check, firstRefusal, fittingChecks, awaitsRecovery}
 use Rattle.protocol.specs.Result.{Result, resultOf}
@@ -68,7 +68,7 @@ unfoldable pub copyToNewHome : Directory → ℕ → ℕ → List ℕ → List �
 copyToNewHome d f page m =
     cond (lostHome d f page)
     (copyRun (sizeOf d) m (keptHome d f page) (pageAt page) (newHome d f page) (pageAt page)
-    bothHalves)
+    storedPageSize)
     m
 
 unfoldable pub copyToNewHomes : Directory → ℕ → List ℕ → List ℕ

@@ -260,7 +260,7 @@ fn refused_recovery(directory: Directory, number: u32) -> DeskReply
     ensures desk { λ r. ⌜ r .desk ≡ zeros deskSize ⌝ }
 {
     let answer = Answer::Refused(number, 0);
-    let desk = [0u32; 8];
+    let desk = [0u32; area::layout::DESK_SIZE];
     DeskReply {
         directory,
         answer,
@@ -290,7 +290,7 @@ pub fn recover_card(memory: &mut [u32], directory: Directory) -> DeskReply
         return refused_recovery(directory, first);
     }
     let failed = awaited_card(status);
-    let mut desk = [0u32; 8];
+    let mut desk = [0u32; area::layout::DESK_SIZE];
     let number = recovery::recover_memory(
         memory,
         cards,
@@ -392,7 +392,7 @@ pub fn ask_desk(memory: &[u32], directory: Directory, card: u32) -> DeskReply
         card,
     );
     let answer = answer::answer_of(first);
-    let mut desk = [0u32; 8];
+    let mut desk = [0u32; area::layout::DESK_SIZE];
     if first.number == 0 {
         load_desk(memory, cards, pages, &live, card, &mut desk);
     }

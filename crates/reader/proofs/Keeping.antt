@@ -15,21 +15,20 @@ pub record Idle (s : Cursor) : Type 0 where
   pub one : s .gap ≤ 1
 
 -- past a page word or a run word: no price is counted, those due fit on the page, and only a run has them
-pub record Passed (pages : ℕ) (s t : Cursor) : Type 0 where
+pub record Passed (s t : Cursor) : Type 0 where
   pub inside : t .word + t .due ≤ 32
   pub one : t .gap ≤ 1
   pub ran : t .due ≤ 32 * t .gap
   pub named : t .due ≤ 32 * t .next
   pub counts : t .prices ≡ s .prices
-  pub on : s .next ≤ pages → t .next ≤ pages
 
-abbrev After : ℕ → Cursor → Step → Type 0
-After pages s (Next t) = Passed pages s t
-After pages s End = Unit {0}
-After pages s Fault = Unit {0}
+abbrev After : Cursor → Step → Type 0
+After s (Next t) = Passed s t
+After s End = Unit {0}
+After s Fault = Unit {0}
 
 module _ (pages : ℕ) (s : Cursor) (index w : ℕ) (free : Idle s) where
-  case-passed : {step : Step} → WordCase pages s index w step → After pages s step
+  case-passed : {step : Step} → WordCase pages s index w step → After s step
   case-passed (a-price due) = absurd (omega arith)
   case-passed (a-page none one gap up fits) =
       record {
@@ -38,7 +37,6 @@ module _ (pages : ℕ) (s : Cursor) (index w : ℕ) (free : Idle s) where
         ran = omega arith;
         named = omega arith;
         counts = omega arith;
-        on = λ h. omega arith;
       }
   case-passed (a-run none two first some fits past) =
       record {
@@ -47,19 +45,18 @@ module _ (pages : ℕ) (s : Cursor) (index w : ℕ) (free : Idle s) where
         ran = omega arith;
         named = omega arith;
         counts = omega arith;
-        on = λ h. omega arith;
       }
   case-passed (an-end none fifteen gap own) = tt
   case-passed (a-fault none) = tt
 
-  pub word-passed : (t : Cursor) → Next t ≡ wordStep pages s index w → Passed pages s t
-  word-passed t e = subst (After pages s) (sym e) (case-passed (word-case pages s index w))
+  pub word-passed : (t : Cursor) → Next t ≡ wordStep pages s index w → Passed s t
+  word-passed t e = subst (After s) (sym e) (case-passed (word-case pages s index w))
 
 -- the bounds that reading on from there asks for
-pub passed-well-formed : {pages : ℕ} (s t : Cursor) → Passed pages s t → s .prices ≤ 512 → WellFormed t
+pub passed-well-formed : (s t : Cursor) → Passed s t → s .prices ≤ 512 → WellFormed t
 passed-well-formed s t passed few =
     record { within = passed .inside; one = passed .one; few = omega arith; named = passed .named }
 
 -- and past the prices that are due none is
-pub passed-idle : {pages : ℕ} (s t : Cursor) → Passed pages s t → Idle (pastPrices t (t .due))
+pub passed-idle : (s t : Cursor) → Passed s t → Idle (pastPrices t (t .due))
 passed-idle s t passed = record { idle = omega arith; inside = passed .inside; one = passed .one }

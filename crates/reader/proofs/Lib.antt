@@ -1,4 +1,4 @@
--- Laws on reading that the reader's loops cite.
+-- Laws on reading and walking that the loops of `reader` and `conflict` cite.
 pub mod Turns
 pub mod Runs
 pub mod Keeping

@@ -1,7 +1,7 @@
 -- The prices of a list written out, one number for each: what is left to write, written from here on, gives the whole.
 use Rattle.laws.proofs.Prelude.{ℕ, zero, suc, _+_, _≤_, _<_, _≡_, refl, ap, _∙_, List, [], _∷_, Bool, true, false, cond}
 use Rattle.laws.proofs.Prelude.{_++_, sym, arith, length, getD, ltb}
-use mathlib.Core.List.{map}
+use mathlib.Core.List.{map, map-append}
 use native.Mathlib.Nat.{zero-add}
 use lib.ListN.{length-map, length-append}
 use lib.Seq.{sets, length-sets}
@@ -16,10 +16,6 @@ use Rattle.reader.specs.Walking.{Walk, atFirst, pastWord, priceDue}
 use Rattle.reader.proofs.Walking.{pricesLeft, left-first, left-turn, left-end, counts-word}
 
 -- ---- one word
-
-map-append : (f : Price → ℕ) (ps qs : List Price) → map f (ps ++ qs) ≡ map f ps ++ map f qs
-map-append f [] qs = refl
-map-append f (p ∷ ps) qs = ap (λ rest. f p ∷ rest) (map-append f ps qs)
 
 -- the prices that are left, as f has them, stored at the numbers that they have
 unfoldable pub listLeft : (Price → ℕ) → ℕ → List ℕ → Walk → List ℕ → List ℕ

@@ -128,12 +128,12 @@ module _ (pages : ℕ) (list : List ℕ) where
 
 -- ---- one turn of a loop: a word where no price is due, and the prices of the run that it names
 
-due-of : {pages : ℕ} (s t : Cursor) (n : ℕ) → Passed pages s t → n ≤ t .due → Due t n
+due-of : (s t : Cursor) (n : ℕ) → Passed s t → n ≤ t .due → Due t n
 due-of s t n passed many = record { many = many; one = passed .one; ran = passed .ran }
 
 module _ (pages : ℕ) (list : List ℕ) (index : ℕ) (s : Cursor) (free : Idle s) (t : Cursor)
     (does : Next t ≡ wordStep pages s index (getD list index 0)) where
-  passed : Passed pages s t
+  passed : Passed s t
   passed = word-passed pages s index (getD list index 0) free t does
 
   module _ (words : ℕ) (all : words ≡ min (length list) 512) (within : index < words) where

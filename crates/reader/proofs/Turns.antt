@@ -1,6 +1,6 @@
 -- One word of a list that is read: what is left to read, read from here, gives the whole.
 use Rattle.laws.proofs.Prelude.{ℕ, zero, suc, _+_, _-_, _≤_, _<_, _≡_, refl, List, [], _∷_, arith, eq-eqb, ne-eqb}
-use Rattle.laws.proofs.Prelude.{lt-ltb, le-ltb, length, drop, getD}
+use Rattle.laws.proofs.Prelude.{lt-ltb, length, drop, getD}
 use native.Mathlib.Numerals.{add-one}
 use lib.ListN.{drop-of-length-le}
 use lib.Seq.{drop-cons}
@@ -9,8 +9,8 @@ use Rattle.diff.specs.declared.Step.{Step}
 use Rattle.diff.specs.declared.Verdict.the-variants.{Faulty}
 use Rattle.diff.specs.Reading.{pastPrice, wordStep, verdictAfter, readFrom}
 use Rattle.diff.specs.declared.Price.{Price}
+use Rattle.diff.specs.Prices.{pricedWord, pricesFrom}
 use Rattle.diff.proofs.Derivation.{step-price}
-use Rattle.diff.specs.Prices.{pricedWord, pricesAfter, pricesFrom}
 use Rattle.reader.specs.declared.Found.the-variants.{Priced, Nothing}
 use Rattle.reader.specs.Found.{nthPrice}
 
@@ -43,14 +43,6 @@ module _ (pages : ℕ) (list : List ℕ) (index : ℕ) (s : Cursor) where
   prices-due within due =
       rw (drop-cons list index 0 within, add-one, step-price pages s index (getD list index 0) due)
       (simp (lt-ltb 0 (s .due) due))
-
-  pub prices-turn : (step : Step) → step ≡ wordStep pages s index (getD list index 0) → index < length list
-      → s .due ≤ 0
-      → pricesFrom pages (drop index list) index s ≡ pricesAfter (pricesFrom pages (drop (index + 1) list) (index + 1))
-      step
-  unfolding pricesFrom
-  prices-turn step does within idle =
-      rw (does, drop-cons list index 0 within, add-one) (simp (le-ltb 0 (s .due) idle))
 
 -- the price numbered n of a list with a first one
 pub nth-first : (p : Price) (ps : List Price) (n : ℕ) → n ≡ 0 → nthPrice (p ∷ ps) n ≡ Priced p

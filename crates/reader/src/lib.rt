@@ -1,6 +1,6 @@
 // Reading a diff (document 01's list of changes), whether it is handed in or stands in a card's
 // area: the whole of it, one price, and its prices as a table.
-ghost use Rattle.laws.specs.Prelude.{_≡_, _+_, _<_, _≤_, length};
+ghost use Rattle.laws.specs.Prelude.{_≡_, _<_, _≤_, length};
 ghost use Prim.Native.Nat.{min};
 ghost use mathlib.Core.List.{map};
 ghost use lib.Seq.{sets};
@@ -22,7 +22,7 @@ use diff::Step;
 use diff::Verdict;
 
 // Before the first word.
-pub fn cursor() -> Cursor
+pub(crate) fn cursor() -> Cursor
     ensures { λ r. ⌜ r ≡ start ⌝ }
 {
     Cursor {
@@ -35,7 +35,7 @@ pub fn cursor() -> Cursor
 }
 
 // Past a price of a run.
-pub fn price_read(s: Cursor) -> Cursor
+fn price_read(s: Cursor) -> Cursor
     requires { ⌜ WellFormed s ⌝ }
     requires { ⌜ 0 < s .due ⌝ }
     ensures { λ r. ⌜ r ≡ pastPrice s ⌝ }
@@ -111,7 +111,7 @@ fn end_word(s: Cursor, w: u32, index: usize) -> Step
 }
 
 // What the word at an index does to the reading.
-pub fn read_word(s: Cursor, w: u32, index: usize, pages: u32) -> Step
+pub(crate) fn read_word(s: Cursor, w: u32, index: usize, pages: u32) -> Step
     requires { ⌜ WellFormed s ⌝ }
     ensures { λ r. ⌜ r ≡ wordStep pages s index w ⌝ }
 {

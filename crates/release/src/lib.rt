@@ -2,7 +2,7 @@
 // that passed its checks; which calls are refused is decided above.
 ghost use Rattle.laws.specs.Prelude.{_≡_, List, [], _∷_, ℕ, _+_, _*_, _<_, _≤_, length, getD};
 ghost use Rattle.area.specs.Prelude.{AreaIn, store, areaSize, stepsMade, pageAt, recordDesk};
-ghost use Rattle.area.specs.Prelude.{numberSize, deskSize, listSize, pageSize, bothHalves};
+ghost use Rattle.area.specs.Prelude.{numberSize, deskSize, listSize, pageSize, storedPageSize};
 ghost use Rattle.area.specs.Prelude.{pagesStart, releaseOf, openRelease, stepsOf, numberWords};
 ghost use Rattle.protocol.specs.Release.{openPrices, writeOf, makeWrite, close};
 ghost use Rattle.protocol.specs.Opening.{openMemory};
@@ -67,7 +67,7 @@ fn write_price(
     price: u32,
 )
     requires { ⌜ CardIn (now live) (length (now memory)) size home ⌝ }
-    requires { ⌜ (page < 64) × (pageAt page + bothHalves ≤ size) × (word < bothHalves) ⌝ }
+    requires { ⌜ (page < 64) × (pageAt page + storedPageSize ≤ size) × (word < storedPageSize) ⌝ }
     ensures { λ _. ⌜ now (memory .exit)
         ≡ makeWrite (now (live .entry)) size (now (memory .entry))
         (writeOf home (pageAt page + word) (price ∷ [])) ⌝ }
@@ -255,7 +255,7 @@ fn number_next(k: u32, steps: u32) -> u32
 
 // ---- one step
 
-// So many more in word 10. A release has fewer than 512 prices, so that its steps stay below
+// So many more steps made. A release has fewer than 512 prices, so that its steps stay below
 // 4 × 512 + 10.
 fn count_steps(memory: &mut [u32], size: usize, card: usize, steps: u32, more: u32)
     requires { ⌜ (pagesStart ≤ size) × AreaIn (length (now memory)) size card

@@ -50,8 +50,8 @@ fn listed_price(labels: &[u32], prices: &[u32], n: usize) -> Price
     }
 }
 
-// Makes so many steps that store a price, one after the other, and counts them once: word 10 keeps
-// its old number while the prices are stored, and nobody looks at it before the call ends.
+// Makes so many steps that store a price, one after the other, and counts them once: the area keeps
+// the old count while the prices are stored, and nobody looks at it before the call ends.
 fn store_prices(
     memory: &mut [u32],
     pages: u32,

@@ -9,7 +9,8 @@ use Rattle.answer.specs.Outcome.{inWords, refusedAt, numberUsed}
 use Rattle.directory.specs.declared.Directory.{Directory}
 use Rattle.directory.specs.declared.Status.the-variants.{Running}
 use Rattle.directory.specs.Directory.{isLive, tableFrom}
-use Rattle.area.specs.Prelude.{load, loadRun, zeros, recordStamp, openFlag, Release, releaseOf, ownRelease, isOpen}
+use Rattle.area.specs.Prelude.{load, zeros, recordStamp, openFlag, Release, releaseOf, ownRelease, isOpen, loadNumber}
+use Rattle.area.specs.Prelude.{openRelease, stepsOf}
 use Rattle.diff.specs.Making.{makeDiff, bufferAfter}
 use Rattle.protocol.specs.Release.{sizeOf}
 use Rattle.protocol.specs.Checks.{outsideLimits, unfitRack}
@@ -61,11 +62,13 @@ stepped (suc n) r = stepped n (step (r .directory) (r .memory) 1)
 
 -- after so many steps: the stamp of card 1's record on its backup, card 2
 abbrev pub stampAfter : List ℕ → ℕ → ℕ
-stampAfter list steps = load 932 (stepped steps (opened list) .memory) 2 (recordStamp 1)
+stampAfter list steps = loadNumber 932 (stepped steps (opened list) .memory) 2 (recordStamp 1)
 
 -- after so many steps: whether the release is open, the steps made and its number; each accepted step counts
 abbrev pub releaseAfter : List ℕ → ℕ → List ℕ
-releaseAfter list steps = loadRun 932 (stepped steps (opened list) .memory) 1 openFlag 3
+releaseAfter list steps =
+    let m : List ℕ = stepped steps (opened list) .memory in
+    load 932 m 1 openFlag ∷ stepsOf 932 m 1 ∷ openRelease 932 m 1 .number ∷ []
 
 -- ---- ".. by card 1, which dies after .. steps"
 

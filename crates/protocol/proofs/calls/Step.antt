@@ -13,7 +13,7 @@ use Rattle.protocol.proofs.book.Changes.{update-other}
 use Rattle.protocol.proofs.invariant.Step.{step-core}
 use Rattle.protocol.proofs.invariant.Rack.{RunningRack, Rack, LiveOnline}
 use Rattle.protocol.proofs.checks.ByCall.{StepPassed, step-passed}
-use Rattle.protocol.proofs.invariant.Running.{is-open, idle-word, runs-on}
+use Rattle.protocol.proofs.invariant.Running.{idle-word, runs-on}
 use Rattle.protocol.proofs.calls.Accepted.{AcceptedCall, accepted-by-checks, running-if-passed}
 
 step-last : (b : Book) (c g : ℕ) (R : Opened) → g ≢ c → stepBook b c R .last g ≡ b .last g

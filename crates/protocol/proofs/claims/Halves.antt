@@ -15,7 +15,7 @@ use Rattle.protocol.specs.Release.{Write, writeOf, priceWrites, runWrite
 use Rattle.protocol.specs.Book.{Opened, none, opened, listPrices}
 use Rattle.protocol.proofs.release.Writes.{length-writes, length-price-writes, length-run-writes}
 use Rattle.protocol.proofs.release.WordAfter.{wordAfter, word-after-none, word-after-first, word-after-append}
-use Rattle.protocol.proofs.release.WordAfter.{word-after-miss, written, target, Misses, misses-none, misses-more}
+use Rattle.protocol.proofs.release.WordAfter.{word-after-miss, written, writtenRegion, Misses, misses-none, misses-more}
 use Rattle.protocol.proofs.release.WordAfter.{misses-append, misses-drop, run-misses, prices-miss, unnamed-miss}
 use Rattle.protocol.proofs.release.WordAfter.{word-after-prices, HomeOf}
 use Rattle.protocol.proofs.book.Changes.{pricesIn, EightWords, uncounted, uncounted-none}
@@ -42,7 +42,7 @@ module _ (d : Directory) (backup c : ℕ) (r : Release) (ps : List Price) (few :
       run-misses backup (recordDesk c (r .number)) (r .desk) card _ (λ j inside e. omega arith)
 
   number-misses : (p w half offset : ℕ) → offset + numberSize ≤ pagesStart
-      → NotIn (target (writeOf backup offset (numberWords (r .number)))) (pageAt p + (half + w))
+      → NotIn (writtenRegion (writeOf backup offset (numberWords (r .number)))) (pageAt p + (half + w))
   number-misses p w half offset below inside = let long = length-number (r .number) in omega arith
 
   -- what follows the desk, if the committed words miss it

@@ -12,7 +12,7 @@ use Rattle.protocol.specs.Book.{Opened, none, opened, listPrices, update
 use Rattle.protocol.proofs.release.Writes.{noPrice, length-writes, Phase, phase, to-tentative, to-desk, to-stamp}
 use Rattle.protocol.proofs.release.Writes.{to-committed, to-done, to-close, write-tentative, write-desk}
 use Rattle.protocol.proofs.release.Writes.{write-stamp}
-use Rattle.protocol.proofs.release.WordAfter.{target, word-after-none, written, written-miss}
+use Rattle.protocol.proofs.release.WordAfter.{writtenRegion, word-after-none, written, written-miss}
 use Rattle.protocol.proofs.release.WordAfter.{written-other-offset, misses-at}
 use Rattle.protocol.proofs.release.Step.{stepWrite}
 use Rattle.protocol.proofs.book.Changes.{EightWords, uncounted, uncounted-early, uncounted-late}
@@ -72,7 +72,7 @@ module _ (d : Directory) (backup : ℕ → ℕ) (release : ℕ → Opened) (pric
       -- what a step's moves need beside its effect on c's own words
       moves : ((h p w : ℕ) → HomeWord d h p w → names (listPrices list) (32 * p + w) ≡ false
           → stepWrite d (backup c) c r (listPrices list) s .card ≡ h
-          → NotIn (target (stepWrite d (backup c) c r (listPrices list) s)) (pageAt p + (H .half + w)))
+          → NotIn (writtenRegion (stepWrite d (backup c) c r (listPrices list) s)) (pageAt p + (H .half + w)))
           → ((h p w : ℕ) → HomeWord d h p w → Agrees d H c (opened r list s) price h p w (wordIn d H m h p w)
           → Agrees d H c (opened r list (suc s)) price′ h p w (wordIn d H m′ h p w))
           → Moves d H release price price′ m m′ c (opened r list (suc s))
@@ -105,11 +105,11 @@ module _ (d : Directory) (backup : ℕ → ℕ) (release : ℕ → Opened) (pric
 
   -- before the count no committed word is written
   early-apart : suc s ≤ countsAt (length (listPrices list)) → (p w : ℕ) → w < pageSize
-      → NotIn (target (stepWrite d (backup c) c r (listPrices list) s)) (pageAt p + (committedHalf + w))
+      → NotIn (writtenRegion (stepWrite d (backup c) c r (listPrices list) s)) (pageAt p + (committedHalf + w))
   early-apart early p w within = go (phase (length (listPrices list)) s (omega arith))
     where
       go : Phase (length (listPrices list)) s
-          → NotIn (target (stepWrite d (backup c) c r (listPrices list) s)) (pageAt p + (committedHalf + w))
+          → NotIn (writtenRegion (stepWrite d (backup c) c r (listPrices list) s)) (pageAt p + (committedHalf + w))
       go (to-tentative low) =
           let on = price-on-page 64 (listPrices list) (s / 2) noPrice (on-pages list) (omega arith) in
           rw (write-tentative d (backup c) c r (listPrices list) eight s low) (λ here. omega arith)

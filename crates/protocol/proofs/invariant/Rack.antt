@@ -6,7 +6,7 @@ use Rattle.directory.specs.declared.Directory.{Directory}
 use Rattle.directory.specs.declared.Status.the-variants.{Running, Awaiting}
 use Rattle.directory.specs.Directory.{isLive, primaryOf, secondaryOf, nextLiveOf, backupOf}
 use Rattle.directory.proofs.Live.{next-live-is-live, next-live-other}
-use Rattle.area.specs.Prelude.{load, recordStamp, recordDone, recordDesk, loadNumber}
+use Rattle.area.specs.Prelude.{load, recordStamp, recordDone, recordDesk, loadNumber, deskSize}
 use Rattle.protocol.specs.Release.{sizeOf}
 use Rattle.protocol.specs.Recovery.{backupBefore}
 use Rattle.protocol.specs.Book.{none, Book}
@@ -79,7 +79,7 @@ pub record AwaitingRack (d : Directory) (f : ℕ) (m : List ℕ) (b : Book) : Ty
   pub records : (g h : ℕ) → isLive d g ≡ false → g ≢ f → g < d .cards → isLive d h ≡ true
       → Recorded g none (b .last g) (load (sizeOf d) m h)
   pub stamped : stampOf d f m ≡ b .last f .number
-  pub desked : (j : ℕ) → j < 8
+  pub desked : (j : ℕ) → j < deskSize
       → load (sizeOf d) m (nextLiveOf d f) (recordDesk f (b .last f .number) + j) ≡ getD (b .last f .desk) j 0
   pub two : TwoLive d
   pub primary-live : (p : ℕ) → p < d .pages → (isLive d (primaryOf d p) ≡ true) ⊎ (primaryOf d p ≡ f)

@@ -2,7 +2,7 @@
 use Rattle.laws.proofs.Prelude.{ℕ, zero, suc, _+_, _*_, _≤_, _<_, _≡_, refl, sym, _∙_, _⊎_, inl, inr, List, Bool, true}
 use Rattle.laws.proofs.Prelude.{false, false≢true, arith, ℕ-discrete, decLt, length}
 use Rattle.directory.specs.declared.Directory.{Directory}
-use Rattle.area.specs.Prelude.{load, pageAt, committedHalf, committed, pageSize, Release}
+use Rattle.area.specs.Prelude.{load, pageAt, committedHalf, pageSize, Release, committed}
 use Rattle.diff.specs.Prices.{names}
 use Rattle.diff.proofs.Prices.{names-none, applied-none}
 use Rattle.protocol.specs.Release.{sizeOf, countsAt}

@@ -5,7 +5,7 @@ use Rattle.laws.specs.Search.{inTurn}
 use Rattle.directory.specs.declared.Directory.{Directory}
 use Rattle.directory.specs.Directory.{isLive}
 use Rattle.area.specs.Prelude.{load, Release, writeRecord, deskSize}
-use Rattle.area.proofs.Prelude.{length-record, load-record, NotIn, recordRegion}
+use Rattle.area.proofs.Prelude.{length-record, load-beside-record, NotIn, recordRegion}
 use Rattle.protocol.specs.Release.{sizeOf}
 use Rattle.protocol.specs.Recovery.{writeFailed}
 use Rattle.protocol.specs.Book.{none}
@@ -33,7 +33,7 @@ module _ (d : Directory) (f : ℕ) (r : Release) (few : f < 8) (eight : length (
           record {
             same-length = length-record (sizeOf d) m′ n f r (omega arith) few eight ∙ below .same-length;
             same = λ h o inside elsewhere.
-                load-record (sizeOf d) m′ n f r (omega arith) few eight h o inside (inr elsewhere)
+                load-beside-record (sizeOf d) m′ n f r (omega arith) few eight h o inside (inr elsewhere)
                 ∙ below .same h o inside elsewhere;
             recorded = λ h small up. at h small up (ℕ-discrete h n);
           }
@@ -46,7 +46,8 @@ module _ (d : Directory) (f : ℕ) (r : Release) (few : f < 8) (eight : length (
               (area-of-live (shape-kept shape m′ (below .same-length)) n live))
           at h small up (no other) =
               recorded-kept f none r _ _
-              (λ o in-record. load-record (sizeOf d) m′ n f r (omega arith) few eight h o (omega arith) (inl other))
+              (λ o in-record. load-beside-record (sizeOf d) m′ n f r (omega arith) few eight h o (omega arith)
+              (inl other))
               (below .recorded h (omega arith) up)
       go false dead =
           record {

@@ -4,7 +4,8 @@ use Rattle.laws.proofs.Prelude.{false, cond, true≢false, arith, ℕ-discrete,
 use Rattle.laws.specs.Search.{inTurn}
 use Rattle.area.specs.Prelude.{AreaIn, load, ownRelease, writeRecord, writeOwnRecord, deskSize, recordsStart, listStart}
 use Rattle.area.specs.Prelude.{pagesStart}
-use Rattle.area.proofs.Prelude.{own-words-kept, length-record, load-record, In, NotIn, recordRegion, records-apart}
+use Rattle.area.proofs.Prelude.{own-words-kept, length-record, load-beside-record, In, NotIn, recordRegion}
+use Rattle.area.proofs.Prelude.{records-apart}
 use Rattle.protocol.specs.Book.{none}
 use Rattle.protocol.proofs.records.Recorded.{Recorded, recorded-kept}
 use Rattle.protocol.proofs.records.Settled.{settled-recorded}
@@ -54,7 +55,7 @@ module _ (size : ℕ) (long : pagesStart ≤ size) (due : ℕ → Bool) (holder 
         where
           other : (h o : ℕ) → o < size → (h ≢ holder n) ⊎ NotIn (recordRegion n) o
               → load size (writeRecord size m′ (holder n) n (ownRelease size m n)) h o ≡ load size m′ h o
-          other = load-record size m′ (holder n) n (ownRelease size m n) long (small n is) (eights n is)
+          other = load-beside-record size m′ (holder n) n (ownRelease size m n) long (small n is) (eights n is)
 
           at : (c : ℕ) → c < suc n → due c ≡ true → Dec (c ≡ n)
               → Recorded c none (ownRelease size m c)

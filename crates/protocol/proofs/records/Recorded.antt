@@ -12,7 +12,7 @@ use Rattle.protocol.specs.Book.{Opened, none, opened, listPrices}
 use Rattle.protocol.proofs.release.Writes.{Phase, phase, to-tentative, to-desk, to-stamp, to-committed, to-done}
 use Rattle.protocol.proofs.release.Writes.{to-close, write-tentative, write-desk, write-stamp, write-committed}
 use Rattle.protocol.proofs.release.Writes.{write-done}
-use Rattle.protocol.proofs.release.WordAfter.{target, written, written-here, written-other-offset}
+use Rattle.protocol.proofs.release.WordAfter.{writtenRegion, written, written-here, written-other-offset}
 use Rattle.protocol.proofs.release.Step.{stepWrite}
 
 -- ---- what the book's last number and desk of a card have to do with its open release
@@ -93,12 +93,12 @@ module _ (r : Release) (list : List ℕ) (s : ℕ) (last last′ : Release)
     w = stepWrite d backup c r (listPrices list) s
 
     -- a word of the record that the step does not write
-    other-word : (o : ℕ) → In (recordRegion c) o → NotIn (target w) o → f′ o ≡ f o
+    other-word : (o : ℕ) → In (recordRegion c) o → NotIn (writtenRegion w) o → f′ o ≡ f o
     other-word o inside apart = wrote o inside ∙ written-other-offset w backup o (f o) apart
 
     -- a number of the record that it does not write
     other-number : (offset : ℕ) → ((j : ℕ) → j < numberSize → In (recordRegion c) (offset + j))
-        → ((j : ℕ) → j < numberSize → NotIn (target w) (offset + j)) → numberAt f′ offset ≡ numberAt f offset
+        → ((j : ℕ) → j < numberSize → NotIn (writtenRegion w) (offset + j)) → numberAt f′ offset ≡ numberAt f offset
     other-number offset inside apart =
         number-kept f offset f′ (λ j within. other-word (offset + j) (inside j within) (apart j within))
 

@@ -4,8 +4,8 @@ use Rattle.laws.proofs.Prelude.{ℕ, _+_, _*_, _≤_, _<_, _≡_, refl, sym, _�
 use Rattle.laws.proofs.Prelude.{arith, ℕ-discrete, length}
 use Rattle.directory.specs.declared.Directory.{Directory}
 use Rattle.directory.specs.Directory.{isLive, primaryOf, nextLiveOf}
-use Rattle.area.specs.Prelude.{load, recordStamp, recordDone, tentative, committed, pagesStart, pageSize, underWay}
-use Rattle.area.specs.Prelude.{loadNumber}
+use Rattle.area.specs.Prelude.{load, recordStamp, recordDone, pagesStart, pageSize, underWay, loadNumber, tentative}
+use Rattle.area.specs.Prelude.{committed}
 use Rattle.area.proofs.Prelude.{recorded-is, under-way-yes, under-way-no, In, recordRegion, stamp-in, done-in, desk-in}
 use Rattle.area.proofs.Prelude.{number-kept}
 use Rattle.protocol.specs.Release.{sizeOf}

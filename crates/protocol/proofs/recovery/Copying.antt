@@ -4,7 +4,7 @@ use Rattle.laws.proofs.Prelude.{true, false, true≢false, arith, ℕ-discrete,
 use Rattle.laws.specs.Search.{inTurn}
 use Rattle.directory.specs.declared.Directory.{Directory}
 use Rattle.directory.specs.Directory.{isLive}
-use Rattle.area.specs.Prelude.{load, copyRun, pageAt, pageSize, tentativeHalf, committedHalf, pagesStart, bothHalves}
+use Rattle.area.specs.Prelude.{load, copyRun, pageAt, pageSize, tentativeHalf, committedHalf, pagesStart, storedPageSize}
 use Rattle.area.proofs.Prelude.{outside, NotIn, pageRegion, length-copy-run, load-copy-run-outside}
 use Rattle.area.proofs.Prelude.{load-copy-run-inside}
 use Rattle.protocol.specs.Release.{sizeOf}
@@ -18,7 +18,7 @@ pub record BothHalves (size : ℕ) (price : ℕ → ℕ) (m : List ℕ) (h p : �
 
 -- a page whose words are those of a page both of whose halves are the book's
 pub both-halves-same : {size : ℕ} {price : ℕ → ℕ} {m m′ : List ℕ} {h h′ p : ℕ}
-    → ((o : ℕ) → o < bothHalves → load size m′ h′ (pageAt p + o) ≡ load size m h (pageAt p + o))
+    → ((o : ℕ) → o < storedPageSize → load size m′ h′ (pageAt p + o) ≡ load size m h (pageAt p + o))
     → BothHalves size price m h p
     → BothHalves size price m′ h′ p
 both-halves-same same both =
@@ -33,7 +33,7 @@ module _ (d : Directory) (f page : ℕ) (m : List ℕ) where
   copies : lostHome d f page ≡ true
       → copyToNewHome d f page m
       ≡ copyRun (sizeOf d) m (keptHome d f page) (pageAt page) (newHome d f page) (pageAt page)
-      bothHalves
+      storedPageSize
   unfolding copyToNewHome
   copies lost = rw lost
 
@@ -46,25 +46,25 @@ module _ (d : Directory) (f page : ℕ) (m : List ℕ) where
         → load (sizeOf d) (copyToNewHome d f page m) h o ≡ load (sizeOf d) m h o
     elsewhere h o apart known inside =
         rw (copies lost)
-        (load-copy-run-outside (sizeOf d) m _ _ _ _ bothHalves h o
+        (load-copy-run-outside (sizeOf d) m _ _ _ _ storedPageSize h o
         (outside (pageRegion page) apart known (omega arith) inside))
 
     copied-low : (h o : ℕ) → o < pagesStart → load (sizeOf d) (copyToNewHome d f page m) h o ≡ load (sizeOf d) m h o
     copied-low h o low = elsewhere h o (inr low) (λ _ here. omega arith) (omega arith)
 
-    copied-elsewhere : (h p o : ℕ) → p < d .pages → o < bothHalves → (h ≢ newHome d f page) ⊎ (p ≢ page)
+    copied-elsewhere : (h p o : ℕ) → p < d .pages → o < storedPageSize → (h ≢ newHome d f page) ⊎ (p ≢ page)
         → load (sizeOf d) (copyToNewHome d f page m) h (pageAt p + o) ≡ load (sizeOf d) m h (pageAt p + o)
     copied-elsewhere h p o inside within apart =
         elsewhere h (pageAt p + o) apart (λ other here. omega arith) (omega arith)
 
     copied-there : Shape d m → isLive d (keptHome d f page) ≡ true → isLive d (newHome d f page) ≡ true → (o : ℕ)
-        → o < bothHalves
+        → o < storedPageSize
         → load (sizeOf d) (copyToNewHome d f page m) (newHome d f page) (pageAt page + o)
         ≡ load (sizeOf d) m (keptHome d f page) (pageAt page + o)
     copied-there shape kept new o within =
         rw (copies lost)
         (load-copy-run-inside (sizeOf d) m (keptHome d f page) (pageAt page) (newHome d f page) (pageAt page)
-        bothHalves (area-of-live shape _ kept) (area-of-live shape _ new) (omega arith) (omega arith) o
+        storedPageSize (area-of-live shape _ kept) (area-of-live shape _ new) (omega arith) (omega arith) o
         within)
 
 -- ---- the pages below n

@@ -7,7 +7,7 @@ use Rattle.laws.proofs.Bools.{and-first, and-second}
 use Rattle.directory.specs.declared.Directory.{Directory}
 use Rattle.directory.specs.Directory.{isLive, backupOf, markedLive}
 use Rattle.directory.proofs.Live.{next-live-kept}
-use Rattle.area.specs.Prelude.{load, pageAt, recordsStart, bothHalves, Release, ownRelease, writeOwnRecord}
+use Rattle.area.specs.Prelude.{load, pageAt, recordsStart, storedPageSize, Release, ownRelease, writeOwnRecord}
 use Rattle.area.proofs.Prelude.{own-words-kept, In, recordRegion, records-apart}
 use Rattle.protocol.specs.Release.{sizeOf}
 use Rattle.protocol.specs.Recovery.{backupBefore, closeReleases, restoredMemory, copyToNewHomes, failedRelease}
@@ -24,7 +24,7 @@ use Rattle.protocol.proofs.recovery.BeforeRecords as before-records
 pub record RecordsWritten (d : Directory) (b : Book) (memoryClosed memoryCopied memoryRecorded : List ℕ) : Type 0 where
   pub same-length : length memoryRecorded ≡ length memoryClosed
   pub own-word : (c o : ℕ) → o < recordsStart → load (sizeOf d) memoryRecorded c o ≡ load (sizeOf d) memoryClosed c o
-  pub page-word : (h p o : ℕ) → p < d .pages → o < bothHalves
+  pub page-word : (h p o : ℕ) → p < d .pages → o < storedPageSize
       → load (sizeOf d) memoryRecorded h (pageAt p + o) ≡ load (sizeOf d) memoryCopied h (pageAt p + o)
   -- a live card's record stands on its backup, a dead card's on every live card
   pub live-recorded : (c : ℕ) → isLive d c ≡ true
@@ -110,7 +110,7 @@ module _ (d : Directory) (f : ℕ) (m : List ℕ) (b : Book) (rack : AwaitingRac
       backed .low c o low ∙ failed .same c o (omega arith) (λ here. omega arith)
       ∙ before-records.low-kept d f m b rack c o (omega arith)
 
-  page-word : (h p o : ℕ) → p < d .pages → o < bothHalves
+  page-word : (h p o : ℕ) → p < d .pages → o < storedPageSize
       → load (sizeOf d) memoryRecorded h (pageAt p + o) ≡ load (sizeOf d) memoryCopied h (pageAt p + o)
   page-word h p o page within =
       backed .high h _ (omega arith) (omega arith) ∙ failed .same h _ (omega arith) (λ here. omega (arith, few))

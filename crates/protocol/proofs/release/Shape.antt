@@ -1,4 +1,4 @@
--- A memory of its stated length, and what a card's own words say when they are kept.
+-- A rack within its limits: each live card's area lies in the memory.
 use Rattle.laws.proofs.Prelude.{ℕ, _*_, _≤_, _<_, _≡_, _∙_, List, true, length}
 use Rattle.directory.specs.declared.Directory.{Directory}
 use Rattle.directory.specs.Directory.{isLive}

@@ -1,4 +1,4 @@
--- What a step makes of the words of live cards: the one word that it writes, and the steps made.
+-- What a step makes of the words of live cards: the words that it writes, and the steps made.
 use Rattle.laws.proofs.Prelude.{ℕ, suc, _+_, _*_, _/_, _≤_, _<_, _≡_, _∙_, _≢_, _⊎_, inl, inr, List, true, arith}
 use Rattle.laws.proofs.Prelude.{lt-ltb, le-ltb, length, getD}
 use native.Mathlib.Numerals.{add-one}
@@ -17,14 +17,14 @@ use Rattle.protocol.specs.Release.{makeWrite, close, stepMemory}
 use Rattle.protocol.proofs.release.Writes.{noPrice, homeOf, length-writes, Phase, phase, to-tentative, to-desk}
 use Rattle.protocol.proofs.release.Writes.{to-stamp, to-committed, to-done, to-close, write-tentative}
 use Rattle.protocol.proofs.release.Writes.{write-desk, write-stamp, write-committed, write-done}
-use Rattle.protocol.proofs.release.WordAfter.{written, target}
+use Rattle.protocol.proofs.release.WordAfter.{written, writtenRegion}
 use Rattle.protocol.proofs.release.OneWrite.{length-make-write, load-make-write, make-write-other}
 
 -- ---- the writes of a release stand in its areas' records and pages
 
 -- where a step of card c writes: in c's record, or in a page
 pub record StepPlace (pages c : ℕ) (w : Write) : Type 0 where
-  pub place : Contains (recordRegion c) (target w) ⊎ (pagesStart ≤ w .offset)
+  pub place : Contains (recordRegion c) (writtenRegion w) ⊎ (pagesStart ≤ w .offset)
   pub inside : w .offset + length (w .words) ≤ areaSize pages
 
 module _ (d : Directory) (backup c : ℕ) (r : Release) (ps : List Price) (eight : length (r .desk) ≡ deskSize)
@@ -85,7 +85,7 @@ module _ (d : Directory) (backup : ℕ) (m : List ℕ) (c : ℕ) (area : AreaIn 
   count : length (releaseWrites d backup c r ps) ≡ 4 * length ps + 10
   count = length-writes d backup c r ps eight
 
-  -- before the close: the write, and one more in word 10
+  -- before the close: the write, and one step more made
   pub step-writes : s < 4 * length ps + 10
       → stepMemory d backup m c ≡ store (sizeOf d) (makeWrite (d .live) (sizeOf d) m (stepWrite d backup c r ps s)) c
       stepsMade (s + 1)
@@ -136,7 +136,7 @@ module _ (d : Directory) (backup : ℕ) (m : List ℕ) (c : ℕ) (area : AreaIn 
         ∙ load-make-write (d .live) (sizeOf d) m w (write-in .inside) h o up area′ inside
 
     -- one that is at no offset of the write
-    unwritten : (x o : ℕ) → o < sizeOf d → (x ≡ c → o ≢ stepsMade) → NotIn (target w) o
+    unwritten : (x o : ℕ) → o < sizeOf d → (x ≡ c → o ≢ stepsMade) → NotIn (writtenRegion w) o
         → load (sizeOf d) (stepMemory d backup m c) x o ≡ load (sizeOf d) m x o
     unwritten x o inside other apart =
         beside-steps x o inside other ∙ make-write-other (d .live) (sizeOf d) m w (write-in .inside) x o inside apart
@@ -151,7 +151,7 @@ module _ (d : Directory) (backup : ℕ) (m : List ℕ) (c : ℕ) (area : AreaIn 
         fits (inr list) = omega arith
 
         apart : (o < recordsStart) ⊎ In listRegion o
-            → Contains (recordRegion c) (target w) ⊎ (pagesStart ≤ w .offset) → NotIn (target w) o
+            → Contains (recordRegion c) (writtenRegion w) ⊎ (pagesStart ≤ w .offset) → NotIn (writtenRegion w) o
         apart (inl low) (inl records) here = omega arith
         apart (inl low) (inr page) here = omega arith
         apart (inr list) (inl records) here = omega (arith, few)
@@ -163,7 +163,7 @@ module _ (d : Directory) (backup : ℕ) (m : List ℕ) (c : ℕ) (area : AreaIn 
     step-keeps-record x h o small other in-record =
         unwritten h o (omega arith) (λ _ e. omega arith) (apart (write-in .place))
       where
-        apart : Contains (recordRegion c) (target w) ⊎ (pagesStart ≤ w .offset) → NotIn (target w) o
+        apart : Contains (recordRegion c) (writtenRegion w) ⊎ (pagesStart ≤ w .offset) → NotIn (writtenRegion w) o
         apart (inl records) here = records-apart other in-record (omega arith, omega arith)
         apart (inr page) here = omega arith
 

@@ -18,8 +18,8 @@ use Rattle.protocol.specs.Release.{Write, writeOf, noWrite, priceWrite, 
 -- ---- one write
 
 -- the words that a write is to
-abbrev pub target : Write → Region
-target w = region (w .offset) (length (w .words))
+abbrev pub writtenRegion : Write → Region
+writtenRegion w = region (w .offset) (length (w .words))
 
 -- what it makes of the word at an offset of a card; past the end of its words, what was there
 unfoldable pub written : Write → ℕ → ℕ → ℕ → ℕ
@@ -39,7 +39,7 @@ module _ (w : Write) (card offset v : ℕ) where
   unfolding written
   written-other-card other = rw (ne-eqb (w .card) card other)
 
-  pub written-other-offset : NotIn (target w) offset → written w card offset v ≡ v
+  pub written-other-offset : NotIn (writtenRegion w) offset → written w card offset v ≡ v
   unfolding written
   written-other-offset other = go (eqb (w .card) card) (decLt offset (w .offset))
     where
@@ -93,10 +93,11 @@ word-after-append (u ∷ us) ws card offset v = word-after-append us ws card off
 -- no write of the list is to the word
 pub data Misses (card offset : ℕ) : List Write → Type 0 where
   misses-none : Misses card offset []
-  misses-more : {w : Write} {ws : List Write} → (w .card ≡ card → NotIn (target w) offset) → Misses card offset ws
+  misses-more : {w : Write} {ws : List Write} → (w .card ≡ card → NotIn (writtenRegion w) offset)
+      → Misses card offset ws
       → Misses card offset (w ∷ ws)
 
-pub written-miss : (w : Write) (card offset v : ℕ) → (w .card ≡ card → NotIn (target w) offset)
+pub written-miss : (w : Write) (card offset v : ℕ) → (w .card ≡ card → NotIn (writtenRegion w) offset)
     → written w card offset v ≡ v
 written-miss w card offset v other =
     elim (ℕ-discrete (w .card) card) [
@@ -122,7 +123,7 @@ misses-drop (suc s) misses-none = misses-none
 misses-drop (suc s) (misses-more other rest) = misses-drop s rest
 
 pub misses-at : {ws : List Write} {card offset : ℕ} (s : ℕ) → s < length ws → Misses card offset ws
-    → getD ws s noWrite .card ≡ card → NotIn (target (getD ws s noWrite)) offset
+    → getD ws s noWrite .card ≡ card → NotIn (writtenRegion (getD ws s noWrite)) offset
 misses-at s within misses-none = absurd (omega arith)
 misses-at zero within (misses-more other rest) = other
 misses-at (suc s) within (misses-more other rest) = misses-at s (omega arith) rest

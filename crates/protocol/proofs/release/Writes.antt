@@ -82,7 +82,7 @@ module _ (d : Directory) (backup c : ℕ) (r : Release) (ps : List Price) (eight
       ∙ price-write-at d tentativeHalf ps s within
 
   -- 2. step 2k + j + 1
-  pub write-desk : (s j : ℕ) → s ≡ 2 * length ps + j → j < 8
+  pub write-desk : (s j : ℕ) → s ≡ 2 * length ps + j → j < deskSize
       → getD (releaseWrites d backup c r ps) s noWrite ≡ writeOf backup (recordDesk c (r .number) + j)
       (getD (r .desk) j 0 ∷ [])
   unfolding releaseWrites
@@ -97,7 +97,8 @@ module _ (d : Directory) (backup c : ℕ) (r : Release) (ps : List Price) (eight
   unfolding releaseWrites
   write-stamp s at =
       getD-right noWrite (priceWrites d tentativeHalf ps) _ (2 * length ps) s 8 tentatives at
-      ∙ getD-right noWrite (runWrites backup (recordDesk c (r .number)) (r .desk)) _ 8 8 0 desks (omega arith)
+      ∙ getD-right noWrite (runWrites backup (recordDesk c (r .number)) (r .desk)) _ deskSize deskSize 0 desks
+      (omega arith)
 
   -- 4. step 2k + 10 + j
   pub write-committed : (s j : ℕ) → s ≡ 2 * length ps + 9 + j → j < 2 * length ps
@@ -106,7 +107,7 @@ module _ (d : Directory) (backup c : ℕ) (r : Release) (ps : List Price) (eight
   unfolding releaseWrites
   write-committed s j at within =
       getD-right noWrite (priceWrites d tentativeHalf ps) _ (2 * length ps) s (9 + j) tentatives (omega arith)
-      ∙ getD-right noWrite (runWrites backup (recordDesk c (r .number)) (r .desk)) _ 8 (9 + j) (suc j) desks
+      ∙ getD-right noWrite (runWrites backup (recordDesk c (r .number)) (r .desk)) _ deskSize (9 + j) (suc j) desks
       (omega arith)
       ∙ getD-left (priceWrites d committedHalf ps) last j (omega (arith, committeds))
       ∙ price-write-at d committedHalf ps j within
@@ -118,7 +119,7 @@ module _ (d : Directory) (backup c : ℕ) (r : Release) (ps : List Price) (eight
   write-done s at =
       getD-right noWrite (priceWrites d tentativeHalf ps) _ (2 * length ps) s (9 + 2 * length ps) tentatives
       (omega arith)
-      ∙ getD-right noWrite (runWrites backup (recordDesk c (r .number)) (r .desk)) _ 8 (9 + 2 * length ps)
+      ∙ getD-right noWrite (runWrites backup (recordDesk c (r .number)) (r .desk)) _ deskSize (9 + 2 * length ps)
       (suc (2 * length ps)) desks (omega arith)
       ∙ getD-right noWrite (priceWrites d committedHalf ps) last (2 * length ps) (2 * length ps) 0 committeds
       (omega arith)
@@ -127,7 +128,7 @@ module _ (d : Directory) (backup c : ℕ) (r : Release) (ps : List Price) (eight
 
 pub data Phase (k s : ℕ) : Type 0 where
   to-tentative : s < 2 * k → Phase k s
-  to-desk : (j : ℕ) → s ≡ 2 * k + j → j < 8 → Phase k s
+  to-desk : (j : ℕ) → s ≡ 2 * k + j → j < deskSize → Phase k s
   to-stamp : s ≡ 2 * k + 8 → Phase k s
   to-committed : (j : ℕ) → s ≡ 2 * k + 9 + j → j < 2 * k → Phase k s
   to-done : s ≡ 4 * k + 9 → Phase k s

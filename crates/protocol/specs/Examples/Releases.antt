@@ -1,6 +1,6 @@
--- A release opened, stepped and closed, and a card's record: worked examples.
+-- A release opened, stepped and closed: worked examples.
 -- Assumes nothing: these are definitions.
-use Rattle.laws.specs.Prelude.{ℕ, List, [], _∷_, _++_}
+use Rattle.laws.specs.Prelude.{ℕ, List, [], _∷_, _++_, length}
 use Rattle.laws.specs.Examples.{Example, computed}
 use Rattle.area.specs.Prelude.{store, storeRun, zeros, releaseOf, pagesStart}
 use Rattle.area.specs.Examples.{numbersFrom}
@@ -14,10 +14,10 @@ use Rattle.protocol.specs.Examples.Racks.{smallRack, smallMemory, outcom
 abbrev pub desk : List ℕ
 desk = numbersFrom 50 8
 
--- card, offset and words of each store
+-- card, offset, number of words and words of each store
 abbrev pub inOrder : List Write → List ℕ
 inOrder [] = []
-inOrder (w ∷ ws) = w .card ∷ w .offset ∷ (w .words ++ inOrder ws)
+inOrder (w ∷ ws) = w .card ∷ w .offset ∷ length (w .words) ∷ (w .words ++ inOrder ws)
 
 -- words 4 and 5 of page 0, to 250 and 199: as prices, and as a list
 abbrev pub twoPrices : List Price
@@ -65,15 +65,14 @@ releaseExamples =
     -- The stores of release 5 of card 1, whose backup is card 2: each price at the secondary, then at the primary; an
     -- odd number's desk to the odd desk, the stamp, the committed words, and last the done mark.
     ∷ computed (inOrder (releaseWrites smallRack 2 1 (releaseOf 5 desk) twoPrices))
-    (1 ∷ 680 ∷ 250 ∷ 0 ∷ 680 ∷ 250 ∷ 1 ∷ 681 ∷ 199 ∷ 0 ∷ 681 ∷ 199
-    ∷ 2 ∷ 48 ∷ 50 ∷ 2 ∷ 49 ∷ 51 ∷ 2 ∷ 50 ∷ 52 ∷ 2 ∷ 51 ∷ 53 ∷ 2 ∷ 52 ∷ 54 ∷ 2 ∷ 53 ∷ 55 ∷ 2 ∷ 54 ∷ 56 ∷ 2 ∷ 55 ∷ 57
-    ∷ 2 ∷ 38 ∷ 5
-    ∷ 1 ∷ 712 ∷ 250 ∷ 0 ∷ 712 ∷ 250 ∷ 1 ∷ 713 ∷ 199 ∷ 0 ∷ 713 ∷ 199
-    ∷ 2 ∷ 39 ∷ 5 ∷ [])
+    (1 ∷ 680 ∷ 1 ∷ 250 ∷ 0 ∷ 680 ∷ 1 ∷ 250 ∷ 1 ∷ 681 ∷ 1 ∷ 199 ∷ 0 ∷ 681 ∷ 1 ∷ 199 ∷ 2 ∷ 48 ∷ 1 ∷ 50
+    ∷ 2 ∷ 49 ∷ 1 ∷ 51 ∷ 2 ∷ 50 ∷ 1 ∷ 52 ∷ 2 ∷ 51 ∷ 1 ∷ 53 ∷ 2 ∷ 52 ∷ 1 ∷ 54 ∷ 2 ∷ 53 ∷ 1 ∷ 55 ∷ 2 ∷ 54 ∷ 1 ∷ 56
+    ∷ 2 ∷ 55 ∷ 1 ∷ 57 ∷ 2 ∷ 38 ∷ 1 ∷ 5 ∷ 1 ∷ 712 ∷ 1 ∷ 250 ∷ 0 ∷ 712 ∷ 1 ∷ 250 ∷ 1 ∷ 713 ∷ 1 ∷ 199
+    ∷ 0 ∷ 713 ∷ 1 ∷ 199 ∷ 2 ∷ 39 ∷ 1 ∷ 5 ∷ [])
     -- An even number's desk goes to the even desk. A release of no price has ten stores.
     ∷ computed (inOrder (releaseWrites smallRack 2 1 (releaseOf 6 desk) []))
-    (2 ∷ 40 ∷ 50 ∷ 2 ∷ 41 ∷ 51 ∷ 2 ∷ 42 ∷ 52 ∷ 2 ∷ 43 ∷ 53 ∷ 2 ∷ 44 ∷ 54 ∷ 2 ∷ 45 ∷ 55 ∷ 2 ∷ 46 ∷ 56 ∷ 2 ∷ 47 ∷ 57
-    ∷ 2 ∷ 38 ∷ 6 ∷ 2 ∷ 39 ∷ 6 ∷ [])
+    (2 ∷ 40 ∷ 1 ∷ 50 ∷ 2 ∷ 41 ∷ 1 ∷ 51 ∷ 2 ∷ 42 ∷ 1 ∷ 52 ∷ 2 ∷ 43 ∷ 1 ∷ 53 ∷ 2 ∷ 44 ∷ 1 ∷ 54 ∷ 2 ∷ 45 ∷ 1 ∷ 55
+    ∷ 2 ∷ 46 ∷ 1 ∷ 56 ∷ 2 ∷ 47 ∷ 1 ∷ 57 ∷ 2 ∷ 38 ∷ 1 ∷ 6 ∷ 2 ∷ 39 ∷ 1 ∷ 6 ∷ [])
     -- The close takes number and desk for own stamp and desk, and zeroes the release's words and the list's; records
     -- and pages stay.
     ∷ computed (close 740 (numbersFrom 0 740) 0)

@@ -3,7 +3,6 @@ use native.Mathlib.Omega.{arith}
 use borrow.Author.Needs.{needs}
 use Rattle.memory.proofs.Index.{area-in}
 use Rattle.area.specs.Releases.{ownRelease}
-use Rattle.area.proofs.Record.{load-record}
 use Rattle.protocol.specs.DeskQuestion.{deskOf}
 use Rattle.rack.proofs.load_desk.Statement.{statement}
 use Rattle.rack.proofs.load_desk.Tie as tie

@@ -1,7 +1,6 @@
 -- Rests on what its parts ensure, each of them a part of the definition.
 use mathlib.Core.Path.{_∙_}
 use borrow.Author.Needs.{needs}
-use Rattle.area.proofs.Record.{load-record}
 use Rattle.release.proofs.Callers.{homes-kept}
 use Rattle.recovery.specs.Closing.{recoveredClosed}
 use Rattle.recovery.specs.Rack.{rackOf}

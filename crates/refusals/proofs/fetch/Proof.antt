@@ -11,7 +11,8 @@ returns c = sym (refused-first _ _ _ refl (c .before .before .page-refusal .ensu
 returns-2 : tie.Need-returns-2
 returns-2 c =
     let test = c .before in
-    c .last-check .ensures ∙ sym (passed-first _ _ _ refl (test .before .before .page-refusal .ensures) (test .if1 .left))
+    c .last-check .ensures
+    ∙ sym (passed-first _ _ _ refl (test .before .before .page-refusal .ensures) (test .if1 .left))
 
 pub fetch-spec : {M : Type 1} → statement M
 fetch-spec =

@@ -3,7 +3,6 @@ use native.Mathlib.Omega.{arith}
 use borrow.Author.Needs.{needs}
 use Rattle.memory.proofs.Index.{area-in}
 use Rattle.area.proofs.NumberWords.{number-then}
-use Rattle.area.proofs.Record.{load-record}
 use Rattle.protocol.specs.Join.{resetArea}
 use Rattle.recovery.proofs.homes.Cards.{next-in}
 use Rattle.recovery.proofs.joining.reset_area.Statement.{statement}

@@ -1,4 +1,4 @@
--- Rests on `PricesMade`: the memory with its count is the one that single steps leave; word 10 is written at the end.
+-- Rests on `PricesMade`: the memory with its count is the one that single steps leave; the count is written at the end.
 use Prim.Native.Nat.{_+_, _-_, _/_}
 use native.Mathlib.Omega.{arith}
 use borrow.Author.Needs.{needs}
