@@ -1,6 +1,6 @@
 // What a call answers, and document 01's numbers for what it refuses.
 ghost use mathlib.Core.Path.{_≡_};
-ghost use Rattle.answer.specs.Outcome.{outcome, answerOf};
+ghost use Rattle.answer.specs.Outcome.{outcome, answerOf, given, refusedAt};
 
 // Document 01, "What the rack refuses, by who caused it". specs/Outcome.antt has the same table.
 pub const LIMITS: u32 = 1;
@@ -48,6 +48,23 @@ pub struct Outcome {
     pub value: u64,
 }
 
+// An accepted call that gives this value.
+pub fn given(value: u64) -> Outcome
+    ensures { λ r. ⌜ r ≡ given value ⌝ }
+{
+    Outcome { number: 0, value }
+}
+
+// A refusal at a place, 0 where it names none.
+pub fn refused_at(number: u32, place: u64) -> Outcome
+    ensures { λ r. ⌜ r ≡ refusedAt number place ⌝ }
+{
+    Outcome {
+        number,
+        value: place,
+    }
+}
+
 pub enum Answer {
     // The number that an accepted call gives.
     Given(u64),
@@ -71,10 +88,7 @@ pub fn outcome_of(a: Answer) -> Outcome
     ensures { λ r. ⌜ r ≡ outcome a ⌝ }
 {
     match a {
-        Answer::Given(value) => Outcome { number: 0, value },
-        Answer::Refused(number, place) => Outcome {
-            number,
-            value: place,
-        },
+        Answer::Given(value) => given(value),
+        Answer::Refused(number, place) => refused_at(number, place),
     }
 }

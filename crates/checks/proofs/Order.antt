@@ -1,10 +1,9 @@
 -- Checks in order: of two lists of checks the first decides, and where none of it refuses the second.
-use Rattle.laws.proofs.Prelude.{ℕ, _<_, _≤_, _≡_, refl, ap, _∙_, _≢_, List, [], _∷_, _++_, Bool, true, false, cond, not}
-use Rattle.laws.proofs.Prelude.{_&&_, _||_, ne-eqb, eqb-true, not-true, le-leb, lt-leb, eqb, leb}
-use Rattle.laws.proofs.Bools.{by-cond, and-first, and-second}
+use Rattle.laws.proofs.Prelude.{ℕ, _≡_, refl, _∙_, _≢_, List, [], _∷_, _++_, Bool, true, false, cond, not, _&&_, ne-eqb}
+use Rattle.laws.proofs.Prelude.{not-true, eqb}
+use Rattle.laws.proofs.Bools.{and-first, and-second}
 use Rattle.answer.specs.declared.Outcome.{Outcome}
-use Rattle.answer.specs.Outcome.{given, refused, refusedAt}
-use Rattle.directory.specs.Directory.{liveAt}
+use Rattle.answer.specs.Outcome.{given, refusedAt}
 use Rattle.protocol.specs.Checks.{Check, checkAt, firstRefusal}
 
 -- ---- one check before others, and none
@@ -60,62 +59,3 @@ module _ (more : List Check) (value : ℕ) where
 
     pub passed-first : first .number ≡ 0 → firstRefusal (cs ++ more) value ≡ firstRefusal more value
     passed-first none = first-then cs all ∙ rw (← reached) (rw none)
-
--- ---- checks that come to a number, before others
-
--- the checks refuse by a number other than 0, and name no place
-abbrev pub plain : List Check → Bool
-plain [] = true
-plain (c ∷ cs) = not (eqb (c .number) 0) && (eqb (c .place) 0 && plain cs)
-
--- the outcome where the first checks come to `number` and those after them to `rest`
-abbrev afterwards : ℕ → Outcome → Outcome
-afterwards number rest = cond (eqb number 0) rest (refused number)
-
-one-more : (refuses : Bool) (number : ℕ) (first whole rest : Outcome)
-    → eqb number 0 ≡ false → whole ≡ afterwards (first .number) rest
-    → cond refuses (refused number) whole ≡ afterwards (cond refuses (refused number) first .number) rest
-one-more true number first whole rest other e = simp other
-one-more false number first whole rest other e = e
-
-module _ (more : List Check) (value : ℕ) where
-  later-checks : (cs : List Check) → plain cs ≡ true
-      → firstRefusal (cs ++ more) value ≡ afterwards (firstRefusal cs 0 .number) (firstRefusal more value)
-  unfolding firstRefusal
-  later-checks [] all = refl
-  later-checks (c ∷ cs) all =
-      let named = not-true (eqb (c .number) 0) (and-first (not (eqb (c .number) 0)) _ all) in
-      let rest = and-second (not (eqb (c .number) 0)) _ all in
-      let at-0 = eqb-true (c .place) 0 (and-first (eqb (c .place) 0) _ rest) in
-      let later = later-checks cs (and-second (eqb (c .place) 0) _ rest) in
-      rw at-0 (one-more (c .refuses) (c .number) _ _ _ named later)
-
-  module _ (cs : List Check) (all : plain cs ≡ true) {number : ℕ} (reached : number ≡ firstRefusal cs 0 .number) where
-    pub refused-before : number ≢ 0 → firstRefusal (cs ++ more) value ≡ refused number
-    refused-before some = later-checks cs all ∙ rw (← reached) (rw (ne-eqb _ _ some))
-
-    pub passed-before : number ≡ 0 → firstRefusal (cs ++ more) value ≡ firstRefusal more value
-    passed-before none = later-checks cs all ∙ rw (← reached) (rw none)
-
-no-place : (cs : List Check) → plain cs ≡ true → firstRefusal cs 0 .value ≡ 0
-unfolding firstRefusal
-no-place [] all = refl
-no-place (c ∷ cs) all =
-    let rest = and-second (not (eqb (c .number) 0)) _ all in
-    by-cond (λ (o : Outcome). o .value ≡ 0) (c .refuses) _ _
-    (λ hit. eqb-true (c .place) 0 (and-first (eqb (c .place) 0) _ rest))
-    (λ miss. no-place cs (and-second (eqb (c .place) 0) _ rest))
-
--- the number that such checks come to tells their outcome
-pub by-number : (cs : List Check) → plain cs ≡ true → {number : ℕ} → number ≡ firstRefusal cs 0 .number
-    → firstRefusal cs 0 ≡ refused number
-by-number cs all reached = rw reached (ap (refusedAt (firstRefusal cs 0 .number)) (no-place cs all))
-
--- ---- 3: no such card, or dead
-
-module _ (cards c : ℕ) (marks : List Bool) where
-  pub past-cards : cards ≤ c → leb cards c || not (liveAt marks c) ≡ true
-  past-cards past = rw (le-leb _ _ past)
-
-  pub by-mark : (mark : Bool) → c < cards → liveAt marks c ≡ mark → leb cards c || not (liveAt marks c) ≡ not mark
-  by-mark mark below is = rw (lt-leb _ _ below, is)

@@ -1,15 +1,17 @@
 // Whether a memory and a directory fit each other, whether the rack runs, and whether there is such
-// a card: refusals 1, 2, 11 and 3. Each check is true where it refuses. A directory's arrays are lent
-// one by one: a directory handed on by value would be copied at each call.
-ghost use Rattle.laws.specs.Prelude.{_≡_, _*_, _<_, _≤_, length};
+// a card: refusals 1, 2, 11 and 3. Each check is true where it refuses. A directory comes as its
+// header, by value, with its homes lent beside it.
+ghost use Rattle.laws.specs.Prelude.{_≡_, _*_, _<_, _≤_, [], _∷_, not, _||_, length, leb};
 ghost use Rattle.laws.specs.Search.{someBelow, countBelow};
-ghost use Rattle.directory.specs.Directory.{liveAt, directoryOf, awaitsCard};
+ghost use Rattle.directory.specs.Directory.{liveAt, directoryBy, FullHomes, awaitsCard};
 ghost use Rattle.area.specs.Prelude.{areaSize, AreaIn};
 ghost use Rattle.protocol.specs.Checks.{outsideLimits, badHome, badPage, badStatus, badRelease};
-ghost use Rattle.protocol.specs.Checks.{badCard, unfitRack, firstRefusal, fittingChecks};
-ghost use Rattle.protocol.specs.Checks.{runningChecks, cardChecks, liveCardChecks};
+ghost use Rattle.protocol.specs.Checks.{badCard, unfitRack, check, firstRefusal, fittingChecks};
+ghost use Rattle.protocol.specs.Checks.{awaitsRecovery, runningChecks, cardChecks, liveCardChecks};
 ghost use Rattle.checks.specs.Homes.{misplaced, misplacedPage};
+use answer::Outcome;
 use diff::Verdict;
+use directory::Header;
 use directory::Status;
 
 // 1: cards or pages outside their limits, or a memory not of the stated length.
@@ -63,36 +65,27 @@ fn awaits(status: Status, card: u32) -> bool
     }
 }
 
-fn bad_home(cards: u32, live: &[bool], status: Status, home: u32) -> bool
-    requires { ⌜ cards ≤ length (now live) ⌝ }
-    ensures { λ r. ⌜ r ≡ badHome cards (now (live .entry)) status home ⌝ }
+fn bad_home(header: Header, home: u32) -> bool
+    requires { ⌜ header .cards ≤ 8 ⌝ }
+    ensures { λ r. ⌜ r ≡ badHome (header .cards) (header .live) (header .status) home ⌝ }
 {
-    if cards <= home {
+    if header.cards <= home {
         return true;
     }
+    let live = header.live;
     let at = home as usize;
     if live[at] {
         return false;
     }
+    let status = header.status;
     !awaits(status, home)
 }
 
-fn bad_page(
-    cards: u32,
-    pages: u32,
-    live: &[bool],
-    primary: &[u32],
-    secondary: &[u32],
-    status: Status,
-    page: u32,
-) -> bool
-    requires { ⌜ cards ≤ length (now live) ⌝ }
+fn bad_page(header: Header, primary: &[u32], secondary: &[u32], page: u32) -> bool
+    requires { ⌜ header .cards ≤ 8 ⌝ }
     requires { ⌜ (page < length (now primary)) × (page < length (now secondary)) ⌝ }
     ensures { λ r. ⌜ r
-        ≡ badPage
-        (directoryOf cards pages (now (live .entry)) (now (primary .entry))
-        (now (secondary .entry)) status)
-        page ⌝ }
+        ≡ badPage (directoryBy header (now (primary .entry)) (now (secondary .entry))) page ⌝ }
 {
     let at = page as usize;
     let first = primary[at];
@@ -100,32 +93,23 @@ fn bad_page(
     if first == second {
         return true;
     }
-    if bad_home(cards, live, status, first) {
+    if bad_home(header, first) {
         return true;
     }
-    bad_home(cards, live, status, second)
+    bad_home(header, second)
 }
 
-fn bad_pages(
-    cards: u32,
-    pages: u32,
-    live: &[bool],
-    primary: &[u32],
-    secondary: &[u32],
-    status: Status,
-) -> bool
-    requires { ⌜ cards ≤ length (now live) ⌝ }
-    requires { ⌜ (pages ≤ length (now primary)) × (pages ≤ length (now secondary)) ⌝ }
+fn bad_pages(header: Header, primary: &[u32], secondary: &[u32]) -> bool
+    requires { ⌜ (header .cards ≤ 8) × (header .pages ≤ length (now primary)) ⌝ }
+    requires { ⌜ header .pages ≤ length (now secondary) ⌝ }
     ensures { λ r. ⌜ r
-        ≡ someBelow
-        (badPage
-        (directoryOf cards pages (now (live .entry)) (now (primary .entry))
-        (now (secondary .entry)) status))
-        pages ⌝ }
+        ≡ someBelow (badPage (directoryBy header (now (primary .entry)) (now (secondary .entry))))
+        (header .pages) ⌝ }
 {
+    let pages = header.pages;
     let mut page: u32 = 0;
     while page < pages {
-        if bad_page(cards, pages, live, primary, secondary, status, page) {
+        if bad_page(header, primary, secondary, page) {
             return true;
         }
         page += 1;
@@ -169,40 +153,32 @@ fn count_misplaced(cards: u32, pages: u32, primary: &[u32], secondary: &[u32]) -
 }
 
 // Whether a page has bad homes; `count` cards are live. Where all are, the homes' numbers tell.
-fn bad_homes(
-    count: u32,
-    cards: u32,
-    pages: u32,
-    live: &[bool],
-    primary: &[u32],
-    secondary: &[u32],
-    status: Status,
-) -> bool
-    requires { ⌜ (cards ≤ length (now live)) × (count ≡ countBelow (liveAt (now live)) cards) ⌝ }
-    requires { ⌜ (pages ≤ length (now primary)) × (pages ≤ length (now secondary)) ⌝ }
+fn bad_homes(header: Header, primary: &[u32], secondary: &[u32], count: u32) -> bool
+    requires { ⌜ (header .cards ≤ 8) × (header .pages ≤ length (now primary)) ⌝ }
+    requires { ⌜ header .pages ≤ length (now secondary) ⌝ }
+    requires { ⌜ count ≡ countBelow (liveAt (header .live)) (header .cards) ⌝ }
     ensures { λ r. ⌜ r
-        ≡ someBelow
-        (badPage
-        (directoryOf cards pages (now (live .entry)) (now (primary .entry))
-        (now (secondary .entry)) status))
-        pages ⌝ }
+        ≡ someBelow (badPage (directoryBy header (now (primary .entry)) (now (secondary .entry))))
+        (header .pages) ⌝ }
 {
-    if count == cards {
-        return 0 < count_misplaced(cards, pages, primary, secondary);
+    if count == header.cards {
+        return 0 < count_misplaced(header.cards, header.pages, primary, secondary);
     }
-    bad_pages(cards, pages, live, primary, secondary, status)
+    bad_pages(header, primary, secondary)
 }
 
-fn bad_status(cards: u32, live: &[bool], status: Status) -> bool
-    requires { ⌜ cards ≤ length (now live) ⌝ }
-    ensures { λ r. ⌜ r ≡ badStatus cards (now (live .entry)) status ⌝ }
+fn bad_status(header: Header) -> bool
+    requires { ⌜ header .cards ≤ 8 ⌝ }
+    ensures { λ r. ⌜ r ≡ badStatus (header .cards) (header .live) (header .status) ⌝ }
 {
+    let status = header.status;
     match status {
         Status::Running => false,
         Status::Awaiting(awaited) => {
-            if cards <= awaited {
+            if header.cards <= awaited {
                 return true;
             }
+            let live = header.live;
             let at = awaited as usize;
             live[at]
         }
@@ -255,156 +231,148 @@ fn bad_cards(memory: &[u32], cards: u32, pages: u32, live: &[bool]) -> bool
 }
 
 // 2, of a rack within its limits.
-fn unfit_rack(
-    memory: &[u32],
-    cards: u32,
-    pages: u32,
-    live: &[bool],
-    primary: &[u32],
-    secondary: &[u32],
-    status: Status,
-) -> bool
-    requires { ⌜ (pages ≤ 64) × (length (now memory) ≡ cards * areaSize pages) ⌝ }
-    requires { ⌜ cards ≤ length (now live) ⌝ }
-    requires { ⌜ (pages ≤ length (now primary)) × (pages ≤ length (now secondary)) ⌝ }
+fn unfit_rack(memory: &[u32], header: Header, primary: &[u32], secondary: &[u32]) -> bool
+    requires { ⌜ (header .cards ≤ 8) × (header .pages ≤ 64)
+        × (length (now memory) ≡ header .cards * areaSize (header .pages)) ⌝ }
+    requires { ⌜ FullHomes (now primary) (now secondary) ⌝ }
     ensures { λ r. ⌜ r
-        ≡ unfitRack
-        (directoryOf cards pages (now (live .entry)) (now (primary .entry))
-        (now (secondary .entry)) status)
+        ≡ unfitRack (directoryBy header (now (primary .entry)) (now (secondary .entry)))
         (now (memory .entry)) ⌝ }
 {
-    let count = count_live(live, cards);
+    let live = header.live;
+    let count = count_live(&live, header.cards);
     if count < 2 {
         return true;
     }
-    if bad_homes(count, cards, pages, live, primary, secondary, status) {
+    if bad_homes(header, primary, secondary, count) {
         return true;
     }
-    if bad_status(cards, live, status) {
+    if bad_status(header) {
         return true;
     }
-    bad_cards(memory, cards, pages, live)
+    bad_cards(memory, header.cards, header.pages, &live)
 }
 
 // ---- the checks in order
 
-// Refusal 1 or 2, or 0 where the two fit.
+// What the last check of a call comes to.
+pub fn last_check(refuses: bool, number: u32) -> Outcome
+    ensures { λ r. ⌜ r ≡ firstRefusal (check refuses number ∷ []) 0 ⌝ }
+{
+    if refuses {
+        return answer::refused_at(number, 0);
+    }
+    answer::given(0)
+}
+
+// 1 and 2: whether the two fit.
 pub fn fitting_refusal(
     memory: &[u32],
-    cards: u32,
-    pages: u32,
-    live: &[bool],
+    header: Header,
     primary: &[u32],
     secondary: &[u32],
-    status: Status,
-) -> u32
-    requires { ⌜ (length (now live) ≡ 8) × (length (now primary) ≡ 64) × (length (now secondary) ≡ 64) ⌝ }
+) -> Outcome
+    requires { ⌜ FullHomes (now primary) (now secondary) ⌝ }
     ensures { λ r. ⌜ r
         ≡ firstRefusal
-        (fittingChecks
-        (directoryOf cards pages (now (live .entry)) (now (primary .entry))
-        (now (secondary .entry)) status)
+        (fittingChecks (directoryBy header (now (primary .entry)) (now (secondary .entry)))
         (now (memory .entry)))
-        0 .number ⌝ }
+        0 ⌝ }
 {
-    if outside_limits(memory.len(), cards, pages) {
-        return answer::LIMITS;
+    if outside_limits(memory.len(), header.cards, header.pages) {
+        return answer::refused_at(answer::LIMITS, 0);
     }
-    if unfit_rack(memory, cards, pages, live, primary, secondary, status) {
-        return answer::UNFIT;
-    }
-    0
+    last_check(
+        unfit_rack(memory, header, primary, secondary),
+        answer::UNFIT,
+    )
 }
 
-// Refusal 1, 2 or 11, or 0.
+// Whether any recovery is awaited.
+pub fn awaits_recovery(status: Status) -> bool
+    ensures { λ r. ⌜ r ≡ awaitsRecovery status ⌝ }
+{
+    match status {
+        Status::Running => false,
+        Status::Awaiting(_) => true,
+    }
+}
+
+// 1, 2 and 11: whether the rack runs.
 pub fn running_refusal(
     memory: &[u32],
-    cards: u32,
-    pages: u32,
-    live: &[bool],
+    header: Header,
     primary: &[u32],
     secondary: &[u32],
-    status: Status,
-) -> u32
-    requires { ⌜ (length (now live) ≡ 8) × (length (now primary) ≡ 64) × (length (now secondary) ≡ 64) ⌝ }
+) -> Outcome
+    requires { ⌜ FullHomes (now primary) (now secondary) ⌝ }
     ensures { λ r. ⌜ r
         ≡ firstRefusal
-        (runningChecks
-        (directoryOf cards pages (now (live .entry)) (now (primary .entry))
-        (now (secondary .entry)) status)
+        (runningChecks (directoryBy header (now (primary .entry)) (now (secondary .entry)))
         (now (memory .entry)))
-        0 .number ⌝ }
+        0 ⌝ }
 {
-    let unfit = fitting_refusal(memory, cards, pages, live, primary, secondary, status);
-    if unfit != 0 {
-        return unfit;
+    let first = fitting_refusal(memory, header, primary, secondary);
+    if first.number != 0 {
+        return first;
     }
-    match status {
-        Status::Running => 0,
-        Status::Awaiting(_) => answer::RECOVERY_AWAITED,
-    }
+    let status = header.status;
+    last_check(awaits_recovery(status), answer::RECOVERY_AWAITED)
 }
 
-// Refusal 1, 2, 11 or 3, or 0: there is such a card, live or dead.
+// 1, 2, 11 and 3: whether there is such a card, live or dead.
 pub fn card_refusal(
     memory: &[u32],
-    cards: u32,
-    pages: u32,
-    live: &[bool],
+    header: Header,
     primary: &[u32],
     secondary: &[u32],
-    status: Status,
     card: u32,
-) -> u32
-    requires { ⌜ (length (now live) ≡ 8) × (length (now primary) ≡ 64) × (length (now secondary) ≡ 64) ⌝ }
+) -> Outcome
+    requires { ⌜ FullHomes (now primary) (now secondary) ⌝ }
     ensures { λ r. ⌜ r
         ≡ firstRefusal
-        (cardChecks
-        (directoryOf cards pages (now (live .entry)) (now (primary .entry))
-        (now (secondary .entry)) status)
+        (cardChecks (directoryBy header (now (primary .entry)) (now (secondary .entry)))
         (now (memory .entry)) card)
-        0 .number ⌝ }
+        0 ⌝ }
 {
-    let refused = running_refusal(memory, cards, pages, live, primary, secondary, status);
-    if refused != 0 {
-        return refused;
+    let first = running_refusal(memory, header, primary, secondary);
+    if first.number != 0 {
+        return first;
     }
-    if cards <= card {
-        return answer::NO_CARD;
-    }
-    0
+    last_check(header.cards <= card, answer::NO_CARD)
 }
 
-// Refusal 1, 2, 11 or 3, or 0: there is such a card, and it is live.
+// Whether there is no such card, or it is dead.
+fn no_live_card(header: Header, card: u32) -> bool
+    requires { ⌜ header .cards ≤ 8 ⌝ }
+    ensures { λ r. ⌜ r ≡ (leb (header .cards) card || not (liveAt (header .live) card)) ⌝ }
+{
+    if header.cards <= card {
+        return true;
+    }
+    let live = header.live;
+    let at = card as usize;
+    !live[at]
+}
+
+// 1, 2, 11 and 3: whether there is such a card, and it is live.
 pub fn live_card_refusal(
     memory: &[u32],
-    cards: u32,
-    pages: u32,
-    live: &[bool],
+    header: Header,
     primary: &[u32],
     secondary: &[u32],
-    status: Status,
     card: u32,
-) -> u32
-    requires { ⌜ (length (now live) ≡ 8) × (length (now primary) ≡ 64) × (length (now secondary) ≡ 64) ⌝ }
+) -> Outcome
+    requires { ⌜ FullHomes (now primary) (now secondary) ⌝ }
     ensures { λ r. ⌜ r
         ≡ firstRefusal
-        (liveCardChecks
-        (directoryOf cards pages (now (live .entry)) (now (primary .entry))
-        (now (secondary .entry)) status)
+        (liveCardChecks (directoryBy header (now (primary .entry)) (now (secondary .entry)))
         (now (memory .entry)) card)
-        0 .number ⌝ }
+        0 ⌝ }
 {
-    let refused = running_refusal(memory, cards, pages, live, primary, secondary, status);
-    if refused != 0 {
-        return refused;
+    let first = running_refusal(memory, header, primary, secondary);
+    if first.number != 0 {
+        return first;
     }
-    if cards <= card {
-        return answer::NO_CARD;
-    }
-    let at = card as usize;
-    if live[at] {
-        return 0;
-    }
-    answer::NO_CARD
+    last_check(no_live_card(header, card), answer::NO_CARD)
 }

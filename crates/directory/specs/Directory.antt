@@ -1,10 +1,11 @@
 -- The directory: a value handed in and handed back (document 01, "Cards, pages, memory").
 -- Assumes nothing: these are definitions.
-use Rattle.laws.specs.Prelude.{ℕ, zero, suc, _%_, List, [], _∷_, Bool, true, false, cond, getD, set, replicate, ltb}
-use Rattle.laws.specs.Prelude.{eqb}
+use Rattle.laws.specs.Prelude.{ℕ, zero, suc, _%_, _≡_, List, [], _∷_, Bool, true, false, cond, length, getD, set}
+use Rattle.laws.specs.Prelude.{replicate, ltb, eqb}
 pub use Rattle.directory.specs.Live.{liveAt}
 unfoldable pub use Rattle.directory.specs.Live.{nextLive}
 pub use Rattle.directory.specs.declared.Directory.{Directory}
+pub use Rattle.directory.specs.declared.Header.{Header}
 pub use Rattle.directory.specs.declared.Status.{Status}
 use Rattle.directory.specs.declared.Status.the-variants.{Running, Awaiting}
 
@@ -19,6 +20,18 @@ directoryOf cards pages live primary secondary status =
       secondary = secondary;
       status = status;
     }
+
+-- all but its homes
+abbrev pub headerOf : Directory → Header
+headerOf d = record { cards = d .cards; pages = d .pages; live = d .live; status = d .status }
+
+-- a directory by its header and its homes
+abbrev pub directoryBy : Header → List ℕ → List ℕ → Directory
+directoryBy h primary secondary = directoryOf (h .cards) (h .pages) (h .live) primary secondary (h .status)
+
+-- homes lent beside a header: one for each page that a directory has room for
+abbrev pub FullHomes : List ℕ → List ℕ → Type 0
+FullHomes primary secondary = (length primary ≡ 64) × (length secondary ≡ 64)
 
 -- ---- what it says
 

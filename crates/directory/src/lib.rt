@@ -3,7 +3,8 @@
 ghost use Rattle.laws.specs.Prelude.{_≡_, _<_, _≤_, length};
 ghost use Rattle.laws.specs.Examples.{AllHold};
 ghost use Rattle.directory.specs.Live.{firstLive, nextLive};
-ghost use Rattle.directory.specs.Directory.{nextLiveOf, backupOf, markedDead, markedLive};
+ghost use Rattle.directory.specs.Directory.{headerOf, nextLiveOf, backupOf};
+ghost use Rattle.directory.specs.Directory.{markedDead, markedLive};
 ghost use Rattle.directory.specs.Directory.{withHomes, formattedMarks, formattedPrimary};
 ghost use Rattle.directory.specs.Directory.{formattedSecondary, table, formattedDirectory};
 ghost use Rattle.directory.specs.Directory.{emptyDirectory};
@@ -22,6 +23,15 @@ pub struct Directory {
     pub live: [bool; 8],
     pub primary: [u32; 64],
     pub secondary: [u32; 64],
+    pub status: Status,
+}
+
+// What a directory says beside the homes. It is small enough to be handed on by value, with the
+// homes lent beside it: a directory handed on by value would be copied at each call.
+pub struct Header {
+    pub cards: u32,
+    pub pages: u32,
+    pub live: [bool; 8],
     pub status: Status,
 }
 
@@ -60,6 +70,19 @@ pub fn next_live_after(marks: &[bool], cards: u32, card: u32) -> u32
 }
 
 impl Directory {
+    pub fn header(self) -> Header
+        ensures { λ r. ⌜ r ≡ headerOf self ⌝ }
+    {
+        let live = self.live;
+        let status = self.status;
+        Header {
+            cards: self.cards,
+            pages: self.pages,
+            live,
+            status,
+        }
+    }
+
     pub fn next_live(self, card: u32) -> u32
         ensures { λ r. ⌜ r ≡ nextLiveOf self card ⌝ }
     {

@@ -1,11 +1,10 @@
--- Rests on `all-live`: where all cards are live, the numbers of the homes tell; else on the search itself.
+-- Rests on `all-live`: where all cards are live, the numbers of the homes tell.
 use mathlib.Core.Path.{_≡_, _∙_}
 use native.Mathlib.Omega.{arith}
 use borrow.Author.Needs.{needs}
 use Rattle.laws.specs.Search.{countBelow}
 use Rattle.laws.proofs.Search.{some-count}
-use Rattle.directory.specs.Live.{liveAt}
-use Rattle.directory.specs.Directory.{directoryOf}
+use Rattle.directory.specs.Directory.{liveAt, directoryBy}
 use Rattle.checks.specs.Homes.{misplacedPage}
 use Rattle.checks.proofs.Homes.{all-live}
 use Rattle.checks.proofs.bad_homes.Statement.{statement}
@@ -15,10 +14,11 @@ returns : tie.Need-returns
 returns c =
     let start = c .before .before .before .before .before in
     let a = start .args in
-    let d = directoryOf (a .cards) (a .pages) (a .live .now) (a .primary .now) (a .secondary .now) (a .status) in
-    let misplaced = misplacedPage (a .cards) (a .primary .now) (a .secondary .now) in
-    let all : countBelow (liveAt (a .live .now)) (a .cards) ≡ a .cards = omega (arith, start .pre .0 .1) in
-    rw (c .count-misplaced .ensures) (some-count misplaced (a .pages) ∙ all-live d all)
+    let h = a .header in
+    let misplaced = misplacedPage (h .cards) (a .primary .now) (a .secondary .now) in
+    let all : countBelow (liveAt (h .live)) (h .cards) ≡ h .cards = omega (arith, start .pre .1 .1) in
+    rw (c .count-misplaced .ensures)
+    (some-count misplaced (h .pages) ∙ all-live (directoryBy h (a .primary .now) (a .secondary .now)) all)
 
 pub bad-homes-spec : {M : Type 1} → statement M
 bad-homes-spec =

@@ -4,17 +4,16 @@ use mathlib.Core.Path.{sym, _∙_}
 use native.Mathlib.Omega.{arith}
 use borrow.Author.Needs.{needs}
 use Rattle.laws.proofs.Search.{Passed, passed-none, passed-more, some-found, none-found}
-use Rattle.directory.specs.Directory.{directoryOf}
+use Rattle.directory.specs.Directory.{directoryBy}
 use Rattle.protocol.specs.Checks.{badPage}
 use Rattle.checks.proofs.bad_pages.Statement.{statement}
 use Rattle.checks.proofs.bad_pages.Tie as tie
 
 abbrev Inv-loop : tie.InvT-loop
-Inv-loop cards pages live primary secondary status page₀ page =
-    Passed (badPage (directoryOf cards pages live primary secondary status)) pages page
+Inv-loop header primary secondary pages page₀ page = Passed (badPage (directoryBy header primary secondary)) pages page
 
 abbrev μ-loop : tie.MeasureT-loop
-μ-loop cards pages live primary secondary status page₀ page = pages - page
+μ-loop header primary secondary pages page₀ page = pages - page
 
 returns : tie.Need-returns Inv-loop μ-loop
 returns c =

@@ -7,7 +7,9 @@ use Rattle.checks.proofs.bad_status.Tie as tie
 
 returns : tie.Need-returns
 unfolding badStatus
-returns c = rw (c .before .before .status .given .1) (simp (le-leb _ _ (c .if1 .taken)))
+returns c =
+    let at-status = c .before .before .before in
+    rw (at-status .status .given .1) (simp (le-leb _ _ (c .if1 .taken)))
 
 returns-2 : tie.Need-returns-2
 unfolding badStatus
@@ -16,7 +18,7 @@ returns-2 c = rw (c .enum-told .given .1)
 returns-3 : tie.Need-returns-3
 unfolding badStatus
 returns-3 c =
-    let at-status = c .before .before .before in
+    let at-status = c .before .before .before .before in
     rw (at-status .status .given .1) (simp (lt-leb _ _ (c .before .if1 .left)))
 
 pub bad-status-spec : {M : Type 1} → statement M

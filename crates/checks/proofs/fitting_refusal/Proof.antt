@@ -1,40 +1,30 @@
--- Rests on its two tests, the checks in order; a rack that passes the first is within its limits.
+-- Rests on the order of checks; a rack that passes the first is within its limits.
 use mathlib.Core.Path.{sym, _∙_}
-use native.Mathlib.Omega.{arith}
 use borrow.Author.Needs.{needs}
 use Rattle.protocol.proofs.checks.Limits.{within-limits}
-use Rattle.protocol.specs.Checks.{firstRefusal}
+use Rattle.checks.proofs.Order.{first-refuses, first-passes}
 use Rattle.checks.proofs.fitting_refusal.Statement.{statement}
 use Rattle.checks.proofs.fitting_refusal.Tie as tie
 
 returns : tie.Need-returns
-unfolding firstRefusal
-returns c = simp (sym (c .before .outside-limits .ensures) ∙ c .if1 .taken)
+returns c =
+    let limits = c .before .before in
+    c .refused-at .ensures ∙ sym (first-refuses _ _ _ _ _ (sym (limits .outside-limits .ensures) ∙ c .before .if1 .taken))
 
 unfit-rack-requires : tie.Need-unfit-rack-requires
 unfit-rack-requires c κs =
-    let start = c .before .before .before .before .before .before in
-    let arrays = start .pre in
+    let start = c .before .before .before .before .before in
     let within = within-limits _ _ _ (sym (c .before .outside-limits .ensures) ∙ c .if1 .left) in
-    ((within .pages-most, within .whole), (omega arith, (omega arith, omega arith)))
+    ((within .cards-most, within .pages-most, within .whole), start .pre)
 
 returns-2 : tie.Need-returns-2
-unfolding firstRefusal
 returns-2 c =
     let test = c .before .before in
-    simp (
-      sym (test .before .outside-limits .ensures) ∙ test .if1 .left,
-      sym (c .before .unfit-rack .ensures) ∙ c .if2 .taken,
-    )
-
-returns-3 : tie.Need-returns-3
-unfolding firstRefusal
-returns-3 c =
-    let test = c .before .before in
-    simp (
-      sym (test .before .outside-limits .ensures) ∙ test .if1 .left,
-      sym (c .before .unfit-rack .ensures) ∙ c .if2 .left,
-    )
+    (rw (c .before .unfit-rack .ensures) at (c .last-check .ensures))
+    ∙ sym (first-passes _ _ _ _ _ (sym (test .before .outside-limits .ensures) ∙ test .if1 .left))
 
 pub fitting-refusal-spec : {M : Type 1} → statement M
-fitting-refusal-spec = tie.close (tie.spec (λ c κs. search needs) returns unfit-rack-requires returns-2 returns-3)
+fitting-refusal-spec =
+    tie.close
+    (tie.spec (λ c κs. search needs) (λ c κs. search needs) returns unfit-rack-requires (λ c κs. search needs)
+    returns-2)

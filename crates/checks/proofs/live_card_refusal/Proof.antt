@@ -1,55 +1,29 @@
--- Rests on the order of checks: on a running rack the number of cards decides, then the mark.
-use mathlib.Core.Path.{refl}
-use native.Mathlib.Omega.{arith}
+-- Rests on the order of checks: those of a running rack, then the number of cards and the mark.
+use mathlib.Core.Path.{refl, sym, _∙_}
 use borrow.Author.Needs.{needs}
-use Rattle.directory.specs.Directory.{directoryOf}
-use Rattle.checks.proofs.Order.{refused-before, passed-before, last-passes, first-refuses}
-use Rattle.checks.proofs.Order.{past-cards, by-mark}
+use Rattle.directory.specs.Directory.{directoryBy}
 use Rattle.checks.proofs.Passing.{running-within}
+use Rattle.checks.proofs.Order.{refused-first, passed-first}
 use Rattle.checks.proofs.live_card_refusal.Statement.{statement}
 use Rattle.checks.proofs.live_card_refusal.Tie as tie
 
 returns : tie.Need-returns
-returns c = rw (refused-before _ _ _ refl (c .before .running-refusal .ensures) (c .if1 .taken))
+returns c = sym (refused-first _ _ _ refl (c .before .before .running-refusal .ensures) (c .if1 .taken))
+
+no-live-card-requires : tie.Need-no-live-card-requires
+no-live-card-requires c κs =
+    let running = c .before .before in
+    let a = running .before .before .before .before .args in
+    let d = directoryBy (a .header) (a .primary .now) (a .secondary .now) in
+    running-within d (a .memory .now) (running .running-refusal .ensures) (c .if1 .left) .cards-most
 
 returns-2 : tie.Need-returns-2
 returns-2 c =
-    let test = c .before in
-    rw (
-      passed-before _ _ _ refl (test .before .running-refusal .ensures) (test .if1 .left),
-      first-refuses _ _ _ _ _ (past-cards _ _ _ (c .if2 .taken)),
-    )
-
-mark-read : tie.Need-shared-slice-read-if3
-mark-read c =
-    let start = c .before .before .before .before .before .before .before .before in
-    let test-2 = c .before in
-    let test = test-2 .before in
-    let a = start .args in
-    let d = directoryOf (a .cards) (a .pages) (a .live .now) (a .primary .now) (a .secondary .now) (a .status) in
-    let arrays = start .pre in
-    let within = running-within d (a .memory .now) (test .before .running-refusal .ensures) (test .if1 .left) in
-    omega (arith, within .cards-most, test-2 .if2 .left)
-
-returns-3 : tie.Need-returns-3
-returns-3 c =
-    let test-2 = c .before .before in
-    let test = test-2 .before in
-    rw (
-      passed-before _ _ _ refl (test .before .running-refusal .ensures) (test .if1 .left),
-      last-passes _ _ _ _ (by-mark _ _ _ _ (test-2 .if2 .left) (c .if3 .taken)),
-    )
-
-returns-4 : tie.Need-returns-4
-returns-4 c =
-    let test-2 = c .before .before in
-    let test = test-2 .before in
-    rw (
-      passed-before _ _ _ refl (test .before .running-refusal .ensures) (test .if1 .left),
-      first-refuses _ _ _ _ _ (by-mark _ _ _ _ (test-2 .if2 .left) (c .if3 .left)),
-    )
+    let test = c .before .before in
+    (rw (c .before .no-live-card .ensures) at (c .last-check .ensures))
+    ∙ sym (passed-first _ _ _ refl (test .before .before .running-refusal .ensures) (test .if1 .left))
 
 pub live-card-refusal-spec : {M : Type 1} → statement M
 live-card-refusal-spec =
     tie.close
-    (tie.spec (λ c κs. search needs) returns returns-2 mark-read returns-3 returns-4)
+    (tie.spec (λ c κs. search needs) returns no-live-card-requires (λ c κs. search needs) returns-2)

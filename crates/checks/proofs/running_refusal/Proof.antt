@@ -1,33 +1,20 @@
--- Rests on the order of checks: where 1 and 2 do not refuse, the status decides.
-use mathlib.Core.Path.{refl, ap}
+-- Rests on the order of checks: those of a rack that fits, then its status.
+use mathlib.Core.Path.{refl, sym, _∙_}
 use borrow.Author.Needs.{needs}
-use Rattle.protocol.specs.Checks.{awaitsRecovery}
-use Rattle.checks.proofs.Order.{refused-before, passed-before, last-passes, first-refuses}
+use Rattle.checks.proofs.Order.{refused-first, passed-first}
 use Rattle.checks.proofs.running_refusal.Statement.{statement}
 use Rattle.checks.proofs.running_refusal.Tie as tie
 
 returns : tie.Need-returns
-returns c = rw (refused-before _ _ _ refl (c .before .fitting-refusal .ensures) (c .if1 .taken))
+returns c = sym (refused-first _ _ _ refl (c .before .before .fitting-refusal .ensures) (c .if1 .taken))
 
 returns-2 : tie.Need-returns-2
-unfolding awaitsRecovery
 returns-2 c =
     let test = c .before .before in
-    rw (
-      passed-before _ _ _ refl (test .before .fitting-refusal .ensures) (test .if1 .left),
-      last-passes _ _ _ _ (ap awaitsRecovery (c .enum-told .given .1)),
-    )
-
-returns-3 : tie.Need-returns-3
-unfolding awaitsRecovery
-returns-3 c =
-    let test = c .before .before in
-    rw (
-      passed-before _ _ _ refl (test .before .fitting-refusal .ensures) (test .if1 .left),
-      first-refuses _ _ _ _ _ (ap awaitsRecovery (c .enum-told2 .given .1)),
-    )
+    (rw (c .before .awaits-recovery .ensures) at (c .last-check .ensures))
+    ∙ sym (passed-first _ _ _ refl (test .before .before .fitting-refusal .ensures) (test .if1 .left))
 
 pub running-refusal-spec : {M : Type 1} → statement M
 running-refusal-spec =
     tie.close
-    (tie.spec (λ c κs. search needs) returns (λ c. search needs) (λ c. search needs) returns-2 returns-3)
+    (tie.spec (λ c κs. search needs) returns (λ c κs. search needs) (λ c κs. search needs) returns-2)
