@@ -4,7 +4,7 @@
 ghost use Rattle.laws.specs.Prelude.{_≡_, _*_, _<_, _≤_, [], _∷_, not, _||_, length, leb};
 ghost use Rattle.laws.specs.Search.{someBelow, countBelow};
 ghost use Rattle.directory.specs.Directory.{liveAt, directoryBy, FullHomes, awaitsCard};
-ghost use Rattle.area.specs.Prelude.{areaSize, AreaIn};
+ghost use Rattle.area.specs.Prelude.{areaSize, AreaIn, MemoryOf};
 ghost use Rattle.protocol.specs.Checks.{outsideLimits, badHome, badPage, badStatus, badRelease};
 ghost use Rattle.protocol.specs.Checks.{badCard, unfitRack, check, firstRefusal, fittingChecks};
 ghost use Rattle.protocol.specs.Checks.{awaitsRecovery, runningChecks, cardChecks, liveCardChecks};
@@ -37,10 +37,12 @@ pub fn outside_limits(words: usize, cards: u32, pages: u32) -> bool
 // ---- 2: memory and directory that do not fit each other
 
 // The number of live cards.
-pub fn count_live(live: &[bool], cards: u32) -> u32
-    requires { ⌜ cards ≤ length (now live) ⌝ }
-    ensures { λ r. ⌜ r ≡ countBelow (liveAt (now (live .entry))) cards ⌝ }
+pub fn count_live(header: Header) -> u32
+    requires { ⌜ header .cards ≤ 8 ⌝ }
+    ensures { λ r. ⌜ r ≡ countBelow (liveAt (header .live)) (header .cards) ⌝ }
 {
+    let live = header.live;
+    let cards = header.cards;
     let mut count: u32 = 0;
     let mut card: u32 = 0;
     while card < cards {
@@ -66,15 +68,12 @@ fn awaits(status: Status, card: u32) -> bool
 }
 
 fn bad_home(header: Header, home: u32) -> bool
-    requires { ⌜ header .cards ≤ 8 ⌝ }
     ensures { λ r. ⌜ r ≡ badHome (header .cards) (header .live) (header .status) home ⌝ }
 {
     if header.cards <= home {
         return true;
     }
-    let live = header.live;
-    let at = home as usize;
-    if live[at] {
+    if header.is_live(home) {
         return false;
     }
     let status = header.status;
@@ -82,7 +81,6 @@ fn bad_home(header: Header, home: u32) -> bool
 }
 
 fn bad_page(header: Header, primary: &[u32], secondary: &[u32], page: u32) -> bool
-    requires { ⌜ header .cards ≤ 8 ⌝ }
     requires { ⌜ (page < length (now primary)) × (page < length (now secondary)) ⌝ }
     ensures { λ r. ⌜ r
         ≡ badPage (directoryBy header (now (primary .entry)) (now (secondary .entry))) page ⌝ }
@@ -100,8 +98,8 @@ fn bad_page(header: Header, primary: &[u32], secondary: &[u32], page: u32) -> bo
 }
 
 fn bad_pages(header: Header, primary: &[u32], secondary: &[u32]) -> bool
-    requires { ⌜ (header .cards ≤ 8) × (header .pages ≤ length (now primary)) ⌝ }
-    requires { ⌜ header .pages ≤ length (now secondary) ⌝ }
+    requires { ⌜ (header .pages ≤ length (now primary))
+        × (header .pages ≤ length (now secondary)) ⌝ }
     ensures { λ r. ⌜ r
         ≡ someBelow (badPage (directoryBy header (now (primary .entry)) (now (secondary .entry))))
         (header .pages) ⌝ }
@@ -154,8 +152,8 @@ fn count_misplaced(cards: u32, pages: u32, primary: &[u32], secondary: &[u32]) -
 
 // Whether a page has bad homes; `count` cards are live. Where all are, the homes' numbers tell.
 fn bad_homes(header: Header, primary: &[u32], secondary: &[u32], count: u32) -> bool
-    requires { ⌜ (header .cards ≤ 8) × (header .pages ≤ length (now primary)) ⌝ }
-    requires { ⌜ header .pages ≤ length (now secondary) ⌝ }
+    requires { ⌜ (header .pages ≤ length (now primary))
+        × (header .pages ≤ length (now secondary)) ⌝ }
     requires { ⌜ count ≡ countBelow (liveAt (header .live)) (header .cards) ⌝ }
     ensures { λ r. ⌜ r
         ≡ someBelow (badPage (directoryBy header (now (primary .entry)) (now (secondary .entry))))
@@ -168,7 +166,6 @@ fn bad_homes(header: Header, primary: &[u32], secondary: &[u32], count: u32) -> 
 }
 
 fn bad_status(header: Header) -> bool
-    requires { ⌜ header .cards ≤ 8 ⌝ }
     ensures { λ r. ⌜ r ≡ badStatus (header .cards) (header .live) (header .status) ⌝ }
 {
     let status = header.status;
@@ -178,9 +175,7 @@ fn bad_status(header: Header) -> bool
             if header.cards <= awaited {
                 return true;
             }
-            let live = header.live;
-            let at = awaited as usize;
-            live[at]
+            header.is_live(awaited)
         }
     }
 }
@@ -214,15 +209,18 @@ fn bad_card(memory: &[u32], pages: u32, live: &[bool], card: usize) -> bool
     false
 }
 
-fn bad_cards(memory: &[u32], cards: u32, pages: u32, live: &[bool]) -> bool
-    requires { ⌜ (pages ≤ 64) × (length (now memory) ≡ cards * areaSize pages) ⌝ }
-    requires { ⌜ cards ≤ length (now live) ⌝ }
+fn bad_cards(memory: &[u32], header: Header) -> bool
+    requires { ⌜ MemoryOf header (length (now memory)) ⌝ }
     ensures { λ r. ⌜ r
-        ≡ someBelow (badCard (now (live .entry)) pages (now (memory .entry))) cards ⌝ }
+        ≡ someBelow (badCard (header .live) (header .pages) (now (memory .entry)))
+        (header .cards) ⌝ }
 {
+    let live = header.live;
+    let pages = header.pages;
+    let cards = header.cards as usize;
     let mut card: usize = 0;
-    while card < cards as usize {
-        if bad_card(memory, pages, live, card) {
+    while card < cards {
+        if bad_card(memory, pages, &live, card) {
             return true;
         }
         card += 1;
@@ -232,15 +230,13 @@ fn bad_cards(memory: &[u32], cards: u32, pages: u32, live: &[bool]) -> bool
 
 // 2, of a rack within its limits.
 fn unfit_rack(memory: &[u32], header: Header, primary: &[u32], secondary: &[u32]) -> bool
-    requires { ⌜ (header .cards ≤ 8) × (header .pages ≤ 64)
-        × (length (now memory) ≡ header .cards * areaSize (header .pages)) ⌝ }
+    requires { ⌜ MemoryOf header (length (now memory)) ⌝ }
     requires { ⌜ FullHomes (now primary) (now secondary) ⌝ }
     ensures { λ r. ⌜ r
         ≡ unfitRack (directoryBy header (now (primary .entry)) (now (secondary .entry)))
         (now (memory .entry)) ⌝ }
 {
-    let live = header.live;
-    let count = count_live(&live, header.cards);
+    let count = count_live(header);
     if count < 2 {
         return true;
     }
@@ -250,7 +246,7 @@ fn unfit_rack(memory: &[u32], header: Header, primary: &[u32], secondary: &[u32]
     if bad_status(header) {
         return true;
     }
-    bad_cards(memory, header.cards, header.pages, &live)
+    bad_cards(memory, header)
 }
 
 // ---- the checks in order
@@ -344,15 +340,12 @@ pub fn card_refusal(
 
 // Whether there is no such card, or it is dead.
 fn no_live_card(header: Header, card: u32) -> bool
-    requires { ⌜ header .cards ≤ 8 ⌝ }
     ensures { λ r. ⌜ r ≡ (leb (header .cards) card || not (liveAt (header .live) card)) ⌝ }
 {
     if header.cards <= card {
         return true;
     }
-    let live = header.live;
-    let at = card as usize;
-    !live[at]
+    !header.is_live(card)
 }
 
 // 1, 2, 11 and 3: whether there is such a card, and it is live.

@@ -1,14 +1,15 @@
 // Open releases that stand in the way of a call: any (refusal 15), one that prices a word of a list
 // handed in (refusal 8, `sharing`), and one that counts already and names a page asked for (refusal
 // 10, `motion`). The searches for 8 and 10 answer the lowest such card, or the number of cards.
-ghost use Rattle.laws.specs.Prelude.{_≡_, _*_, _<_, _≤_, length};
+ghost use Rattle.laws.specs.Prelude.{_≡_, _<_, _≤_, length};
 ghost use Rattle.laws.specs.Search.{someBelow};
-ghost use Rattle.area.specs.Prelude.{AreaIn, areaSize, pagesStart, isOpen};
+ghost use Rattle.area.specs.Prelude.{AreaIn, MemoryOf, areaSize, pagesStart, isOpen};
 ghost use Rattle.conflict.specs.Others.{isOther};
 
 mod motion;
 mod sharing;
 
+use directory::Header;
 pub use motion::lowest_in_motion;
 pub use motion::mark_in_motion;
 pub use sharing::lowest_sharing;
@@ -26,17 +27,19 @@ pub(crate) fn is_other(memory: &[u32], size: usize, live: &[bool], card: u32, ot
 }
 
 // Whether a release is open on any card but this one.
-pub(crate) fn any_other(memory: &[u32], cards: u32, pages: u32, live: &[bool], card: u32) -> bool
-    requires { ⌜ (pages ≤ 64) × (length (now memory) ≡ cards * areaSize pages) ⌝ }
-    requires { ⌜ cards ≤ length (now live) ⌝ }
+pub(crate) fn any_other(memory: &[u32], header: Header, card: u32) -> bool
+    requires { ⌜ MemoryOf header (length (now memory)) ⌝ }
     ensures { λ r. ⌜ r
-        ≡ someBelow (isOther (now (live .entry)) (areaSize pages) (now (memory .entry)) card)
-        cards ⌝ }
+        ≡ someBelow
+        (isOther (header .live) (areaSize (header .pages)) (now (memory .entry)) card)
+        (header .cards) ⌝ }
 {
-    let size = area::layout::area_size(pages);
+    let live = header.live;
+    let cards = header.cards;
+    let size = area::layout::area_size(header.pages);
     let mut other: u32 = 0;
     while other < cards {
-        if is_other(memory, size, live, card, other) {
+        if is_other(memory, size, &live, card, other) {
             return true;
         }
         other += 1;
@@ -45,11 +48,11 @@ pub(crate) fn any_other(memory: &[u32], cards: u32, pages: u32, live: &[bool], c
 }
 
 // Whether a release is open on any card. None is left out: no card has the number `cards`.
-pub fn any_open(memory: &[u32], cards: u32, pages: u32, live: &[bool]) -> bool
-    requires { ⌜ (pages ≤ 64) × (length (now memory) ≡ cards * areaSize pages) ⌝ }
-    requires { ⌜ cards ≤ length (now live) ⌝ }
+pub fn any_open(memory: &[u32], header: Header) -> bool
+    requires { ⌜ MemoryOf header (length (now memory)) ⌝ }
     ensures { λ r. ⌜ r
-        ≡ someBelow (isOpen (now (live .entry)) (areaSize pages) (now (memory .entry))) cards ⌝ }
+        ≡ someBelow (isOpen (header .live) (areaSize (header .pages)) (now (memory .entry)))
+        (header .cards) ⌝ }
 {
-    any_other(memory, cards, pages, live, cards)
+    any_other(memory, header, header.cards)
 }

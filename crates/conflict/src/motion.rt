@@ -1,7 +1,7 @@
 // Refusal 10: a page in an open release that already counts.
-ghost use Rattle.laws.specs.Prelude.{_≡_, _*_, _<_, _≤_, _||_, length, leb};
+ghost use Rattle.laws.specs.Prelude.{_≡_, _<_, _≤_, _||_, length, leb};
 ghost use Rattle.laws.specs.Search.{lowest, inTurn};
-ghost use Rattle.area.specs.Prelude.{AreaIn, areaSize, pagesStart, stepsOf};
+ghost use Rattle.area.specs.Prelude.{AreaIn, MemoryOf, areaSize, pagesStart, stepsOf};
 ghost use Rattle.diff.specs.Prices.{pricesOf};
 ghost use Rattle.protocol.specs.Release.{countsAt};
 ghost use Rattle.protocol.specs.Fetch.{inMotion};
@@ -10,6 +10,7 @@ ghost use Rattle.conflict.specs.Marks.{marked, markedDue};
 ghost use Rattle.conflict.specs.Motion.{pageOf, pageDue, onPage, tallyOf, joinMark};
 ghost use Rattle.conflict.specs.Motion.{markMotion};
 use diff::Cursor;
+use directory::Header;
 use reader::walk;
 
 // How many prices a list has, and whether one of them names a page.
@@ -71,16 +72,19 @@ fn in_motion(memory: &[u32], size: usize, pages: u32, live: &[bool], page: u32, 
 }
 
 // The lowest card whose open release already counts and prices a word of the page.
-pub fn lowest_in_motion(memory: &[u32], cards: u32, pages: u32, live: &[bool], page: u32) -> u32
-    requires { ⌜ (pages ≤ 64) × (length (now memory) ≡ cards * areaSize pages) ⌝ }
-    requires { ⌜ cards ≤ length (now live) ⌝ }
+pub fn lowest_in_motion(memory: &[u32], header: Header, page: u32) -> u32
+    requires { ⌜ MemoryOf header (length (now memory)) ⌝ }
     ensures { λ r. ⌜ r
-        ≡ lowest (inMotion (now (live .entry)) pages (now (memory .entry)) page) cards ⌝ }
+        ≡ lowest (inMotion (header .live) (header .pages) (now (memory .entry)) page)
+        (header .cards) ⌝ }
 {
+    let live = header.live;
+    let cards = header.cards;
+    let pages = header.pages;
     let size = area::layout::area_size(pages);
     let mut card: u32 = 0;
     while card < cards {
-        if in_motion(memory, size, pages, live, page, card as usize) {
+        if in_motion(memory, size, pages, &live, page, card as usize) {
             return card;
         }
         card += 1;
@@ -152,15 +156,17 @@ fn mark_motion(
 }
 
 // Marks each page that an open release which already counts names.
-pub fn mark_in_motion(memory: &[u32], cards: u32, pages: u32, live: &[bool], marks: &mut [bool])
-    requires { ⌜ (pages ≤ 64) × (length (now memory) ≡ cards * areaSize pages) ⌝ }
-    requires { ⌜ (cards ≤ length (now live)) × (length (now marks) ≡ 64) ⌝ }
+pub fn mark_in_motion(memory: &[u32], header: Header, marks: &mut [bool])
+    requires { ⌜ MemoryOf header (length (now memory)) ⌝ }
+    requires { ⌜ length (now marks) ≡ 64 ⌝ }
     ensures { λ _. ⌜ now (marks .exit)
-        ≡ inTurn (markMotion (now (live .entry)) pages (now (memory .entry))) cards
+        ≡ inTurn (markMotion (header .live) (header .pages) (now (memory .entry))) (header .cards)
         (now (marks .entry)) ⌝ }
 {
+    let live = header.live;
+    let pages = header.pages;
     let size = area::layout::area_size(pages);
-    for card in 0..cards {
-        mark_motion(memory, size, pages, live, card as usize, marks);
+    for card in 0..header.cards {
+        mark_motion(memory, size, pages, &live, card as usize, marks);
     }
 }

@@ -1,13 +1,14 @@
 // Refusal 8: a word of the list that another card's open release prices.
-ghost use Rattle.laws.specs.Prelude.{_≡_, _*_, _<_, _≤_, length};
+ghost use Rattle.laws.specs.Prelude.{_≡_, _<_, _≤_, length};
 ghost use Rattle.laws.specs.Search.{lowest};
-ghost use Rattle.area.specs.Prelude.{areaSize};
+ghost use Rattle.area.specs.Prelude.{MemoryOf};
 ghost use Rattle.diff.specs.Prices.{labelOf, pricesOf};
 ghost use Rattle.protocol.specs.Opening.{sharesWith};
 ghost use Rattle.reader.specs.WellFormed.{WellFormed};
 ghost use Rattle.conflict.specs.Marks.{marked, markedDue};
 ghost use Rattle.conflict.specs.Sharing.{labelDue, hitsDue, marksWith};
 use diff::Cursor;
+use directory::Header;
 use reader::walk;
 
 // The label of the price that is due.
@@ -58,26 +59,22 @@ fn hits(s: Cursor, named: &[bool]) -> bool
 }
 
 // Walks over the other cards and their lists, up to the first word whose label is marked.
-fn walk_lists(
-    memory: &[u32],
-    cards: u32,
-    pages: u32,
-    live: &[bool],
-    card: u32,
-    named: &[bool],
-) -> u32
-    requires { ⌜ (pages ≤ 64) × (length (now memory) ≡ cards * areaSize pages) ⌝ }
-    requires { ⌜ (cards ≤ length (now live)) × (length (now named) ≡ 2048) ⌝ }
+fn walk_lists(memory: &[u32], header: Header, card: u32, named: &[bool]) -> u32
+    requires { ⌜ MemoryOf header (length (now memory)) ⌝ }
+    requires { ⌜ length (now named) ≡ 2048 ⌝ }
     ensures { λ r. ⌜ r
         ≡ lowest
-        (marksWith (now (live .entry)) pages (now (memory .entry)) card (now (named .entry)))
-        cards ⌝ }
+        (marksWith (header .live) (header .pages) (now (memory .entry)) card (now (named .entry)))
+        (header .cards) ⌝ }
 {
+    let live = header.live;
+    let cards = header.cards;
+    let pages = header.pages;
     let size = area::layout::area_size(pages);
     let mut found = cards;
     let mut other: u32 = 0;
     'cards: while other < cards {
-        if crate::is_other(memory, size, live, card, other) {
+        if crate::is_other(memory, size, &live, card, other) {
             let list = area::releases::open_list(memory, size, other as usize);
             let mut at = walk::first_word();
             while at.index < list.len() {
@@ -97,25 +94,18 @@ fn walk_lists(
 
 // The lowest other card whose open release prices a word that the list prices too. Mostly no other
 // release is open, and nothing is marked.
-pub fn lowest_sharing(
-    memory: &[u32],
-    cards: u32,
-    pages: u32,
-    live: &[bool],
-    card: u32,
-    list: &[u32],
-) -> u32
-    requires { ⌜ (pages ≤ 64) × (length (now memory) ≡ cards * areaSize pages) ⌝ }
-    requires { ⌜ (cards ≤ length (now live)) × (length (now list) ≤ 512) ⌝ }
+pub fn lowest_sharing(memory: &[u32], header: Header, card: u32, list: &[u32]) -> u32
+    requires { ⌜ MemoryOf header (length (now memory)) ⌝ }
+    requires { ⌜ length (now list) ≤ 512 ⌝ }
     ensures { λ r. ⌜ r
         ≡ lowest
-        (sharesWith (now (live .entry)) pages (now (memory .entry)) card (now (list .entry)))
-        cards ⌝ }
+        (sharesWith (header .live) (header .pages) (now (memory .entry)) card (now (list .entry)))
+        (header .cards) ⌝ }
 {
-    if crate::any_other(memory, cards, pages, live, card) {
+    if crate::any_other(memory, header, card) {
         let mut named = [false; 2048];
-        mark_labels(list, pages, &mut named);
-        return walk_lists(memory, cards, pages, live, card, &named);
+        mark_labels(list, header.pages, &mut named);
+        return walk_lists(memory, header, card, &named);
     }
-    cards
+    header.cards
 }

@@ -2,7 +2,7 @@
 // "Cards, pages, memory").
 ghost use Rattle.laws.specs.Prelude.{_≡_, _<_, _≤_, length};
 ghost use Rattle.laws.specs.Examples.{AllHold};
-ghost use Rattle.directory.specs.Live.{firstLive, nextLive};
+ghost use Rattle.directory.specs.Live.{liveAt, firstLive, nextLive};
 ghost use Rattle.directory.specs.Directory.{headerOf, nextLiveOf, backupOf};
 ghost use Rattle.directory.specs.Directory.{markedDead, markedLive};
 ghost use Rattle.directory.specs.Directory.{withHomes, formattedMarks, formattedPrimary};
@@ -67,6 +67,20 @@ pub fn next_live_after(marks: &[bool], cards: u32, card: u32) -> u32
         }
     }
     first_live(marks, 0, cards)
+}
+
+impl Header {
+    // Whether a card is live; none past the marks is.
+    pub fn is_live(self, card: u32) -> bool
+        ensures { λ r. ⌜ r ≡ liveAt (self .live) card ⌝ }
+    {
+        let at = card as usize;
+        if at < 8 {
+            let live = self.live;
+            return live[at];
+        }
+        false
+    }
 }
 
 impl Directory {

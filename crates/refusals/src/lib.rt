@@ -1,174 +1,108 @@
 // Which calls the rack refuses: document 01's checks, in its order, for each call. A function
-// answers the first refusal with its place, or the number 0 where the call is accepted. A directory's
-// arrays are lent one by one: a directory handed on by value would be copied at each call.
-ghost use Rattle.laws.specs.Prelude.{_≡_, _*_, _<_, _≤_, [], _∷_, length};
-ghost use Rattle.answer.specs.Outcome.{refusedAt};
-ghost use Rattle.directory.specs.Directory.{directoryOf};
-ghost use Rattle.area.specs.Prelude.{areaSize};
-ghost use Rattle.protocol.specs.Checks.{check, firstRefusal};
+// answers the first refusal with its place, or the number 0 where the call is accepted. A directory
+// comes as its header, by value, with its homes lent beside it.
+ghost use Rattle.laws.specs.Prelude.{_≡_, _<_, length};
+ghost use Rattle.directory.specs.Directory.{directoryBy, FullHomes};
+ghost use Rattle.area.specs.Prelude.{MemoryOf};
+ghost use Rattle.protocol.specs.Checks.{firstRefusal};
 ghost use Rattle.protocol.specs.Calls.{openingChecks, stepChecks, pageChecks, fetchChecks};
-ghost use Rattle.protocol.specs.Calls.{failureChecks};
-ghost use Rattle.protocol.specs.Calls.{recoveryChecks, joinChecks, deskChecks};
+ghost use Rattle.protocol.specs.Calls.{failureChecks, recoveryChecks, joinChecks, deskChecks};
 ghost use Rattle.refusals.specs.Parts.{listChecks, numberChecks};
 use answer::Outcome;
-use directory::Status;
-
-// A refusal, or none if the number is 0.
-fn refused(number: u32, place: u64) -> Outcome
-    ensures { λ r. ⌜ r ≡ refusedAt number place ⌝ }
-{
-    Outcome {
-        number,
-        value: place,
-    }
-}
-
-// What the last check of a call comes to.
-fn last_check(refuses: bool, number: u32) -> Outcome
-    ensures { λ r. ⌜ r ≡ firstRefusal (check refuses number ∷ []) 0 ⌝ }
-{
-    if refuses {
-        return refused(number, 0);
-    }
-    refused(0, 0)
-}
+use directory::Header;
 
 // ---- opening a release
 
 // 7 and 8: the list, and words of it that another card's open release prices.
-fn list_refusal(
-    memory: &[u32],
-    cards: u32,
-    pages: u32,
-    live: &[bool],
-    card: u32,
-    list: &[u32],
-) -> Outcome
-    requires { ⌜ (pages ≤ 64) × (length (now memory) ≡ cards * areaSize pages) ⌝ }
-    requires { ⌜ cards ≤ length (now live) ⌝ }
+fn list_refusal(memory: &[u32], header: Header, card: u32, list: &[u32]) -> Outcome
+    requires { ⌜ MemoryOf header (length (now memory)) ⌝ }
     ensures { λ r. ⌜ r
-        ≡ firstRefusal
-        (listChecks cards pages (now (live .entry)) (now (memory .entry)) card (now (list .entry)))
-        0 ⌝ }
+        ≡ firstRefusal (listChecks header (now (memory .entry)) card (now (list .entry))) 0 ⌝ }
 {
-    let read = reader::check(list, pages);
+    let read = reader::check(list, header.pages);
     if 0 < read.number {
-        return refused(answer::FAULTY_LIST, read.value);
+        return answer::refused_at(answer::FAULTY_LIST, read.value);
     }
-    let other = conflict::lowest_sharing(memory, cards, pages, live, card, list);
-    if other < cards {
-        return refused(answer::WORD_IN_USE, other as u64);
+    let other = conflict::lowest_sharing(memory, header, card, list);
+    if other < header.cards {
+        return answer::refused_at(answer::WORD_IN_USE, other as u64);
     }
-    refused(0, 0)
+    answer::given(0)
 }
 
 // 4, 5 and 6, then the list.
 fn number_refusal(
     memory: &[u32],
-    cards: u32,
-    pages: u32,
-    live: &[bool],
+    header: Header,
     card: u32,
     number: u32,
     list: &[u32],
 ) -> Outcome
-    requires { ⌜ (pages ≤ 64) × (length (now memory) ≡ cards * areaSize pages) ⌝ }
-    requires { ⌜ (cards ≤ length (now live)) × (card < cards) ⌝ }
+    requires { ⌜ MemoryOf header (length (now memory)) ⌝ }
+    requires { ⌜ card < header .cards ⌝ }
     ensures { λ r. ⌜ r
-        ≡ firstRefusal
-        (numberChecks cards pages (now (live .entry)) (now (memory .entry)) card number
-        (now (list .entry)))
+        ≡ firstRefusal (numberChecks header (now (memory .entry)) card number (now (list .entry)))
         0 ⌝ }
 {
-    let size = area::layout::area_size(pages);
-    let at = card as usize;
-    if area::releases::is_open(memory, size, live, at) {
-        return refused(answer::RELEASE_OPEN, 0);
+    if area::releases::is_open_on(memory, header, card) {
+        return answer::refused_at(answer::RELEASE_OPEN, 0);
     }
-    let stamp = area::numbers::load_number(memory, size, at, area::layout::OWN_STAMP);
+    let size = area::layout::area_size(header.pages);
+    let stamp = area::numbers::load_number(memory, size, card as usize, area::layout::OWN_STAMP);
     if number <= stamp {
-        return refused(answer::NUMBER_USED, stamp as u64);
+        return answer::refused_at(answer::NUMBER_USED, stamp as u64);
     }
     if stamp + 1 < number {
-        return refused(answer::NUMBER_AHEAD, 0);
+        return answer::refused_at(answer::NUMBER_AHEAD, 0);
     }
-    list_refusal(memory, cards, pages, live, card, list)
+    list_refusal(memory, header, card, list)
 }
 
 pub fn opening(
     memory: &[u32],
-    cards: u32,
-    pages: u32,
-    live: &[bool],
+    header: Header,
     primary: &[u32],
     secondary: &[u32],
-    status: Status,
     card: u32,
     number: u32,
     list: &[u32],
 ) -> Outcome
-    requires { ⌜ (length (now live) ≡ 8) × (length (now primary) ≡ 64) × (length (now secondary) ≡ 64) ⌝ }
+    requires { ⌜ FullHomes (now primary) (now secondary) ⌝ }
     ensures { λ r. ⌜ r
         ≡ firstRefusal
-        (openingChecks
-        (directoryOf cards pages (now (live .entry)) (now (primary .entry))
-        (now (secondary .entry)) status)
+        (openingChecks (directoryBy header (now (primary .entry)) (now (secondary .entry)))
         (now (memory .entry)) card number (now (list .entry)))
         0 ⌝ }
 {
-    let first = checks::live_card_refusal(
-        memory,
-        cards,
-        pages,
-        live,
-        primary,
-        secondary,
-        status,
-        card,
-    );
-    if first != 0 {
-        return refused(first, 0);
+    let first = checks::live_card_refusal(memory, header, primary, secondary, card);
+    if first.number != 0 {
+        return first;
     }
-    number_refusal(memory, cards, pages, live, card, number, list)
+    number_refusal(memory, header, card, number, list)
 }
 
 // ---- the other calls
 
 pub fn step(
     memory: &[u32],
-    cards: u32,
-    pages: u32,
-    live: &[bool],
+    header: Header,
     primary: &[u32],
     secondary: &[u32],
-    status: Status,
     card: u32,
 ) -> Outcome
-    requires { ⌜ (length (now live) ≡ 8) × (length (now primary) ≡ 64) × (length (now secondary) ≡ 64) ⌝ }
+    requires { ⌜ FullHomes (now primary) (now secondary) ⌝ }
     ensures { λ r. ⌜ r
         ≡ firstRefusal
-        (stepChecks
-        (directoryOf cards pages (now (live .entry)) (now (primary .entry))
-        (now (secondary .entry)) status)
+        (stepChecks (directoryBy header (now (primary .entry)) (now (secondary .entry)))
         (now (memory .entry)) card)
         0 ⌝ }
 {
-    let first = checks::live_card_refusal(
-        memory,
-        cards,
-        pages,
-        live,
-        primary,
-        secondary,
-        status,
-        card,
-    );
-    if first != 0 {
-        return refused(first, 0);
+    let first = checks::live_card_refusal(memory, header, primary, secondary, card);
+    if first.number != 0 {
+        return first;
     }
-    let size = area::layout::area_size(pages);
-    last_check(
-        !area::releases::is_open(memory, size, live, card as usize),
+    checks::last_check(
+        !area::releases::is_open_on(memory, header, card),
         answer::NONE_OPEN,
     )
 }
@@ -176,183 +110,141 @@ pub fn step(
 // 1, 2, 11, 9 and 10: those of a page that is to be shown.
 fn page_refusal(
     memory: &[u32],
-    cards: u32,
-    pages: u32,
-    live: &[bool],
+    header: Header,
     primary: &[u32],
     secondary: &[u32],
-    status: Status,
     page: u32,
 ) -> Outcome
-    requires { ⌜ (length (now live) ≡ 8) × (length (now primary) ≡ 64) × (length (now secondary) ≡ 64) ⌝ }
+    requires { ⌜ FullHomes (now primary) (now secondary) ⌝ }
     ensures { λ r. ⌜ r
         ≡ firstRefusal
-        (pageChecks
-        (directoryOf cards pages (now (live .entry)) (now (primary .entry))
-        (now (secondary .entry)) status)
+        (pageChecks (directoryBy header (now (primary .entry)) (now (secondary .entry)))
         (now (memory .entry)) page)
         0 ⌝ }
 {
-    let first = checks::running_refusal(memory, cards, pages, live, primary, secondary, status);
-    if first != 0 {
-        return refused(first, 0);
+    let first = checks::running_refusal(memory, header, primary, secondary);
+    if first.number != 0 {
+        return first;
     }
-    if pages <= page {
-        return refused(answer::NO_PAGE, 0);
+    if header.pages <= page {
+        return answer::refused_at(answer::NO_PAGE, 0);
     }
-    let card = conflict::lowest_in_motion(memory, cards, pages, live, page);
-    if card < cards {
-        return refused(answer::PAGE_IN_MOTION, card as u64);
+    let card = conflict::lowest_in_motion(memory, header, page);
+    if card < header.cards {
+        return answer::refused_at(answer::PAGE_IN_MOTION, card as u64);
     }
-    refused(0, 0)
+    answer::given(0)
 }
 
 // `room`: how many words the page buffer has.
 pub fn fetch(
     memory: &[u32],
-    cards: u32,
-    pages: u32,
-    live: &[bool],
+    header: Header,
     primary: &[u32],
     secondary: &[u32],
-    status: Status,
     page: u32,
     room: usize,
 ) -> Outcome
-    requires { ⌜ (length (now live) ≡ 8) × (length (now primary) ≡ 64) × (length (now secondary) ≡ 64) ⌝ }
+    requires { ⌜ FullHomes (now primary) (now secondary) ⌝ }
     ensures { λ r. ⌜ r
         ≡ firstRefusal
-        (fetchChecks
-        (directoryOf cards pages (now (live .entry)) (now (primary .entry))
-        (now (secondary .entry)) status)
+        (fetchChecks (directoryBy header (now (primary .entry)) (now (secondary .entry)))
         (now (memory .entry)) page room)
         0 ⌝ }
 {
-    let first = page_refusal(memory, cards, pages, live, primary, secondary, status, page);
+    let first = page_refusal(memory, header, primary, secondary, page);
     if first.number != 0 {
         return first;
     }
-    last_check(room != area::layout::PAGE_SIZE, answer::WRONG_BUFFER)
+    checks::last_check(room != area::layout::PAGE_SIZE, answer::WRONG_BUFFER)
 }
 
 pub fn failure(
     memory: &[u32],
-    cards: u32,
-    pages: u32,
-    live: &[bool],
+    header: Header,
     primary: &[u32],
     secondary: &[u32],
-    status: Status,
     card: u32,
 ) -> Outcome
-    requires { ⌜ (length (now live) ≡ 8) × (length (now primary) ≡ 64) × (length (now secondary) ≡ 64) ⌝ }
+    requires { ⌜ FullHomes (now primary) (now secondary) ⌝ }
     ensures { λ r. ⌜ r
         ≡ firstRefusal
-        (failureChecks
-        (directoryOf cards pages (now (live .entry)) (now (primary .entry))
-        (now (secondary .entry)) status)
+        (failureChecks (directoryBy header (now (primary .entry)) (now (secondary .entry)))
         (now (memory .entry)) card)
         0 ⌝ }
 {
-    let first = checks::live_card_refusal(
-        memory,
-        cards,
-        pages,
-        live,
-        primary,
-        secondary,
-        status,
-        card,
-    );
-    if first != 0 {
-        return refused(first, 0);
+    let first = checks::live_card_refusal(memory, header, primary, secondary, card);
+    if first.number != 0 {
+        return first;
     }
-    last_check(checks::count_live(live, cards) <= 2, answer::TWO_LIVE)
+    checks::last_check(checks::count_live(header) <= 2, answer::TWO_LIVE)
 }
 
 pub fn desk_question(
     memory: &[u32],
-    cards: u32,
-    pages: u32,
-    live: &[bool],
+    header: Header,
     primary: &[u32],
     secondary: &[u32],
-    status: Status,
     card: u32,
 ) -> Outcome
-    requires { ⌜ (length (now live) ≡ 8) × (length (now primary) ≡ 64) × (length (now secondary) ≡ 64) ⌝ }
+    requires { ⌜ FullHomes (now primary) (now secondary) ⌝ }
     ensures { λ r. ⌜ r
         ≡ firstRefusal
-        (deskChecks
-        (directoryOf cards pages (now (live .entry)) (now (primary .entry))
-        (now (secondary .entry)) status)
+        (deskChecks (directoryBy header (now (primary .entry)) (now (secondary .entry)))
         (now (memory .entry)) card)
         0 ⌝ }
 {
-    refused(
-        checks::card_refusal(memory, cards, pages, live, primary, secondary, status, card),
-        0,
-    )
+    checks::card_refusal(memory, header, primary, secondary, card)
 }
 
-// The number alone: an accepted recovery answers a stamp, which is not known yet.
+// An accepted recovery answers a stamp, which is not known yet.
 pub fn recovery(
     memory: &[u32],
-    cards: u32,
-    pages: u32,
-    live: &[bool],
+    header: Header,
     primary: &[u32],
     secondary: &[u32],
-    status: Status,
-) -> u32
-    requires { ⌜ (length (now live) ≡ 8) × (length (now primary) ≡ 64) × (length (now secondary) ≡ 64) ⌝ }
+) -> Outcome
+    requires { ⌜ FullHomes (now primary) (now secondary) ⌝ }
     ensures { λ r. ⌜ r
         ≡ firstRefusal
-        (recoveryChecks
-        (directoryOf cards pages (now (live .entry)) (now (primary .entry))
-        (now (secondary .entry)) status)
+        (recoveryChecks (directoryBy header (now (primary .entry)) (now (secondary .entry)))
         (now (memory .entry)))
-        0 .number ⌝ }
+        0 ⌝ }
 {
-    let first = checks::fitting_refusal(memory, cards, pages, live, primary, secondary, status);
-    if first != 0 {
+    let first = checks::fitting_refusal(memory, header, primary, secondary);
+    if first.number != 0 {
         return first;
     }
-    match status {
-        Status::Running => answer::NONE_AWAITED,
-        Status::Awaiting(_) => 0,
-    }
+    let status = header.status;
+    checks::last_check(
+        !checks::awaits_recovery(status),
+        answer::NONE_AWAITED,
+    )
 }
 
 pub fn join(
     memory: &[u32],
-    cards: u32,
-    pages: u32,
-    live: &[bool],
+    header: Header,
     primary: &[u32],
     secondary: &[u32],
-    status: Status,
     card: u32,
 ) -> Outcome
-    requires { ⌜ (length (now live) ≡ 8) × (length (now primary) ≡ 64) × (length (now secondary) ≡ 64) ⌝ }
+    requires { ⌜ FullHomes (now primary) (now secondary) ⌝ }
     ensures { λ r. ⌜ r
         ≡ firstRefusal
-        (joinChecks
-        (directoryOf cards pages (now (live .entry)) (now (primary .entry))
-        (now (secondary .entry)) status)
+        (joinChecks (directoryBy header (now (primary .entry)) (now (secondary .entry)))
         (now (memory .entry)) card)
         0 ⌝ }
 {
-    let first = checks::card_refusal(memory, cards, pages, live, primary, secondary, status, card);
-    if first != 0 {
-        return refused(first, 0);
+    let first = checks::card_refusal(memory, header, primary, secondary, card);
+    if first.number != 0 {
+        return first;
     }
-    let at = card as usize;
-    if live[at] {
-        return refused(answer::CARD_LIVE, 0);
+    if header.is_live(card) {
+        return answer::refused_at(answer::CARD_LIVE, 0);
     }
-    last_check(
-        conflict::any_open(memory, cards, pages, live),
+    checks::last_check(
+        conflict::any_open(memory, header),
         answer::JOIN_WHILE_OPEN,
     )
 }

@@ -16,7 +16,7 @@ returns c =
     let a = start .args in
     let h = a .header in
     let misplaced = misplacedPage (h .cards) (a .primary .now) (a .secondary .now) in
-    let all : countBelow (liveAt (h .live)) (h .cards) ≡ h .cards = omega (arith, start .pre .1 .1) in
+    let all : countBelow (liveAt (h .live)) (h .cards) ≡ h .cards = omega (arith, start .pre .1) in
     rw (c .count-misplaced .ensures)
     (some-count misplaced (h .pages) ∙ all-live (directoryBy h (a .primary .now) (a .secondary .now)) all)
 

@@ -18,11 +18,11 @@ returns-2 c = rw (c .enum-told .given .1)
 returns-3 : tie.Need-returns-3
 unfolding badStatus
 returns-3 c =
-    let at-status = c .before .before .before .before in
-    rw (at-status .status .given .1) (simp (lt-leb _ _ (c .before .if1 .left)))
+    let test = c .before in
+    let at-status = test .before .before .before in
+    rw (at-status .status .given .1) (simp (lt-leb _ _ (test .if1 .left)) (c .is-live .ensures))
 
 pub bad-status-spec : {M : Type 1} → statement M
 bad-status-spec =
     tie.close
-    (tie.spec (λ c. search needs) (λ c. search needs) returns (λ c. search needs) (λ c. search needs) returns-2
-    returns-3)
+    (tie.spec (λ c. search needs) (λ c. search needs) returns (λ c κs. search needs) returns-2 returns-3)

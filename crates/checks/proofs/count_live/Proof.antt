@@ -14,13 +14,13 @@ abbrev μ-loop : tie.MeasureT-loop
 μ-loop live cards count₀ card₀ count card = cards - card
 
 add-count : tie.Need-add-count Inv-loop μ-loop
-add-count c = omega (arith, counted-few (c .before .before .before .loop .inv))
+add-count c = omega (arith, counted-few (c .before .before .loop .inv))
 
 loop-again : tie.Need-loop-again Inv-loop μ-loop
-loop-again c = counted-hit (c .before .before .before .loop .inv) (omega arith) (c .if1 .taken)
+loop-again c = counted-hit (c .before .before .loop .inv) (omega arith) (c .if1 .taken)
 
 loop-again-2 : tie.Need-loop-again-2 Inv-loop μ-loop
-loop-again-2 c = counted-miss (c .before .before .before .loop .inv) (omega arith) (c .if1 .left)
+loop-again-2 c = counted-miss (c .before .before .loop .inv) (omega arith) (c .if1 .left)
 
 returns : tie.Need-returns Inv-loop μ-loop
 returns c = counted-all (c .before .loop .inv) (c .loop-test .left)

@@ -1,21 +1,12 @@
 -- Rests on the order of checks: those of a running rack, then the number of cards and the mark.
 use mathlib.Core.Path.{refl, sym, _∙_}
 use borrow.Author.Needs.{needs}
-use Rattle.directory.specs.Directory.{directoryBy}
-use Rattle.checks.proofs.Passing.{running-within}
 use Rattle.checks.proofs.Order.{refused-first, passed-first}
 use Rattle.checks.proofs.live_card_refusal.Statement.{statement}
 use Rattle.checks.proofs.live_card_refusal.Tie as tie
 
 returns : tie.Need-returns
 returns c = sym (refused-first _ _ _ refl (c .before .before .running-refusal .ensures) (c .if1 .taken))
-
-no-live-card-requires : tie.Need-no-live-card-requires
-no-live-card-requires c κs =
-    let running = c .before .before in
-    let a = running .before .before .before .before .args in
-    let d = directoryBy (a .header) (a .primary .now) (a .secondary .now) in
-    running-within d (a .memory .now) (running .running-refusal .ensures) (c .if1 .left) .cards-most
 
 returns-2 : tie.Need-returns-2
 returns-2 c =
@@ -26,4 +17,4 @@ returns-2 c =
 pub live-card-refusal-spec : {M : Type 1} → statement M
 live-card-refusal-spec =
     tie.close
-    (tie.spec (λ c κs. search needs) returns no-live-card-requires (λ c κs. search needs) returns-2)
+    (tie.spec (λ c κs. search needs) returns (λ c κs. search needs) (λ c κs. search needs) returns-2)

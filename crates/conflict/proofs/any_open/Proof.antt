@@ -7,8 +7,8 @@ use Rattle.conflict.proofs.any_open.Tie as tie
 
 returns : tie.Need-returns
 returns c =
-    let a = c .before .before .before .args in
-    c .any-other .ensures ∙ others-are-all (a .live .now) (a .memory .now) (a .cards) _
+    let a = c .before .before .args in
+    c .any-other .ensures ∙ others-are-all (a .header .live) (a .memory .now) (a .header .cards) _
 
 pub any-open-spec : {M : Type 1} → statement M
 any-open-spec =

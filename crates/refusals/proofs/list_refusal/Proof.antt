@@ -12,33 +12,36 @@ returns : tie.Need-returns
 returns c =
     let faulty = c .before in
     let read = faulty .before .before .check .ensures in
-    (rw read at (c .refused .ensures)) ∙ sym (first-refuses _ _ _ _ _ (rw read at (lt-ltb _ _ (faulty .if1 .taken))))
+    (rw read at (c .refused-at .ensures))
+    ∙ sym (first-refuses _ _ _ _ _ (rw read at (lt-ltb _ _ (faulty .if1 .taken))))
 
 lowest-sharing-requires : tie.Need-lowest-sharing-requires
 lowest-sharing-requires c κs =
-    let start = c .before .before .before .before .before .before in
+    let start = c .before .before .before .before .before in
     let read = c .before .before .check .ensures in
     let a = start .args in
-    let few = allowed-few (a .pages) (a .list .now) (rw (← read) (omega arith)) in
-    search needs
+    let few = allowed-few (a .header .pages) (a .list .now) (rw (← read) (omega arith)) in
+    (start .pre, few)
 
 returns-2 : tie.Need-returns-2
 returns-2 c =
     let shared = c .before in
-    let faulty = shared .before .before in
+    let searched = shared .before .before in
+    let faulty = searched .before in
     let read = faulty .before .before .check .ensures in
-    let found = shared .before .lowest-sharing .ensures in
-    (rw found at (c .refused2 .ensures))
+    let found = searched .lowest-sharing .ensures in
+    (rw found at (c .refused-at2 .ensures))
     ∙ sym (first-passes _ _ _ _ _ (rw read at (le-ltb _ _ (faulty .if1 .left)))
     ∙ first-refuses _ _ _ _ _ (rw found at (lt-ltb _ _ (shared .if2 .taken))))
 
 returns-3 : tie.Need-returns-3
 returns-3 c =
     let shared = c .before in
-    let faulty = shared .before .before in
+    let searched = shared .before .before in
+    let faulty = searched .before in
     let read = faulty .before .before .check .ensures in
-    let found = shared .before .lowest-sharing .ensures in
-    c .refused3 .ensures
+    let found = searched .lowest-sharing .ensures in
+    c .given .ensures
     ∙ sym (first-passes _ _ _ _ _ (rw read at (le-ltb _ _ (faulty .if1 .left)))
     ∙ last-passes _ _ _ _ (rw found at (le-ltb _ _ (shared .if2 .left))))
 

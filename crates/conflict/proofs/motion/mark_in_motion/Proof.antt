@@ -12,31 +12,32 @@ use Rattle.conflict.proofs.motion.mark_in_motion.Statement.{statement}
 use Rattle.conflict.proofs.motion.mark_in_motion.Tie as tie
 
 abbrev Inv-loop : tie.InvT-loop
-Inv-loop memory cards pages live marks₀ size card₀ marks card =
-    (card ≤ cards) × (length marks ≡ length marks₀) × (marks ≡ inTurn (markMotion live pages memory) card marks₀)
+Inv-loop memory marks₀ live pages size card₀ card-end marks card =
+    (card ≤ card-end) × (length marks ≡ length marks₀) × (marks ≡ inTurn (markMotion live pages memory) card marks₀)
 
 abbrev μ-loop : tie.MeasureT-loop
-μ-loop memory cards pages live marks₀ size card₀ marks card = cards - card
+μ-loop memory marks₀ live pages size card₀ card-end marks card = card-end - card
 
 loop-holds : tie.Need-loop-holds Inv-loop μ-loop
 loop-holds c = (omega arith, refl, sym (in-turn-none _ _))
 
 mark-motion-requires : tie.Need-mark-motion-requires Inv-loop μ-loop
 mark-motion-requires c κs =
-    let loop-at = c .before .before in
+    let loop-at = c .before .before .before in
     let sized = loop-at .before in
     let start = sized .before .before .before .before in
     let size = sized .area-size .ensures in
-    let below = c .before .loop-test .taken in
+    let below = c .before .before .loop-test .taken in
     let inv = loop-at .loop .inv in
-    let pre = start .pre in
-    let area = area-in _ below (pre .0 .1) in
-    ((size, rw size area), (omega arith, inv .1 ∙ pre .1 .1, pre .0 .0))
+    let marks : length (start .args .header .live) ≡ 8 = search needs in
+    let pre = start .pre .0 in
+    let area = area-in _ below (pre .2) in
+    ((size, rw size area), (omega (arith, pre .0), inv .1 ∙ start .pre .1, pre .1))
 
 loop-again : tie.Need-loop-again Inv-loop μ-loop
 loop-again c =
     let mark-motion-at = c .before .before in
-    let loop-at = mark-motion-at .before .before .before in
+    let loop-at = mark-motion-at .before .before .before .before in
     let at = loop-at .loop in (
       omega arith,
       c .before .marks .given ∙ at .inv .1,
@@ -47,11 +48,11 @@ returns : tie.Need-returns Inv-loop μ-loop
 returns c =
     let start = c .before .before .before .before .before .before in
     let at = c .before .loop in
-    let end : at .card ≡ start .args .cards = omega arith in
+    let end : at .card ≡ start .args .header .cards = omega arith in
     rw end at (at .inv .2)
 
 pub mark-in-motion-spec : {M : Type 1} → statement M
 mark-in-motion-spec =
     tie.close
-    (tie.spec Inv-loop μ-loop (λ c κs. search needs) loop-holds (λ c. search needs) mark-motion-requires
-    (λ c. search needs) (λ c. search needs) loop-again (λ c. search needs) returns)
+    (tie.spec Inv-loop μ-loop (λ c κs. search needs) loop-holds (λ c. search needs) (λ c. search needs)
+    mark-motion-requires (λ c. search needs) (λ c. search needs) loop-again (λ c. search needs) returns)

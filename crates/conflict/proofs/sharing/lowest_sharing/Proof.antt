@@ -11,16 +11,18 @@ use Rattle.conflict.proofs.sharing.lowest_sharing.Tie as tie
 returns : tie.Need-returns
 returns c =
     let marks = c .before .before .before in
-    let entry = marks .before .before .before .before .before .before .before in
-    let a = entry .args in
-    let same = marks-share (a .live .now) _ (a .memory .now) (a .card) (a .list .now) (entry .pre .0 .0) in
-    rw (marks .mark-labels .ensures) at (c .walk-lists .ensures) ∙ lowest-same _ _ same 0 (a .cards)
+    let start = marks .before .before .before .before .before .before in
+    let a = start .args in
+    let h = a .header in
+    let same = marks-share (h .live) _ (a .memory .now) (a .card) (a .list .now) (start .pre .0 .1) in
+    rw (marks .mark-labels .ensures) at (c .walk-lists .ensures) ∙ lowest-same _ _ same 0 (h .cards)
 
 returns-2 : tie.Need-returns-2
 returns-2 c =
-    let a = c .before .before .before .before .before .args in
+    let a = c .before .before .before .before .args in
+    let h = a .header in
     let none = sym (c .before .any-other .ensures) ∙ c .if1 .left in
-    none-shares (a .live .now) (a .memory .now) (a .cards) (a .pages) (a .card) (a .list .now) none
+    none-shares (h .live) (a .memory .now) (h .cards) (h .pages) (a .card) (a .list .now) none
 
 pub lowest-sharing-spec : {M : Type 1} → statement M
 lowest-sharing-spec =

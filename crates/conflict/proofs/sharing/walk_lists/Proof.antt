@@ -14,35 +14,41 @@ use Rattle.conflict.proofs.sharing.walk_lists.Statement.{statement}
 use Rattle.conflict.proofs.sharing.walk_lists.Tie as tie
 
 abbrev Inv-loop : tie.InvT-loop
-Inv-loop memory cards pages live card named size found₀ other list at₀ found at =
+Inv-loop memory card named live cards pages size found₀ other list at₀ found at =
     Reached pages (length list) at × (found ≡ found₀)
     × (anyMarked (pricesLeft pages list at) named ≡ anyMarked (pricesOf pages list) named)
 
 abbrev μ-loop : tie.MeasureT-loop
-μ-loop memory cards pages live card named size found₀ other list at₀ found at = length list - at .index
+μ-loop memory card named live cards pages size found₀ other list at₀ found at = length list - at .index
 
 abbrev Inv-cards : tie.InvT-cards
-Inv-cards memory cards pages live card named size found₀ other₀ found other =
+Inv-cards memory card named live cards pages size found₀ other₀ found other =
     Passed (marksWith live pages memory card named) cards other × (found ≡ cards)
 
 abbrev μ-cards : tie.MeasureT-cards
-μ-cards memory cards pages live card named size found₀ other₀ found other = cards - other
+μ-cards memory card named live cards pages size found₀ other₀ found other = cards - other
 
 cards-holds : tie.Need-cards-holds Inv-loop μ-loop Inv-cards μ-cards
 cards-holds c = (passed-none, refl)
 
 is-other-requires : tie.Need-is-other-requires Inv-loop μ-loop Inv-cards μ-cards
 is-other-requires c κs =
-    let size = c .before .before .area-size .ensures in
-    let area = area-in _ (c .cards-test .taken) (c .before .before .before .before .before .before .pre .0 .1) in
-    ((omega arith, rw size area), search needs)
+    let sized = c .before .before .before in
+    let start = sized .before .before .before .before in
+    let size = sized .area-size .ensures in
+    let marks : length (start .args .header .live) ≡ 8 = search needs in
+    let pre = start .pre .0 in
+    let below = c .before .cards-test .taken in
+    let area = area-in _ below (pre .2) in
+    ((omega arith, rw size area), omega (arith, pre .0))
 
 open-list-requires : tie.Need-open-list-requires Inv-loop μ-loop Inv-cards μ-cards
 open-list-requires c κs =
-    let turn = c .before .before in
-    let entry = turn .before .before .before .before .before .before in
-    let size = turn .before .before .area-size .ensures in
-    let area = area-in _ (turn .cards-test .taken) (entry .pre .0 .1) in
+    let turn = c .before .before .before in
+    let sized = turn .before .before in
+    let start = sized .before .before .before .before in
+    let size = sized .area-size .ensures in
+    let area = area-in _ (turn .cards-test .taken) (start .pre .0 .2) in
     (omega arith, rw size area)
 
 loop-holds : tie.Need-loop-holds Inv-loop μ-loop Inv-cards μ-cards
@@ -70,7 +76,7 @@ cards-again : tie.Need-cards-again Inv-loop μ-loop Inv-cards μ-cards
 cards-again c =
     let at = c .before .before .loop in
     let lent = c .before .before .before .before in
-    let turn = lent .before .before .before in
+    let turn = lent .before .before .before .before in
     let size = turn .before .before .area-size .ensures in
     let other = lent .before .before .is-other .ensures in
     let list = marks-list _ _ _ size _ _ _ other (lent .before .if1 .taken) (lent .open-list .ensures .0) in
@@ -80,7 +86,7 @@ cards-again c =
 
 cards-again-2 : tie.Need-cards-again-2 Inv-loop μ-loop Inv-cards μ-cards
 cards-again-2 c =
-    let turn = c .before .before in
+    let turn = c .before .before .before in
     let size = turn .before .before .area-size .ensures in
     let miss = marks-not _ _ _ size _ _ _ (c .before .is-other .ensures) (c .if1 .left) in
     (passed-more (turn .before .cards .inv .0) (turn .cards-test .taken) miss, turn .before .cards .inv .1)
@@ -92,7 +98,7 @@ returns-2 : tie.Need-returns-2 Inv-loop μ-loop Inv-cards μ-cards
 returns-2 c =
     let at = c .before .before .before .before .loop in
     let lent = c .before .before .before .before .before .before in
-    let turn = lent .before .before .before in
+    let turn = lent .before .before .before .before in
     let size = turn .before .before .area-size .ensures in
     let other = lent .before .before .is-other .ensures in
     let list = marks-list _ _ _ size _ _ _ other (lent .before .if1 .taken) (lent .open-list .ensures .0) in
@@ -103,7 +109,7 @@ returns-2 c =
 pub walk-lists-spec : {M : Type 1} → statement M
 walk-lists-spec =
     tie.close
-    (tie.spec Inv-loop μ-loop Inv-cards μ-cards (λ c κs. search needs) cards-holds is-other-requires
-    (λ c. search needs) open-list-requires (λ c κs. search needs) loop-holds (λ c κs. search needs)
+    (tie.spec Inv-loop μ-loop Inv-cards μ-cards (λ c κs. search needs) cards-holds (λ c. search needs)
+    is-other-requires (λ c. search needs) open-list-requires (λ c κs. search needs) loop-holds (λ c κs. search needs)
     (λ c κs. search needs) loop-less loop-again (λ c. search needs) (λ c. search needs) cards-again
     (λ c. search needs) (λ c. search needs) cards-again-2 returns returns-2)
