@@ -1,18 +1,12 @@
--- For those who call a step: what it relies on, from the checks of a rack; what it looks at in their directory.
-use Rattle.laws.proofs.Prelude.{ℕ, zero, suc, _*_, _<_, _≤_, _≡_, refl, ap, List, [], _∷_, Bool, false, true≢false}
-use Rattle.laws.proofs.Prelude.{arith, ltb-false, length}
-use Rattle.directory.specs.declared.Directory.{Directory}
-use Rattle.directory.specs.Directory.{primaryOf, secondaryOf}
-use Rattle.area.specs.Prelude.{areaSize, Release, openList, stepsOf}
+-- For those who call a step: what it relies on, from the checks of a rack.
+use Rattle.laws.proofs.Prelude.{ℕ, _*_, _<_, _≤_, _≡_, refl, List, Bool, false, true≢false, arith, ltb-false, length}
+use Rattle.area.specs.Prelude.{areaSize, openList, stepsOf}
 use Rattle.area.proofs.Prelude.{area-in}
-use Rattle.diff.specs.declared.Price.{Price}
 use Rattle.diff.specs.declared.Verdict.{Verdict}
 use Rattle.diff.specs.declared.Verdict.the-variants.{Good, Faulty}
 use Rattle.diff.specs.Reading.{readDiff}
-use Rattle.protocol.specs.Release.{stepMemory, Write, priceWrite, priceWrites, releaseWrites}
 use Rattle.protocol.specs.Checks.{badRelease}
-use Rattle.protocol.specs.Recovery.{stepTimes}
-use Rattle.release.specs.Stepping.{CardIn, HomesIn, GoodRelease, homesOf}
+use Rattle.release.specs.Stepping.{CardIn, HomesIn, GoodRelease}
 
 -- a card below the number of cards
 pub card-in : (live : List Bool) (size : ℕ) {words cards card : ℕ} → length live ≡ 8 → cards ≤ 8 → words ≡ cards * size
@@ -40,29 +34,3 @@ good-release pages m card passed = go _ refl passed
         → badRelease verdict (stepsOf (areaSize pages) m card) ≡ false → GoodRelease pages m card
     go (Good k words) reads within = record { k = k; words = words; reads = reads; under = omega (arith, ltb-false) }
     go (Faulty place) reads bad = absurd (true≢false bad)
-
--- ---- a step looks at pages, marks and homes alone
-
-module _ (d : Directory) where
-  abbrev pub homes : Directory
-  homes = homesOf (d .pages) (d .live) (d .primary) (d .secondary)
-
-  same-prices : (half : ℕ) (ps : List Price) → priceWrites homes half ps ≡ priceWrites d half ps
-  same-prices half [] = refl
-  same-prices half (p ∷ ps) =
-      ap (λ (rest : List Write). priceWrite (secondaryOf d) half p ∷ priceWrite (primaryOf d) half p ∷ rest)
-      (same-prices half ps)
-
-  same-writes : (backup c : ℕ) (r : Release) (ps : List Price)
-      → releaseWrites homes backup c r ps ≡ releaseWrites d backup c r ps
-  unfolding releaseWrites
-  same-writes backup c r ps = simp same-prices
-
-  pub step-by-homes : (backup : ℕ) (m : List ℕ) (c : ℕ) → stepMemory homes backup m c ≡ stepMemory d backup m c
-  unfolding stepMemory
-  step-by-homes backup m c = simp same-writes
-
-  pub times-by-homes : (backup c n : ℕ) (m : List ℕ) → stepTimes homes backup c n m ≡ stepTimes d backup c n m
-  unfolding stepTimes
-  times-by-homes backup c zero m = refl
-  times-by-homes backup c (suc n) m = rw (step-by-homes backup m c) (times-by-homes backup c n _)

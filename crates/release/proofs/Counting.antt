@@ -5,13 +5,13 @@ use native.Mathlib.Nat.{add-zero, sub-zero}
 use Rattle.laws.proofs.Bools.{by-cond}
 use Rattle.directory.specs.declared.Directory.{Directory}
 use Rattle.directory.specs.Directory.{liveAt}
-use Rattle.area.specs.Prelude.{AreaIn, store, areaSize, stepsMade, pagesStart, stepsOf}
+use Rattle.area.specs.Prelude.{AreaIn, store, stepsMade, pagesStart, stepsOf}
 use Rattle.area.proofs.Prelude.{length-store, load-store-same, store-loaded, store-twice, store-run-swap}
 use Rattle.diff.specs.declared.Price.{Price}
 use Rattle.protocol.specs.Release.{sizeOf, openPrices, Write, makeWrite, stepMemory}
 use Rattle.protocol.specs.Recovery.{stepTimes}
 use Rattle.protocol.proofs.release.OneWrite.{length-make-write}
-use Rattle.release.specs.Stepping.{StepsLeft, homesOf, storeAfter, NumberedPrice}
+use Rattle.release.specs.Stepping.{StepsLeft, storeAfter, NumberedPrice}
 use Rattle.release.proofs.Halves.{HalfFrom, half-bounds}
 use Rattle.release.proofs.Prices.{price-at}
 use Rattle.release.proofs.Stores.{storeOf, price-due, step-counted}
@@ -75,53 +75,47 @@ module _ {d : Directory} {c k : ℕ} {before : List ℕ} {steps count : ℕ} whe
       let all : made ≡ count = omega (arith, stored .upto) in
       is ∙ steps-all (rw all at (stored .far backup)) (omega arith)
 
-module _ (pages : ℕ) (live : List Bool) (primary secondary : List ℕ) where
-  abbrev homes : Directory
-  homes = homesOf pages live primary secondary
+module _ (d : Directory) {c k : ℕ} {before m : List ℕ} {steps count made first half : ℕ} (p : Price) (at : ℕ)
+    (eight : c < 8) (area : AreaIn (length before) (sizeOf d) c) (stored : PricesMade d c k before steps count m made)
+    (more : made < count) (from : HalfFrom k first half) (here : steps + made ≡ first + at) (within : at < 2 * k)
+    (numbered : NumberedPrice (d .pages) before c (at / 2) p) where
+  -- counted
+  abbrev M : List ℕ
+  M = store (sizeOf d) m c stepsMade (steps + made)
 
-  module _ {c k : ℕ} {before m : List ℕ} {steps count made first half : ℕ} (p : Price) (at : ℕ) (eight : c < 8)
-      (area : AreaIn (length before) (areaSize pages) c) (stored : PricesMade homes c k before steps count m made)
-      (more : made < count) (from : HalfFrom k first half) (here : steps + made ≡ first + at) (within : at < 2 * k)
-      (numbered : NumberedPrice pages before c (at / 2) p) where
-    -- counted
-    abbrev M : List ℕ
-    M = store (areaSize pages) m c stepsMade (steps + made)
+  abbrev due : Write
+  due = storeOf d at half p
 
-    abbrev due : Write
-    due = storeOf pages live primary secondary at half p
+  -- the store that the single step makes
+  next-due : (backup : ℕ)
+      → store (sizeOf d) (makeWrite (d .live) (sizeOf d) m due) c stepsMade (steps + made + 1)
+      ≡ stepMemory d backup M c
+  next-due backup =
+      let far = stored .far backup in
+      let again : 0 < count - made = omega arith in
+      let some = far .some again in
+      let bounds = half-bounds from in
+      let here-in : AreaIn (length m) (sizeOf d) c = rw (stored .same) area in
+      let price = price-at (d .pages) M c (at / 2) p (omega (arith, some .prices)) (rw (far .list again) numbered) in
+      let is-due =
+      price-due d backup M c (steps + made) p at (rw length-store here-in) (some .prices) from here within price
+      in
+      next-counted d backup c m (steps + made) here-in (omega (arith, some .prices, bounds .0)) is-due (omega arith)
+      (omega (arith, price .on-page, price .in-page, bounds .1))
 
-    -- the store that the single step makes
-    next-due : (backup : ℕ)
-        → store (areaSize pages) (makeWrite live (areaSize pages) m due) c stepsMade (steps + made + 1)
-        ≡ stepMemory homes backup M c
-    next-due backup =
-        let far = stored .far backup in
-        let again : 0 < count - made = omega arith in
-        let some = far .some again in
-        let bounds = half-bounds from in
-        let here-in : AreaIn (length m) (areaSize pages) c = rw (stored .same) area in
-        let price = price-at pages M c (at / 2) p (omega (arith, some .prices)) (rw (far .list again) numbered) in
-        let is-due =
-        price-due pages live primary secondary backup M c (steps + made) p at (rw length-store here-in) (some .prices)
-        from here within price
-        in
-        next-counted homes backup c m (steps + made) here-in (omega (arith, some .prices, bounds .0)) is-due
-        (omega arith)
-        (omega (arith, price .on-page, price .in-page, bounds .1))
-
-    pub prices-one : {next : List ℕ} → next ≡ makeWrite live (areaSize pages) m due
-        → PricesMade homes c k before steps count next (made + 1)
-    prices-one {next} is =
-        let same = ap length is ∙ length-make-write live (areaSize pages) m due in
-        let left : count - (made + 1) ≡ count - made - 1 = omega arith in
-        let sum : steps + (made + 1) ≡ steps + made + 1 = omega arith in
-        record {
-          upto = omega arith;
-          same = same ∙ stored .same;
-          far = λ backup.
-              rw (left, sum)
-              (steps-one eight area (stored .far backup) (omega arith)
-              (length-store (areaSize pages) next c stepsMade (steps + made + 1) ∙ same
-              ∙ sym (length-store (areaSize pages) m c stepsMade (steps + made)))
-              (rw is (next-due backup)));
-        }
+  pub prices-one : {next : List ℕ} → next ≡ makeWrite (d .live) (sizeOf d) m due
+      → PricesMade d c k before steps count next (made + 1)
+  prices-one {next} is =
+      let same = ap length is ∙ length-make-write (d .live) (sizeOf d) m due in
+      let left : count - (made + 1) ≡ count - made - 1 = omega arith in
+      let sum : steps + (made + 1) ≡ steps + made + 1 = omega arith in
+      record {
+        upto = omega arith;
+        same = same ∙ stored .same;
+        far = λ backup.
+            rw (left, sum)
+            (steps-one eight area (stored .far backup) (omega arith)
+            (length-store (sizeOf d) next c stepsMade (steps + made + 1) ∙ same
+            ∙ sym (length-store (sizeOf d) m c stepsMade (steps + made)))
+            (rw is (next-due backup)));
+      }

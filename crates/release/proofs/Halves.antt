@@ -57,6 +57,9 @@ pub half-bounds : {k first half : ℕ} → HalfFrom k first half → (first ≤ 
 half-bounds (tentative from is) = (omega arith, omega arith)
 half-bounds (committed from is) = (omega arith, omega arith)
 
+pub half-same : {k k′ first half : ℕ} → k ≡ k′ → HalfFrom k first half → HalfFrom k′ first half
+half-same same half = rw (← same) half
+
 -- where the next step stores a price
 pub record NextPrice (k steps : ℕ) : Type 0 where
   pub first : ℕ

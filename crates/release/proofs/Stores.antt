@@ -14,7 +14,7 @@ use Rattle.protocol.specs.Release.{stepMemory}
 use Rattle.protocol.proofs.release.Writes.{noPrice, price-write-at, write-tentative, write-desk, write-stamp}
 use Rattle.protocol.proofs.release.Writes.{write-committed, write-done}
 use Rattle.protocol.proofs.release.Step.{StandsIn, step-writes, step-closes}
-use Rattle.release.specs.Stepping.{CardIn, HomesIn, homesOf, storeAfter, homeAt, recordWrite}
+use Rattle.release.specs.Stepping.{CardIn, HomesIn, storeAfter, homeAt, recordWrite}
 use Rattle.release.proofs.Halves.{HalfFrom, tentative, committed}
 use Rattle.release.proofs.Prices.{PriceAt}
 
@@ -48,19 +48,18 @@ module _ (size : ℕ) (m : List ℕ) (card : ℕ) where
 
 -- ---- a price at a home of its page
 
-module _ (pages : ℕ) (live : List Bool) (primary secondary : List ℕ) where
-  pub home-in : {words : ℕ} → HomesIn live pages primary secondary words → (number page : ℕ) → page < pages
-      → CardIn live words (areaSize pages) (homeAt primary secondary number page)
-  home-in {words} homes number page below =
-      by-cond (λ (home : ℕ → ℕ). CardIn live words (areaSize pages) (home page)) (eqb (number % 2) 0) _ _
-      (λ _. homes .secondary-in page below) (λ _. homes .primary-in page below)
+pub home-in : {pages : ℕ} {live : List Bool} {primary secondary : List ℕ} {words : ℕ}
+    → HomesIn live pages primary secondary words → (number page : ℕ) → page < pages
+    → CardIn live words (areaSize pages) (homeAt primary secondary number page)
+home-in {pages} {live} {words = words} homes number page below =
+    by-cond (λ (home : ℕ → ℕ). CardIn live words (areaSize pages) (home page)) (eqb (number % 2) 0) _ _
+    (λ _. homes .secondary-in page below) (λ _. homes .primary-in page below)
 
-  price-store : (half : ℕ) (ps : List Price) (number : ℕ) {p : Price} {home : ℕ} → number < 2 * length ps
-      → p ≡ getD ps (number / 2) noPrice → home ≡ homeAt primary secondary number (p .page)
-      → writeOf home (pageAt (p .page) + (half + p .word)) (p .price ∷ [])
-      ≡ getD (priceWrites (homesOf pages live primary secondary) half ps) number noWrite
-  price-store half ps number within is at-home =
-      rw (at-home, is) (sym (price-write-at (homesOf pages live primary secondary) half ps number within))
+price-store : (d : Directory) (half : ℕ) (ps : List Price) (number : ℕ) {p : Price} {home : ℕ}
+    → number < 2 * length ps → p ≡ getD ps (number / 2) noPrice
+    → home ≡ homeAt (d .primary) (d .secondary) number (p .page)
+    → writeOf home (pageAt (p .page) + (half + p .word)) (p .price ∷ []) ≡ getD (priceWrites d half ps) number noWrite
+price-store d half ps number within is at-home = rw (at-home, is) (sym (price-write-at d half ps number within))
 
 -- ---- the store of each step, and the step
 
@@ -118,17 +117,16 @@ module _ (d : Directory) (backup : ℕ) (m : List ℕ) (card steps : ℕ) (area 
 
 -- ---- a price that is due
 
-module _ (pages : ℕ) (live : List Bool) (primary secondary : List ℕ) where
+module _ (d : Directory) where
   -- the store numbered `at` of a half
   abbrev pub storeOf : ℕ → ℕ → Price → Write
   storeOf at half p =
-      writeOf (homeAt primary secondary at (p .page)) (pageAt (p .page) + (half + p .word)) (p .price ∷ [])
+      writeOf (homeAt (d .primary) (d .secondary) at (p .page)) (pageAt (p .page) + (half + p .word)) (p .price ∷ [])
 
   pub price-due : (backup : ℕ) (m : List ℕ) (c steps : ℕ) (p : Price) (at : ℕ) {k first half : ℕ}
-      → AreaIn (length m) (areaSize pages) c → k ≡ length (openPrices pages m c) → HalfFrom k first half
-      → steps ≡ first + at → at < 2 * k → PriceAt pages m c (at / 2) p
-      → storeOf at half p ≡ storeAfter (homesOf pages live primary secondary) backup m c steps
+      → AreaIn (length m) (sizeOf d) c → k ≡ length (openPrices (d .pages) m c) → HalfFrom k first half
+      → steps ≡ first + at → at < 2 * k → PriceAt (d .pages) m c (at / 2) p
+      → storeOf at half p ≡ storeAfter d backup m c steps
   price-due backup m c steps p at {half = half} area counted from here within price =
-      price-store pages live primary secondary half (openPrices pages m c) at (omega arith) (price .is) refl
-      ∙ half-store (homesOf pages live primary secondary) backup m c steps area at (rw counted at from) here
-      (omega arith)
+      price-store d half (openPrices (d .pages) m c) at (omega arith) (price .is) refl
+      ∙ half-store d backup m c steps area at (rw counted at from) here (omega arith)

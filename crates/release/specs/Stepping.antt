@@ -3,16 +3,12 @@
 use Rattle.laws.specs.Prelude.{ℕ, _*_, _+_, _-_, _/_, _%_, _<_, _≤_, _≡_, List, [], _∷_, Bool, cond, length, getD, ltb}
 use Rattle.laws.specs.Prelude.{eqb}
 use Rattle.directory.specs.declared.Directory.{Directory}
-use Rattle.directory.specs.declared.Status.the-variants.{Running}
-use Rattle.directory.specs.Directory.{directoryOf}
 use Rattle.area.specs.Prelude.{AreaIn, areaSize, recordStamp, recordDesk, tentativeHalf, committedHalf, deskSize}
 use Rattle.area.specs.Prelude.{listSize, openRelease, openList, stepsOf, Release, numberWords}
 use Rattle.diff.specs.declared.Price.{Price}
 use Rattle.diff.specs.declared.Verdict.the-variants.{Good}
 use Rattle.diff.specs.Reading.{readDiff}
 use Rattle.protocol.specs.Release.{sizeOf, openPrices, stepsIn, Write, writeOf, noWrite, releaseWrites, makeWrite}
-use Rattle.protocol.specs.Release.{stepMemory}
-use Rattle.protocol.specs.Recovery.{stepTimes}
 
 -- a card with a mark, and with an area in a memory of so many words
 pub record CardIn (live : List Bool) (words size card : ℕ) : Type 0 where
@@ -51,27 +47,14 @@ pub record StepsLeft (pages : ℕ) (m : List ℕ) (card k left : ℕ) : Type 0 w
 abbrev pub leftOf : ℕ → List ℕ → ℕ → ℕ
 leftOf pages m card = stepsIn (length (openPrices pages m card)) - stepsOf (areaSize pages) m card
 
--- a directory as far as a step looks at it: pages, marks and homes
-abbrev pub homesOf : ℕ → List Bool → List ℕ → List ℕ → Directory
-homesOf pages live primary secondary = directoryOf 0 pages live primary secondary Running
-
 -- the store of the step after so many
 abbrev pub storeAfter : Directory → ℕ → List ℕ → ℕ → ℕ → Write
 storeAfter d backup m card steps =
     getD (releaseWrites d backup card (openRelease (sizeOf d) m card) (openPrices (d .pages) m card)) steps noWrite
 
 -- the memory after it
-abbrev pub afterStore : ℕ → List Bool → List ℕ → List ℕ → ℕ → List ℕ → ℕ → ℕ → List ℕ
-afterStore pages live primary secondary backup m card steps =
-    makeWrite live (areaSize pages) m (storeAfter (homesOf pages live primary secondary) backup m card steps)
-
--- the memory after a step
-abbrev pub afterStep : ℕ → List Bool → List ℕ → List ℕ → ℕ → List ℕ → ℕ → List ℕ
-afterStep pages live primary secondary = stepMemory (homesOf pages live primary secondary)
-
--- the memory after so many steps
-abbrev pub afterSteps : ℕ → List Bool → List ℕ → List ℕ → ℕ → ℕ → ℕ → List ℕ → List ℕ
-afterSteps pages live primary secondary = stepTimes (homesOf pages live primary secondary)
+abbrev pub afterStore : Directory → ℕ → List ℕ → ℕ → ℕ → List ℕ
+afterStore d backup m card steps = makeWrite (d .live) (sizeOf d) m (storeAfter d backup m card steps)
 
 -- the store of this number among the nine between the prices, in the record at the backup: the desk, then the stamp
 abbrev pub recordWrite : ℕ → ℕ → Release → ℕ → Write

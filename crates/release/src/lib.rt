@@ -1,13 +1,14 @@
 // A release on its card: opening it, one step of it, its close. These write the memory of a rack
 // that passed its checks; which calls are refused is decided above.
 ghost use Rattle.laws.specs.Prelude.{_≡_, List, [], _∷_, ℕ, _+_, _*_, _<_, _≤_, length, getD};
+ghost use Rattle.directory.specs.Directory.{directoryBy};
 ghost use Rattle.area.specs.Prelude.{AreaIn, store, areaSize, stepsMade, pageAt, recordDesk};
 ghost use Rattle.area.specs.Prelude.{numberSize, deskSize, listSize, pageSize, storedPageSize};
 ghost use Rattle.area.specs.Prelude.{pagesStart, releaseOf, openRelease, stepsOf, numberWords};
-ghost use Rattle.protocol.specs.Release.{openPrices, writeOf, makeWrite, close};
+ghost use Rattle.protocol.specs.Release.{openPrices, writeOf, makeWrite, close, stepMemory};
 ghost use Rattle.protocol.specs.Opening.{openMemory};
 ghost use Rattle.release.specs.Stepping.{CardIn, HomesIn, GoodRelease, Counted, homeAt};
-ghost use Rattle.release.specs.Stepping.{afterStore, afterStep, recordWrite, pricesNext};
+ghost use Rattle.release.specs.Stepping.{afterStore, recordWrite, pricesNext};
 ghost use Rattle.release.specs.Stepping.{halfNext, numberNext, NumberedPrice};
 
 mod steps;
@@ -15,6 +16,7 @@ mod steps;
 use area::layout;
 use area::numbers;
 use diff::Price;
+use directory::Header;
 use reader::Found;
 pub use steps::make_steps;
 
@@ -125,26 +127,27 @@ fn home_at(primary: &[u32], secondary: &[u32], page: usize, at: u32) -> u32
 // the secondary, then at the primary. The price is number at / 2.
 fn step_price(
     memory: &mut [u32],
-    pages: u32,
-    live: &[bool],
+    header: Header,
     primary: &[u32],
     secondary: &[u32],
     p: Price,
     at: u32,
     half: usize,
 )
-    requires { ⌜ HomesIn (now live) pages (now primary) (now secondary) (length (now memory)) ⌝ }
-    requires { ⌜ (p .page < pages) × (p .word < pageSize) × (half ≤ pageSize) ⌝ }
+    requires { ⌜ HomesIn (header .live) (header .pages) (now primary) (now secondary)
+        (length (now memory)) ⌝ }
+    requires { ⌜ (p .page < header .pages) × (p .word < pageSize) × (half ≤ pageSize) ⌝ }
     ensures { λ _. ⌜ now (memory .exit)
-        ≡ makeWrite (now (live .entry)) (areaSize pages) (now (memory .entry))
+        ≡ makeWrite (header .live) (areaSize (header .pages)) (now (memory .entry))
         (writeOf (homeAt (now (primary .entry)) (now (secondary .entry)) at (p .page))
         (pageAt (p .page) + (half + p .word)) (p .price ∷ [])) ⌝ }
 {
-    let size = layout::area_size(pages);
+    let size = layout::area_size(header.pages);
+    let live = header.live;
     let page = p.page as usize;
     let home = home_at(primary, secondary, page, at) as usize;
     let word = half + p.word as usize;
-    write_price(memory, size, live, home, page, word, p.price);
+    write_price(memory, size, &live, home, page, word, p.price);
 }
 
 // Word j of the release's desk, in the even desk of its record at the backup if its number is
@@ -269,56 +272,55 @@ fn count_steps(memory: &mut [u32], size: usize, card: usize, steps: u32, more: u
 // The store of a step in the record at the backup: the nine between the prices, or the done mark.
 fn step_word(
     memory: &mut [u32],
-    pages: u32,
-    live: &[bool],
+    header: Header,
     backup: usize,
     card: usize,
     k: u32,
     steps: u32,
 )
-    requires { ⌜ CardIn (now live) (length (now memory)) (areaSize pages) card ⌝ }
-    requires { ⌜ CardIn (now live) (length (now memory)) (areaSize pages) backup ⌝ }
-    requires { ⌜ (pages ≤ 64) × (k ≡ length (openPrices pages (now memory) card))
+    requires { ⌜ CardIn (header .live) (length (now memory)) (areaSize (header .pages)) card ⌝ }
+    requires { ⌜ CardIn (header .live) (length (now memory)) (areaSize (header .pages)) backup ⌝ }
+    requires { ⌜ (header .pages ≤ 64) × (k ≡ length (openPrices (header .pages) (now memory) card))
         × (k < listSize) ⌝ }
     requires { ⌜ (steps < 4 * k + 10) × (pricesNext k steps ≡ 0) ⌝ }
     ensures { λ _. ⌜ ((primary : List ℕ) (secondary : List ℕ) → now (memory .exit)
-        ≡ afterStore pages (now (live .entry)) primary secondary backup (now (memory .entry)) card
+        ≡ afterStore (directoryBy header primary secondary) backup (now (memory .entry)) card
         steps) ⌝ }
 {
-    let size = layout::area_size(pages);
+    let size = layout::area_size(header.pages);
+    let live = header.live;
     if steps < 2 * k + 9 {
         let at = (steps - 2 * k) as usize;
-        step_record(memory, size, live, backup, card, at);
+        step_record(memory, size, &live, backup, card, at);
         return;
     }
     let done = layout::record_at(card) + layout::NUMBER_SIZE;
-    step_number(memory, size, live, backup, card, done);
+    step_number(memory, size, &live, backup, card, done);
 }
 
 // A step of a release of k prices that stores none: a store in the record, counted, or the close.
 fn other_step(
     memory: &mut [u32],
-    pages: u32,
-    live: &[bool],
+    header: Header,
     backup: usize,
     card: usize,
     k: u32,
     steps: u32,
 )
-    requires { ⌜ CardIn (now live) (length (now memory)) (areaSize pages) card ⌝ }
-    requires { ⌜ CardIn (now live) (length (now memory)) (areaSize pages) backup ⌝ }
-    requires { ⌜ (pages ≤ 64) × Counted pages (now memory) card k ⌝ }
-    requires { ⌜ (steps ≡ stepsOf (areaSize pages) (now memory) card) × (pricesNext k steps ≡ 0) ⌝ }
+    requires { ⌜ CardIn (header .live) (length (now memory)) (areaSize (header .pages)) card ⌝ }
+    requires { ⌜ CardIn (header .live) (length (now memory)) (areaSize (header .pages)) backup ⌝ }
+    requires { ⌜ (header .pages ≤ 64) × Counted (header .pages) (now memory) card k ⌝ }
+    requires { ⌜ (steps ≡ stepsOf (areaSize (header .pages)) (now memory) card)
+        × (pricesNext k steps ≡ 0) ⌝ }
     ensures { λ _. ⌜ ((primary : List ℕ) (secondary : List ℕ) → now (memory .exit)
-        ≡ afterStep pages (now (live .entry)) primary secondary backup (now (memory .entry))
-        card) ⌝ }
+        ≡ stepMemory (directoryBy header primary secondary) backup (now (memory .entry)) card) ⌝ }
 {
-    let size = layout::area_size(pages);
+    let size = layout::area_size(header.pages);
     if steps == 4 * k + 10 {
         close_release(memory, size, card);
         return;
     }
-    step_word(memory, pages, live, backup, card, k, steps);
+    step_word(memory, header, backup, card, k, steps);
     count_steps(memory, size, card, steps, 1);
 }
 
@@ -340,21 +342,22 @@ fn find_price(memory: &[u32], size: usize, pages: u32, card: usize, n: u32) -> P
 // Makes one step of the release that is open on a card.
 pub fn step_release(
     memory: &mut [u32],
-    pages: u32,
-    live: &[bool],
+    header: Header,
     primary: &[u32],
     secondary: &[u32],
     backup: usize,
     card: usize,
 )
-    requires { ⌜ HomesIn (now live) pages (now primary) (now secondary) (length (now memory)) ⌝ }
-    requires { ⌜ CardIn (now live) (length (now memory)) (areaSize pages) card ⌝ }
-    requires { ⌜ CardIn (now live) (length (now memory)) (areaSize pages) backup ⌝ }
-    requires { ⌜ GoodRelease pages (now memory) card ⌝ }
+    requires { ⌜ HomesIn (header .live) (header .pages) (now primary) (now secondary)
+        (length (now memory)) ⌝ }
+    requires { ⌜ CardIn (header .live) (length (now memory)) (areaSize (header .pages)) card ⌝ }
+    requires { ⌜ CardIn (header .live) (length (now memory)) (areaSize (header .pages)) backup ⌝ }
+    requires { ⌜ GoodRelease (header .pages) (now memory) card ⌝ }
     ensures { λ _. ⌜ now (memory .exit)
-        ≡ afterStep pages (now (live .entry)) (now (primary .entry)) (now (secondary .entry)) backup
+        ≡ stepMemory (directoryBy header (now (primary .entry)) (now (secondary .entry))) backup
         (now (memory .entry)) card ⌝ }
 {
+    let pages = header.pages;
     let size = layout::area_size(pages);
     let k = steps::count_prices(memory, size, pages, card);
     let steps = area::releases::steps_made(memory, size, card);
@@ -362,9 +365,9 @@ pub fn step_release(
         let at = number_next(k, steps);
         let p = find_price(memory, size, pages, card, at / 2);
         let half = half_next(k, steps);
-        step_price(memory, pages, live, primary, secondary, p, at, half);
+        step_price(memory, header, primary, secondary, p, at, half);
         count_steps(memory, size, card, steps, 1);
         return;
     }
-    other_step(memory, pages, live, backup, card, k, steps);
+    other_step(memory, header, backup, card, k, steps);
 }

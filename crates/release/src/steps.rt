@@ -1,13 +1,16 @@
 // Several steps of a release.
-ghost use Rattle.laws.specs.Prelude.{_≡_, ℕ, _+_, _-_, _*_, _<_, _≤_, length};
+ghost use Rattle.laws.specs.Prelude.{_≡_, _-_, _*_, _+_, _<_, _≤_, length};
 ghost use Prim.Native.Nat.{min};
+ghost use Rattle.directory.specs.Directory.{directoryBy};
 ghost use Rattle.area.specs.Prelude.{AreaIn, areaSize, pagesStart, listSize, stepsOf};
 ghost use Rattle.protocol.specs.Release.{stepsIn};
+ghost use Rattle.protocol.specs.Recovery.{stepTimes};
 ghost use Rattle.release.specs.Stepping.{CardIn, HomesIn, GoodRelease, Counted, StepsLeft};
-ghost use Rattle.release.specs.Stepping.{pricesNext, Listed, leftOf, listedPrice, afterSteps};
+ghost use Rattle.release.specs.Stepping.{pricesNext, Listed, leftOf, listedPrice};
 use area::layout;
 use diff::Price;
 use diff::Verdict;
+use directory::Header;
 
 // How many prices the release open on a card has.
 pub(crate) fn count_prices(memory: &[u32], size: usize, pages: u32, card: usize) -> u32
@@ -50,89 +53,95 @@ fn listed_price(labels: &[u32], prices: &[u32], n: usize) -> Price
     }
 }
 
-// Makes so many steps that store a price, one after the other, and counts them once: the area keeps
-// the old count while the prices are stored, and nobody looks at it before the call ends.
+// So many steps of the release open on a card, which has k prices; its record is at the backup.
+struct Run {
+    card: usize,
+    backup: usize,
+    k: u32,
+    count: u32,
+}
+
+// Makes steps that store a price, one after the other, and counts them once: the area keeps the old
+// count while the prices are stored, and nobody looks at it before the call ends.
 fn store_prices(
     memory: &mut [u32],
-    pages: u32,
-    live: &[bool],
+    header: Header,
     primary: &[u32],
     secondary: &[u32],
-    card: usize,
-    k: u32,
-    steps: u32,
-    count: u32,
+    run: Run,
     labels: &[u32],
     prices: &[u32],
 )
-    requires { ⌜ HomesIn (now live) pages (now primary) (now secondary) (length (now memory)) ⌝ }
-    requires { ⌜ CardIn (now live) (length (now memory)) (areaSize pages) card ⌝ }
-    requires { ⌜ StepsLeft pages (now memory) card k count ⌝ }
-    requires { ⌜ (steps ≡ stepsOf (areaSize pages) (now memory) card) × (0 < count)
-        × (count ≤ pricesNext k steps) ⌝ }
-    requires { ⌜ Listed pages (now memory) card (now labels) (now prices) ⌝ }
-    ensures { λ _. ⌜ ((backup : ℕ) → now (memory .exit)
-        ≡ afterSteps pages (now (live .entry)) (now (primary .entry)) (now (secondary .entry))
-        backup card count (now (memory .entry))) ⌝ }
+    requires { ⌜ HomesIn (header .live) (header .pages) (now primary) (now secondary)
+        (length (now memory)) ⌝ }
+    requires { ⌜ CardIn (header .live) (length (now memory)) (areaSize (header .pages))
+        (run .card) ⌝ }
+    requires { ⌜ StepsLeft (header .pages) (now memory) (run .card) (run .k) (run .count) ⌝ }
+    requires { ⌜ (0 < run .count)
+        × (run .count
+        ≤ pricesNext (run .k) (stepsOf (areaSize (header .pages)) (now memory) (run .card))) ⌝ }
+    requires { ⌜ Listed (header .pages) (now memory) (run .card) (now labels) (now prices) ⌝ }
+    ensures { λ _. ⌜ now (memory .exit)
+        ≡ stepTimes (directoryBy header (now (primary .entry)) (now (secondary .entry)))
+        (run .backup) (run .card) (run .count) (now (memory .entry)) ⌝ }
 {
-    let size = layout::area_size(pages);
-    let half = crate::half_next(k, steps);
-    let first = crate::number_next(k, steps);
+    let size = layout::area_size(header.pages);
+    let card = run.card;
+    let count = run.count;
+    let steps = area::releases::steps_made(memory, size, card);
+    let half = crate::half_next(run.k, steps);
+    let first = crate::number_next(run.k, steps);
     let mut made: u32 = 0;
     while made < count {
         let at = first + made;
         let p = listed_price(labels, prices, (at / 2) as usize);
-        crate::step_price(memory, pages, live, primary, secondary, p, at, half);
+        crate::step_price(memory, header, primary, secondary, p, at, half);
         made += 1;
     }
     crate::count_steps(memory, size, card, steps, count);
 }
 
-// Makes so many steps of a release of k prices, no more than it has left; its prices are listed.
+// Makes so many steps of a release, no more than it has left; its prices are listed.
 fn make_listed(
     memory: &mut [u32],
-    pages: u32,
-    live: &[bool],
+    header: Header,
     primary: &[u32],
     secondary: &[u32],
-    backup: usize,
-    card: usize,
-    k: u32,
-    steps: u32,
+    run: Run,
     labels: &[u32],
     prices: &[u32],
 )
-    requires { ⌜ HomesIn (now live) pages (now primary) (now secondary) (length (now memory)) ⌝ }
-    requires { ⌜ CardIn (now live) (length (now memory)) (areaSize pages) card ⌝ }
-    requires { ⌜ CardIn (now live) (length (now memory)) (areaSize pages) backup ⌝ }
-    requires { ⌜ StepsLeft pages (now memory) card k steps ⌝ }
-    requires { ⌜ Listed pages (now memory) card (now labels) (now prices) ⌝ }
+    requires { ⌜ HomesIn (header .live) (header .pages) (now primary) (now secondary)
+        (length (now memory)) ⌝ }
+    requires { ⌜ CardIn (header .live) (length (now memory)) (areaSize (header .pages))
+        (run .card) ⌝ }
+    requires { ⌜ CardIn (header .live) (length (now memory)) (areaSize (header .pages))
+        (run .backup) ⌝ }
+    requires { ⌜ StepsLeft (header .pages) (now memory) (run .card) (run .k) (run .count) ⌝ }
+    requires { ⌜ Listed (header .pages) (now memory) (run .card) (now labels) (now prices) ⌝ }
     ensures { λ _. ⌜ now (memory .exit)
-        ≡ afterSteps pages (now (live .entry)) (now (primary .entry)) (now (secondary .entry))
-        backup card steps (now (memory .entry)) ⌝ }
+        ≡ stepTimes (directoryBy header (now (primary .entry)) (now (secondary .entry)))
+        (run .backup) (run .card) (run .count) (now (memory .entry)) ⌝ }
 {
-    let size = layout::area_size(pages);
-    let mut left = steps;
+    let size = layout::area_size(header.pages);
+    let card = run.card;
+    let backup = run.backup;
+    let k = run.k;
+    let mut left = run.count;
     while 0 < left {
         let made = area::releases::steps_made(memory, size, card);
-        let run = smaller(left, crate::prices_next(k, made));
-        if 0 < run {
-            store_prices(
-                memory,
-                pages,
-                live,
-                primary,
-                secondary,
+        let count = smaller(left, crate::prices_next(k, made));
+        if 0 < count {
+            let next = Run {
                 card,
+                backup,
                 k,
-                made,
-                run,
-                labels,
-                prices,
-            );
-            left -= run;
+                count,
+            };
+            store_prices(memory, header, primary, secondary, next, labels, prices);
+            left -= count;
         } else {
-            crate::other_step(memory, pages, live, backup, card, k, made);
+            crate::other_step(memory, header, backup, card, k, made);
             left -= 1;
         }
     }
@@ -142,41 +151,36 @@ fn make_listed(
 // answers how many. Reads the list once.
 pub fn make_steps(
     memory: &mut [u32],
-    pages: u32,
-    live: &[bool],
+    header: Header,
     primary: &[u32],
     secondary: &[u32],
     backup: usize,
     card: usize,
     count: u32,
 ) -> u32
-    requires { ⌜ HomesIn (now live) pages (now primary) (now secondary) (length (now memory)) ⌝ }
-    requires { ⌜ CardIn (now live) (length (now memory)) (areaSize pages) card ⌝ }
-    requires { ⌜ CardIn (now live) (length (now memory)) (areaSize pages) backup ⌝ }
-    requires { ⌜ GoodRelease pages (now memory) card ⌝ }
-    ensures made { λ r. ⌜ r ≡ min count (leftOf pages (now (memory .entry)) card) ⌝ }
+    requires { ⌜ HomesIn (header .live) (header .pages) (now primary) (now secondary)
+        (length (now memory)) ⌝ }
+    requires { ⌜ CardIn (header .live) (length (now memory)) (areaSize (header .pages)) card ⌝ }
+    requires { ⌜ CardIn (header .live) (length (now memory)) (areaSize (header .pages)) backup ⌝ }
+    requires { ⌜ GoodRelease (header .pages) (now memory) card ⌝ }
+    ensures made { λ r. ⌜ r ≡ min count (leftOf (header .pages) (now (memory .entry)) card) ⌝ }
     ensures memory { λ r. ⌜ now (memory .exit)
-        ≡ afterSteps pages (now (live .entry)) (now (primary .entry)) (now (secondary .entry))
-        backup card r (now (memory .entry)) ⌝ }
+        ≡ stepTimes (directoryBy header (now (primary .entry)) (now (secondary .entry))) backup
+        card r (now (memory .entry)) ⌝ }
 {
+    let pages = header.pages;
     let size = layout::area_size(pages);
     let mut labels = [0u32; layout::LIST_SIZE];
     let mut prices = [0u32; layout::LIST_SIZE];
     let list = area::releases::open_list(memory, size, card);
     let k = reader::list_prices(list, pages, &mut labels, &mut prices);
     let steps = smaller(count, steps_left(memory, size, card, k));
-    make_listed(
-        memory,
-        pages,
-        live,
-        primary,
-        secondary,
-        backup,
+    let run = Run {
         card,
+        backup,
         k,
-        steps,
-        &labels,
-        &prices,
-    );
+        count: steps,
+    };
+    make_listed(memory, header, primary, secondary, run, &labels, &prices);
     steps
 }

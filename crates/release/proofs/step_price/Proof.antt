@@ -13,23 +13,21 @@ home-at-requires c κs =
 
 write-price-requires : tie.Need-write-price-requires
 write-price-requires c κs =
-    let sized = c .before .before .before .before in
-    let start = sized .before .before .before .before .before in
-    let a = start .args in
+    let homing = c .before .before .before in
+    let sized = homing .before .before .before in
+    let start = sized .before .before .before .before in
     let pre = start .pre in
-    rw (sized .area-size .ensures, c .before .before .home-at .ensures) (
-      home-in (a .pages) (a .live .now) (a .primary .now) (a .secondary .now) (pre .0) (a .at) _ (pre .1 .0),
-      (omega arith, omega arith, omega arith),
-    )
+    rw (sized .area-size .ensures, homing .home-at .ensures)
+    (home-in (pre .0) (start .args .at) _ (pre .1 .0), (omega arith, omega arith, omega arith))
 
 returns : tie.Need-returns
 returns c =
-    let homing = c .before .before .before .before .before in
-    let sized = homing .before .before in
+    let homing = c .before .before .before .before .before .before in
+    let sized = homing .before .before .before in
     rw (sized .area-size .ensures, homing .home-at .ensures) at (c .before .before .write-price .ensures)
 
 pub step-price-spec : {M : Type 1} → statement M
 step-price-spec =
     tie.close
     (tie.spec (λ c κs. search needs) (λ c. search needs) home-at-requires (λ c. search needs) (λ c. search needs)
-    (λ c. search needs) write-price-requires (λ c. search needs) returns)
+    (λ c. search needs) (λ c. search needs) write-price-requires (λ c. search needs) returns)

@@ -2,7 +2,7 @@
 use Prim.Native.Nat.{_/_}
 use native.Mathlib.Omega.{arith}
 use borrow.Author.Needs.{needs}
-use Rattle.release.specs.Stepping.{homesOf}
+use Rattle.directory.specs.Directory.{directoryBy}
 use Rattle.release.proofs.Halves.{next-price, half-bounds}
 use Rattle.release.proofs.Prices.{price-at}
 use Rattle.release.proofs.Stores.{price-due, step-counted}
@@ -11,7 +11,7 @@ use Rattle.release.proofs.step_release.Tie as tie
 
 count-prices-requires : tie.Need-count-prices-requires
 count-prices-requires c κs =
-    let start = c .before .before .before .before .before .before in
+    let start = c .before .before .before .before .before in
     let size = c .before .area-size .ensures in
     let pre = start .pre in
     ((size, rw size (pre .1 .0 .area)), pre .1 .1 .1)
@@ -19,7 +19,7 @@ count-prices-requires c κs =
 steps-made-requires : tie.Need-steps-made-requires
 steps-made-requires c κs =
     let sized = c .before .before .before in
-    let start = sized .before .before .before .before .before in
+    let start = sized .before .before .before .before in
     rw (sized .area-size .ensures) (omega arith, start .pre .1 .0 .area)
 
 prices-next-requires : tie.Need-prices-next-requires
@@ -34,7 +34,7 @@ number-next-requires c κs =
 find-price-requires : tie.Need-find-price-requires
 find-price-requires c κs =
     let sized = c .before .before .before .before .before .before .before .before in
-    let start = sized .before .before .before .before .before in
+    let start = sized .before .before .before .before in
     let size = sized .area-size .ensures in
     (size, rw size (start .pre .1 .0 .area))
 
@@ -47,14 +47,14 @@ step-price-requires c κs =
     let numbering = found .before .before in
     let nexts = numbering .before .before in
     let counting = nexts .before .before .before in
-    let start = counting .before .before .before .before .before .before .before in
+    let start = counting .before .before .before .before .before .before in
     let a = start .args in
     let counted = counting .count-prices .ensures in
     let k = counting .count-prices .result in
     let next = next-price k (nexts .before .steps-made .result) (omega (arith, nexts .prices-next .ensures)) in
     let bounds = half-bounds (next .half) in
     let price =
-    price-at (a .pages) (a .memory .now) (a .card) (numbering .number-next .result / 2) (found .find-price .result)
+    price-at (a .header .pages) (a .memory .now) (a .card) (numbering .number-next .result / 2) (found .find-price .result)
     (omega (arith, next .rest, numbering .number-next .ensures, counted .prices)) (found .find-price .ensures)
     in
     (start .pre .0, (price .on-page, price .in-page, omega (arith, bounds .1, c .before .half-next .ensures)))
@@ -64,7 +64,7 @@ count-steps-requires c κs =
     let loaded = c .before .before .before .before .before .before .before .before .before .before .before in
     let counting = loaded .before .before in
     let sized = counting .before .before in
-    let start = sized .before .before .before .before .before in
+    let start = sized .before .before .before .before in
     let counted = counting .count-prices .ensures in
     let made = rw (sized .area-size .ensures) at (loaded .steps-made .ensures) in
     let area = start .pre .1 .0 .area in
@@ -80,7 +80,7 @@ returns c =
     let loaded = nexts .before in
     let counting = loaded .before .before in
     let sized = counting .before .before in
-    let start = sized .before .before .before .before .before in
+    let start = sized .before .before .before .before in
     let a = start .args in
     let m = a .memory .now in
     let area = start .pre .1 .0 .area in
@@ -93,16 +93,15 @@ returns c =
     let next = next-price (counting .count-prices .result) steps (omega (arith, nexts .prices-next .ensures)) in
     let p = found .find-price .result in
     let price =
-    price-at (a .pages) m (a .card) (at / 2) p (omega (arith, next .rest, number, counted .prices))
+    price-at (a .header .pages) m (a .card) (at / 2) p (omega (arith, next .rest, number, counted .prices))
     (found .find-price .ensures)
     in
+    let d = directoryBy (a .header) (a .primary .now) (a .secondary .now) in
     let due =
-    price-due (a .pages) (a .live .now) (a .primary .now) (a .secondary .now) (a .backup) m (a .card) steps p at
-    {first = next .first} {half = halving .half-next .result} area (counted .prices)
-    (rw (halving .half-next .ensures) (next .half)) (omega (arith, next .at, number))
+    price-due d (a .backup) m (a .card) steps p at {first = next .first} {half = halving .half-next .result} area
+    (counted .prices) (rw (halving .half-next .ensures) (next .half)) (omega (arith, next .at, number))
     (omega (arith, next .rest, number)) price
     in
-    let d = homesOf (a .pages) (a .live .now) (a .primary .now) (a .secondary .now) in
     let first = half-bounds (next .half) .0 in
     step-counted d (a .backup) m (a .card) steps area made
     (omega (arith, next .at, next .rest, number, counted .prices, first)) due
@@ -114,7 +113,7 @@ other-step-requires c κs =
     let loaded = nexts .before in
     let counting = loaded .before .before in
     let sized = counting .before .before in
-    let start = sized .before .before .before .before .before in
+    let start = sized .before .before .before .before in
     let pre = start .pre in
     let made = rw (sized .area-size .ensures) at (loaded .steps-made .ensures) in (
       pre .1 .0,
