@@ -1,26 +1,54 @@
 -- Recovery: each part looks at that of the directory which it is lent.
-use Rattle.laws.proofs.Prelude.{ℕ, _≡_, refl, sym, ap, _∙_, List, Bool, true, set}
+use Rattle.laws.proofs.Prelude.{ℕ, zero, suc, _≡_, refl, sym, ap, _∙_, List, [], _∷_, Bool, true, set}
 use Rattle.laws.specs.Search.{inTurn}
 use Rattle.directory.specs.declared.Directory.{Directory}
-use Rattle.directory.specs.Directory.{backupOf}
+use Rattle.directory.specs.Directory.{primaryOf, secondaryOf, backupOf}
 use Rattle.area.specs.Prelude.{Release, writeOwnRecord}
-use Rattle.protocol.specs.Release.{sizeOf}
+use Rattle.diff.specs.declared.Price.{Price}
+use Rattle.protocol.specs.Release.{sizeOf, Write, priceWrite, priceWrites, releaseWrites, stepMemory}
 use Rattle.protocol.specs.Recovery.{restoreHome, restorePage, restorePages, lostHome, keptHome, newHome, copyToNewHome}
 use Rattle.protocol.specs.Recovery.{copyToNewHomes, writeFailed, writeRecords, runToClose, closeReleases, failedRelease}
-use Rattle.protocol.specs.Recovery.{restoredMemory, recoveredMemory, recoveredDirectory}
-use Rattle.release.proofs.Callers.{homes, times-by-homes}
-use Rattle.recovery.specs.Rack.{marksOf, backedBy}
+use Rattle.protocol.specs.Recovery.{restoredMemory, recoveredMemory, recoveredDirectory, stepTimes}
+use Rattle.recovery.specs.Rack.{marksOf, rackOf, backedBy}
 use Rattle.recovery.specs.Closing.{recoveredClosed}
 use Rattle.recovery.proofs.Turns.{in-turn-same}
 use Rattle.recovery.proofs.homes.Moves.{rack, all-moved}
 
+-- ---- the steps of a release look at pages, marks and homes alone
+
 module _ (d : Directory) where
-  same-page : (forward : Bool) (page : ℕ) (m : List ℕ)
-      → restorePage (homes d) forward page m ≡ restorePage d forward page m
+  same-prices : (half : ℕ) (ps : List Price) → priceWrites (rack d) half ps ≡ priceWrites d half ps
+  same-prices half [] = refl
+  same-prices half (p ∷ ps) =
+      ap (λ (rest : List Write). priceWrite (secondaryOf d) half p ∷ priceWrite (primaryOf d) half p ∷ rest)
+      (same-prices half ps)
+
+  same-writes : (backup c : ℕ) (r : Release) (ps : List Price)
+      → releaseWrites (rack d) backup c r ps ≡ releaseWrites d backup c r ps
+  unfolding releaseWrites
+  same-writes backup c r ps = simp same-prices
+
+  same-step : (backup : ℕ) (m : List ℕ) (c : ℕ) → stepMemory (rack d) backup m c ≡ stepMemory d backup m c
+  unfolding stepMemory
+  same-step backup m c = simp same-writes
+
+  same-times : (backup c n : ℕ) (m : List ℕ) → stepTimes (rack d) backup c n m ≡ stepTimes d backup c n m
+  unfolding stepTimes
+  same-times backup c zero m = refl
+  same-times backup c (suc n) m = rw (same-step backup m c) (same-times backup c n _)
+
+-- ---- each part of recovery
+
+module _ (d : Directory) where
+  -- pages, marks and homes
+  abbrev homes : Directory
+  homes = rackOf 0 (d .pages) (d .live) (d .primary) (d .secondary)
+
+  same-page : (forward : Bool) (page : ℕ) (m : List ℕ) → restorePage homes forward page m ≡ restorePage d forward page m
   unfolding restorePage restoreHome
   same-page forward page m = refl
 
-  pub same-pages : (forward : Bool) (m : List ℕ) → restorePages (homes d) forward m ≡ restorePages d forward m
+  pub same-pages : (forward : Bool) (m : List ℕ) → restorePages homes forward m ≡ restorePages d forward m
   unfolding restorePages
   same-pages forward m = in-turn-same _ _ (same-page forward) (d .pages) m
 
@@ -49,7 +77,7 @@ module _ (d : Directory) where
 
     same-run : (c : ℕ) (m : List ℕ) → runToClose (rack d) f c m ≡ runToClose d f c m
     unfolding runToClose
-    same-run c m = rw (← times-by-homes (rack d), times-by-homes d)
+    same-run c m = rw (same-times d)
 
     same-closed : (m : List ℕ) → closeReleases (rack d) f m ≡ closeReleases d f m
     unfolding closeReleases

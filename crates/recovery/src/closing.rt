@@ -1,42 +1,16 @@
 // Open releases, each run to its close.
 ghost use Rattle.laws.specs.Prelude.{_≡_, true, _<_, length};
 ghost use Rattle.area.specs.Prelude.{isOpen, areaSize};
-ghost use Rattle.protocol.specs.Recovery.{backupBefore, stepTimes, runToClose, closeReleases};
-ghost use Rattle.release.specs.Stepping.{CardIn, HomesIn, GoodRelease, homesOf, leftOf};
+ghost use Rattle.protocol.specs.Recovery.{backupBefore, runToClose, closeReleases};
+ghost use Rattle.release.specs.Stepping.{HomesIn, GoodRelease};
 ghost use Rattle.recovery.specs.Closing.{ReleasesIn};
 ghost use Rattle.recovery.specs.Rack.{RackIn, marksOf, rackOf};
 use crate::records;
+use directory::Header;
+use directory::Status;
 
-// Makes all the steps that the release open on a card has left.
-fn run_release(
-    memory: &mut [u32],
-    pages: u32,
-    live: &[bool],
-    primary: &[u32],
-    secondary: &[u32],
-    backup: usize,
-    card: usize,
-)
-    requires { ⌜ HomesIn (now live) pages (now primary) (now secondary) (length (now memory)) ⌝ }
-    requires { ⌜ CardIn (now live) (length (now memory)) (areaSize pages) card ⌝ }
-    requires { ⌜ CardIn (now live) (length (now memory)) (areaSize pages) backup ⌝ }
-    requires { ⌜ GoodRelease pages (now memory) card ⌝ }
-    ensures { λ _. ⌜ now (memory .exit)
-        ≡ stepTimes
-        (homesOf pages (now (live .entry)) (now (primary .entry)) (now (secondary .entry))) backup
-        card (leftOf pages (now (memory .entry)) card) (now (memory .entry)) ⌝ }
-{
-    release::make_steps(
-        memory,
-        pages,
-        live,
-        primary,
-        secondary,
-        backup,
-        card,
-        0xFFFFFFFF,
-    );
-}
+// A count past all the steps that a release can have left.
+const ALL_STEPS: u32 = 0xFFFFFFFF;
 
 // The backup of a card from before the failure.
 fn backup_before(live: [bool; 8], cards: u32, failed: u32, card: u32) -> u32
@@ -70,7 +44,13 @@ fn run_to_close(
     let at = card as usize;
     if area::releases::is_open(memory, area::layout::area_size(pages), &live, at) {
         let backup = backup_before(live, cards, failed, card) as usize;
-        run_release(memory, pages, &live, primary, secondary, backup, at);
+        let header = Header {
+            cards,
+            pages,
+            live,
+            status: Status::Running,
+        };
+        release::make_steps(memory, header, primary, secondary, backup, at, ALL_STEPS);
     }
 }
 

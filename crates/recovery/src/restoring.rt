@@ -3,8 +3,8 @@
 ghost use Rattle.laws.specs.Prelude.{_≡_, _<_, _≤_, length};
 ghost use Rattle.area.specs.Prelude.{areaSize};
 ghost use Rattle.protocol.specs.Recovery.{restoreHome, restorePage, restorePages};
-ghost use Rattle.release.specs.Stepping.{CardIn, HomesIn, homesOf};
-ghost use Rattle.recovery.specs.Rack.{marksOf};
+ghost use Rattle.release.specs.Stepping.{CardIn, HomesIn};
+ghost use Rattle.recovery.specs.Rack.{marksOf, rackOf};
 use area::layout;
 
 // On a live home of a page: tentative to committed, or back.
@@ -48,7 +48,7 @@ fn restore_page(
     requires { ⌜ page < pages ⌝ }
     ensures { λ _. ⌜ now (memory .exit)
         ≡ restorePage
-        (homesOf pages (now (live .entry)) (now (primary .entry)) (now (secondary .entry)))
+        (rackOf 0 pages (now (live .entry)) (now (primary .entry)) (now (secondary .entry)))
         forward page (now (memory .entry)) ⌝ }
 {
     let second = secondary[page] as usize;
@@ -69,7 +69,7 @@ pub(crate) fn restore_pages(
     requires { ⌜ HomesIn (now live) pages (now primary) (now secondary) (length (now memory)) ⌝ }
     ensures { λ _. ⌜ now (memory .exit)
         ≡ restorePages
-        (homesOf pages (now (live .entry)) (now (primary .entry)) (now (secondary .entry)))
+        (rackOf 0 pages (now (live .entry)) (now (primary .entry)) (now (secondary .entry)))
         forward (now (memory .entry)) ⌝ }
 {
     for page in 0..pages {

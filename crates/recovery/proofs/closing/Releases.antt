@@ -9,7 +9,6 @@ use Rattle.area.proofs.Prelude.{area-in, SameOwn, same-own-release, is-open-kep
 use Rattle.protocol.specs.Release.{sizeOf, stepMemory}
 use Rattle.protocol.specs.Recovery.{backupBefore, stepTimes, runToClose}
 use Rattle.release.specs.Stepping.{CardIn, GoodRelease, StepsLeft, leftOf}
-use Rattle.release.proofs.Callers.{homes, times-by-homes}
 use Rattle.release.proofs.Kept.{step-keeps-others}
 use Rattle.release.proofs.Left.{same-own, same-then, good-kept, counted, all-left, left-after}
 use Rattle.recovery.specs.Rack.{RackIn}
@@ -46,10 +45,9 @@ module _ (d : Directory) (f c : ℕ) (few : c < 8) (m : List ℕ) (area : AreaIn
 
 module _ (d : Directory) (f c : ℕ) (m : List ℕ) where
   pub run-opened : isOpen (d .live) (sizeOf d) m c ≡ true
-      → stepTimes (homes d) (backupBefore d f c) c (leftOf (d .pages) m c) m
-      ≡ runToClose d f c m
+      → stepTimes d (backupBefore d f c) c (leftOf (d .pages) m c) m ≡ runToClose d f c m
   unfolding runToClose
-  run-opened opened = rw opened (times-by-homes d (backupBefore d f c) c _ m)
+  run-opened opened = rw opened
 
   pub run-shut : isOpen (d .live) (sizeOf d) m c ≡ false → m ≡ runToClose d f c m
   unfolding runToClose
