@@ -1,5 +1,6 @@
 -- What a call leaves, by the outcome that its checks reach: a refusal leaves all as it was.
 use Rattle.laws.proofs.Prelude.{ℕ, _<_, _≡_, refl, sym, _∙_, _≢_, List, [], true, eq-eqb, ne-eqb, not-false, length}
+use Rattle.laws.proofs.Bools.{by-cond}
 use Rattle.answer.specs.declared.Outcome.{Outcome}
 use Rattle.answer.specs.Outcome.{given, refused}
 use Rattle.directory.specs.declared.Directory.{Directory}
@@ -7,7 +8,7 @@ use Rattle.directory.specs.Directory.{backupOf, markedLive}
 use Rattle.area.specs.Prelude.{zeros, deskSize, Release}
 use Rattle.protocol.specs.Release.{sizeOf, stepMemory}
 use Rattle.protocol.specs.Checks.{Check, firstRefusal, awaitsRecovery}
-use Rattle.protocol.specs.Result.{Result, resultOf}
+use Rattle.protocol.specs.Result.{Result, resultOf, accepted}
 use Rattle.protocol.specs.Calls.{opening, openingChecks, step, stepChecks, fetch, fetchChecks, failure, failureChecks}
 use Rattle.protocol.specs.Calls.{recovery, recoveryChecks, join, joinChecks, deskQuestion, deskChecks}
 use Rattle.protocol.specs.Opening.{openMemory}
@@ -16,10 +17,10 @@ use Rattle.protocol.specs.Failure.{failedDirectory}
 use Rattle.protocol.specs.Recovery.{recoveredDirectory, recoveredMemory, failedRelease, awaitedCard}
 use Rattle.protocol.specs.Join.{joinedMemory}
 use Rattle.protocol.specs.DeskQuestion.{deskOf}
-use Rattle.protocol.proofs.checks.Outcome.{Passed, numbered, all-passed}
 use Rattle.protocol.proofs.checks.ByCall.{Runs, OpeningPassed, StepPassed, FetchPassed, Fits, JoinPassed, join-passed}
 use Rattle.protocol.proofs.checks.ByCall.{opening-passed, step-passed, fetch-passed, desk-passed}
-use Rattle.checks.proofs.Order.{refused-before, passed-before, no-check}
+use Rattle.checks.proofs.Order.{refused-first, passed-first, no-check}
+use Rattle.checks.proofs.Passing.{all-pass}
 
 -- ---- any call
 
@@ -32,10 +33,6 @@ module _ {first o : Outcome} (reached : first ≡ o) (done : Outcome → Result)
 
   accepted-does : first .number ≡ 0 → resultOf o (done o) d m words ≡ done first
   accepted-does none = rw (← reached) (rw (eq-eqb _ _ none))
-
-all-pass : (cs : List Check) → numbered cs ≡ true → {first : Outcome} → first ≡ firstRefusal cs 0 → first .number ≡ 0
-    → Passed cs
-all-pass cs real reached none = all-passed cs 0 real (rw (← reached) (eq-eqb _ _ none))
 
 -- ---- each call
 
@@ -66,6 +63,13 @@ module _ (d : Directory) (m : List ℕ) where
 
     pub step-facts : first .number ≡ 0 → StepPassed d m c
     step-facts none = step-passed d m c (all-pass (stepChecks d m c) refl reached none)
+
+  pub fetch-keeps : (page : ℕ) (buffer : List ℕ) → fetch d m page buffer .directory ≡ d
+  unfolding fetch
+  fetch-keeps page buffer =
+      let o = firstRefusal (fetchChecks d m page (length buffer)) 0 in
+      by-cond (λ (r : Result). r .directory ≡ d) (accepted o) (resultIs o d m (committedPage d m page))
+      (resultIs o d m buffer) (λ _. refl) (λ _. refl)
 
   module _ (page : ℕ) (buffer : List ℕ) {first : Outcome}
       (reached : first ≡ firstRefusal (fetchChecks d m page (length buffer)) 0) where
@@ -114,8 +118,7 @@ module _ (d : Directory) (m : List ℕ) where
     pub join-facts : first .number ≡ 0 → JoinPassed d m x
     join-facts none = join-passed d m x (all-pass (joinChecks d m x) refl reached none)
 
-  -- recovery's checks come to a number alone, since the stamp that it answers is not known to them
-  module _ {number : ℕ} (reached : number ≡ firstRefusal (recoveryChecks d m) 0 .number) where
+  module _ {first : Outcome} (reached : first ≡ firstRefusal (recoveryChecks d m) 0) where
     abbrev failed : ℕ
     failed = awaitedCard (d .status)
 
@@ -125,19 +128,18 @@ module _ (d : Directory) (m : List ℕ) where
     abbrev stamp : ℕ
     stamp = failedRelease d failed m .number
 
-    pub recovery-refused : number ≢ 0 → recovery d m ≡ resultIs (refused number) d m (zeros deskSize)
+    pub recovery-refused : first .number ≢ 0 → recovery d m ≡ resultIs first d m (zeros deskSize)
     unfolding recovery
     recovery-refused some =
-        let first = refused-before [] stamp (recoveryChecks d m) refl reached some in
-        refused-keeps (sym first) done d m (zeros deskSize) some
+        refused-keeps (sym (refused-first [] stamp (recoveryChecks d m) refl reached some)) done d m (zeros deskSize) some
 
-    pub recovery-accepted : number ≡ 0 → recovery d m ≡ done (given stamp)
+    pub recovery-accepted : first .number ≡ 0 → recovery d m ≡ done (given stamp)
     unfolding recovery
     recovery-accepted none =
-        let first = passed-before [] stamp (recoveryChecks d m) refl reached none ∙ no-check stamp in
-        accepted-does (sym first) done d m (zeros deskSize) refl
+        let passed = passed-first [] stamp (recoveryChecks d m) refl reached none ∙ no-check stamp in
+        accepted-does (sym passed) done d m (zeros deskSize) refl
 
-    pub recovery-facts : number ≡ 0 → Fits d m × (awaitsRecovery (d .status) ≡ true)
+    pub recovery-facts : first .number ≡ 0 → Fits d m × (awaitsRecovery (d .status) ≡ true)
     recovery-facts none =
-        let p = all-passed (recoveryChecks d m) 0 refl (eq-eqb _ 0 (sym reached ∙ none)) in
+        let p = all-pass (recoveryChecks d m) refl reached none in
         (record { limits = p .0; fit = p .1 .0 }, not-false (awaitsRecovery (d .status)) (p .1 .1 .0))

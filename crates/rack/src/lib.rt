@@ -1,19 +1,17 @@
 // The calls of the rack (document 01). Each takes the lent memory and the directory, and answers
 // on any of them: it refuses by number and place, and a refusal changes no word of what was lent.
-ghost use Rattle.laws.specs.Prelude.{_≡_, [], _*_, _<_, _≤_, length};
+ghost use Rattle.laws.specs.Prelude.{_≡_, _<_, length};
 ghost use Rattle.answer.specs.Outcome.{answerOf};
-ghost use Rattle.answer.specs.declared.Answer.the-variants.{Refused};
-ghost use Rattle.directory.specs.declared.Status.the-variants.{Running};
-ghost use Rattle.directory.specs.Directory.{nextLive, directoryOf};
-ghost use Rattle.area.specs.Prelude.{zeros, areaSize, deskSize, releaseOf};
-ghost use Rattle.protocol.specs.Calls.{formatting, opening, openingChecks, step, fetch, failure};
+ghost use Rattle.directory.specs.Directory.{nextLiveOf, headerOf, directoryBy, FullHomes};
+ghost use Rattle.area.specs.Prelude.{zeros, deskSize, releaseOf, MemoryOf};
+ghost use Rattle.protocol.specs.Calls.{formatting, opening, step, fetch, failure};
 ghost use Rattle.protocol.specs.Calls.{recovery, join, deskQuestion};
-ghost use Rattle.protocol.specs.Checks.{firstRefusal};
 ghost use Rattle.protocol.specs.Recovery.{awaitedCard};
 ghost use Rattle.protocol.specs.DeskQuestion.{deskOf};
 use answer::Answer;
 use answer::Outcome;
 use directory::Directory;
+use directory::Header;
 use directory::Status;
 
 // What a call hands back.
@@ -49,38 +47,6 @@ pub fn format_rack(memory: &mut [u32], cards: u32, pages: u32) -> Reply
     Reply { directory, answer }
 }
 
-// The first refusal of an opening, or the number 0.
-fn opening_refusal(
-    memory: &[u32],
-    directory: Directory,
-    card: u32,
-    number: u32,
-    list: &[u32],
-) -> Outcome
-    ensures { λ r. ⌜ r
-        ≡ firstRefusal
-        (openingChecks directory (now (memory .entry)) card number (now (list .entry))) 0 ⌝ }
-{
-    let cards = directory.cards;
-    let pages = directory.pages;
-    let live = directory.live;
-    let primary = directory.primary;
-    let secondary = directory.secondary;
-    let status = directory.status;
-    refusals::opening(
-        memory,
-        cards,
-        pages,
-        &live,
-        &primary,
-        &secondary,
-        status,
-        card,
-        number,
-        list,
-    )
-}
-
 // Opens a release on a card: its number, its desk and its list of changes.
 pub fn open_release(
     memory: &mut [u32],
@@ -101,7 +67,16 @@ pub fn open_release(
         ≡ opening directory (now (memory .entry)) card (releaseOf number desk)
         (now (list .entry)) .memory ⌝ }
 {
-    let first = opening_refusal(memory, directory, card, number, list);
+    let header = directory.header();
+    let first = refusals::opening(
+        memory,
+        header,
+        &directory.primary,
+        &directory.secondary,
+        card,
+        number,
+        list,
+    );
     let answer = answer::answer_of(first);
     if first.number != 0 {
         return Reply { directory, answer };
@@ -120,20 +95,12 @@ pub fn make_step(memory: &mut [u32], directory: Directory, card: u32) -> Reply
     ensures memory { λ _. ⌜ now (memory .exit)
         ≡ step directory (now (memory .entry)) card .memory ⌝ }
 {
-    let cards = directory.cards;
-    let pages = directory.pages;
-    let live = directory.live;
-    let primary = directory.primary;
-    let secondary = directory.secondary;
-    let status = directory.status;
+    let header = directory.header();
     let first = refusals::step(
         memory,
-        cards,
-        pages,
-        &live,
-        &primary,
-        &secondary,
-        status,
+        header,
+        &directory.primary,
+        &directory.secondary,
         card,
     );
     let answer = answer::answer_of(first);
@@ -142,11 +109,49 @@ pub fn make_step(memory: &mut [u32], directory: Directory, card: u32) -> Reply
     }
     let backup = directory.backup(card) as usize;
     let at = card as usize;
-    release::step_release(memory, pages, &live, &primary, &secondary, backup, at);
+    release::step_release(
+        memory,
+        header,
+        &directory.primary,
+        &directory.secondary,
+        backup,
+        at,
+    );
     Reply { directory, answer }
 }
 
-// Copies the committed page at its primary into the buffer.
+// Copies the committed page at its primary into the buffer: the call for those who hold a directory
+// as its header and homes, and lend these.
+pub fn fetch_lent<'a>(
+    memory: &[u32],
+    header: Header,
+    primary: &'a [u32],
+    secondary: &'a [u32],
+    page: u32,
+    buffer: &mut [u32],
+) -> Answer
+    requires { ⌜ FullHomes (now primary) (now secondary) ⌝ }
+    ensures answer { λ r. ⌜ r
+        ≡ answerOf
+        (fetch (directoryBy header (now (primary .entry)) (now (secondary .entry)))
+        (now (memory .entry)) page (now (buffer .entry)) .outcome) ⌝ }
+    ensures buffer { λ _. ⌜ now (buffer .exit)
+        ≡ fetch (directoryBy header (now (primary .entry)) (now (secondary .entry)))
+        (now (memory .entry)) page (now (buffer .entry)) .words ⌝ }
+{
+    let first = refusals::fetch(memory, header, primary, secondary, page, buffer.len());
+    let answer = answer::answer_of(first);
+    if first.number != 0 {
+        return answer;
+    }
+    let size = area::layout::area_size(header.pages);
+    let at = page as usize;
+    let home = primary[at] as usize;
+    area::pages::load_committed(memory, size, home, at, buffer);
+    answer
+}
+
+// The same, of a directory that is handed in and handed back.
 pub fn fetch_page(memory: &[u32], directory: Directory, page: u32, buffer: &mut [u32]) -> Reply
     ensures answer { λ r. ⌜ r .answer
         ≡ answerOf
@@ -156,54 +161,16 @@ pub fn fetch_page(memory: &[u32], directory: Directory, page: u32, buffer: &mut 
     ensures buffer { λ _. ⌜ now (buffer .exit)
         ≡ fetch directory (now (memory .entry)) page (now (buffer .entry)) .words ⌝ }
 {
-    let cards = directory.cards;
-    let pages = directory.pages;
-    let live = directory.live;
-    let primary = directory.primary;
-    let secondary = directory.secondary;
-    let status = directory.status;
-    let first = refusals::fetch(
+    let header = directory.header();
+    let answer = fetch_lent(
         memory,
-        cards,
-        pages,
-        &live,
-        &primary,
-        &secondary,
-        status,
+        header,
+        &directory.primary,
+        &directory.secondary,
         page,
-        buffer.len(),
+        buffer,
     );
-    let answer = answer::answer_of(first);
-    if first.number != 0 {
-        return Reply { directory, answer };
-    }
-    let size = area::layout::area_size(pages);
-    let at = page as usize;
-    let home = primary[at] as usize;
-    area::pages::load_committed(memory, size, home, at, buffer);
     Reply { directory, answer }
-}
-
-// The directory of a rack, by its parts. A field that is an enum is not stored to: the struct is
-// made anew.
-fn rack_of(
-    cards: u32,
-    pages: u32,
-    live: [bool; 8],
-    primary: [u32; 64],
-    secondary: [u32; 64],
-    status: Status,
-) -> Directory
-    ensures { λ r. ⌜ r ≡ directoryOf cards pages live primary secondary status ⌝ }
-{
-    Directory {
-        cards,
-        pages,
-        live,
-        primary,
-        secondary,
-        status,
-    }
 }
 
 // Marks a card dead; its recovery is awaited.
@@ -213,20 +180,12 @@ pub fn fail_card(memory: &[u32], directory: Directory, card: u32) -> Reply
     ensures directory { λ r. ⌜ r .directory
         ≡ failure directory (now (memory .entry)) card .directory ⌝ }
 {
-    let cards = directory.cards;
-    let pages = directory.pages;
-    let live = directory.live;
-    let primary = directory.primary;
-    let secondary = directory.secondary;
-    let status = directory.status;
+    let header = directory.header();
     let first = refusals::failure(
         memory,
-        cards,
-        pages,
-        &live,
-        &primary,
-        &secondary,
-        status,
+        header,
+        &directory.primary,
+        &directory.secondary,
         card,
     );
     let answer = answer::answer_of(first);
@@ -234,9 +193,8 @@ pub fn fail_card(memory: &[u32], directory: Directory, card: u32) -> Reply
         return Reply { directory, answer };
     }
     let dead = directory.mark_dead(card);
-    let marks = dead.live;
     let awaiting = Status::Awaiting(card);
-    let failed = rack_of(cards, pages, marks, primary, secondary, awaiting);
+    let failed = dead.with_status(awaiting);
     Reply {
         directory: failed,
         answer,
@@ -254,12 +212,12 @@ fn awaited_card(status: Status) -> u32
 }
 
 // What a recovery hands back that is refused.
-fn refused_recovery(directory: Directory, number: u32) -> DeskReply
-    ensures answer { λ r. ⌜ r .answer ≡ Refused number 0 ⌝ }
+fn refused_recovery(directory: Directory, first: Outcome) -> DeskReply
+    ensures answer { λ r. ⌜ r .answer ≡ answerOf first ⌝ }
     ensures directory { λ r. ⌜ r .directory ≡ directory ⌝ }
     ensures desk { λ r. ⌜ r .desk ≡ zeros deskSize ⌝ }
 {
-    let answer = Answer::Refused(number, 0);
+    let answer = answer::answer_of(first);
     let desk = [0u32; area::layout::DESK_SIZE];
     DeskReply {
         directory,
@@ -279,16 +237,22 @@ pub fn recover_card(memory: &mut [u32], directory: Directory) -> DeskReply
     ensures memory { λ _. ⌜ now (memory .exit)
         ≡ recovery directory (now (memory .entry)) .memory ⌝ }
 {
-    let cards = directory.cards;
-    let pages = directory.pages;
-    let live = directory.live;
-    let mut primary = directory.primary;
-    let mut secondary = directory.secondary;
-    let status = directory.status;
-    let first = refusals::recovery(memory, cards, pages, &live, &primary, &secondary, status);
-    if first != 0 {
+    let header = directory.header();
+    let first = refusals::recovery(
+        memory,
+        header,
+        &directory.primary,
+        &directory.secondary,
+    );
+    if first.number != 0 {
         return refused_recovery(directory, first);
     }
+    let cards = header.cards;
+    let pages = header.pages;
+    let live = header.live;
+    let status = header.status;
+    let mut primary = directory.primary;
+    let mut secondary = directory.secondary;
     let failed = awaited_card(status);
     let mut desk = [0u32; area::layout::DESK_SIZE];
     let number = recovery::recover_memory(
@@ -301,7 +265,14 @@ pub fn recover_card(memory: &mut [u32], directory: Directory) -> DeskReply
         failed,
         &mut desk,
     );
-    let recovered = rack_of(cards, pages, live, primary, secondary, Status::Running);
+    let recovered = Directory {
+        cards,
+        pages,
+        live,
+        primary,
+        secondary,
+        status: Status::Running,
+    };
     let answer = Answer::Given(number as u64);
     DeskReply {
         directory: recovered,
@@ -319,27 +290,20 @@ pub fn join_card(memory: &mut [u32], directory: Directory, card: u32) -> Reply
     ensures memory { λ _. ⌜ now (memory .exit)
         ≡ join directory (now (memory .entry)) card .memory ⌝ }
 {
-    let cards = directory.cards;
-    let pages = directory.pages;
-    let live = directory.live;
-    let primary = directory.primary;
-    let secondary = directory.secondary;
-    let status = directory.status;
+    let header = directory.header();
     let first = refusals::join(
         memory,
-        cards,
-        pages,
-        &live,
-        &primary,
-        &secondary,
-        status,
+        header,
+        &directory.primary,
+        &directory.secondary,
         card,
     );
     let answer = answer::answer_of(first);
     if first.number != 0 {
         return Reply { directory, answer };
     }
-    recovery::join_memory(memory, cards, pages, live, card);
+    let live = header.live;
+    recovery::join_memory(memory, header.cards, header.pages, live, card);
     let joined = directory.mark_live(card);
     Reply {
         directory: joined,
@@ -348,21 +312,20 @@ pub fn join_card(memory: &mut [u32], directory: Directory, card: u32) -> Reply
 }
 
 // Copies the own desk of a live card, or the desk that a dead card's record has.
-fn load_desk(memory: &[u32], cards: u32, pages: u32, live: &[bool], card: u32, desk: &mut [u32])
-    requires { ⌜ (pages ≤ 64) × (length (now memory) ≡ cards * areaSize pages) ⌝ }
-    requires { ⌜ (cards ≤ 8) × (cards ≤ length (now live)) × (length (now desk) ≡ 8) ⌝ }
-    requires { ⌜ (card < cards) × (nextLive (now live) cards card < cards) ⌝ }
-    ensures { λ _. ⌜ now (desk .exit)
-        ≡ deskOf (directoryOf cards pages (now (live .entry)) [] [] Running)
-        (now (memory .entry)) card ⌝ }
+fn load_desk(memory: &[u32], directory: Directory, card: u32, desk: &mut [u32])
+    requires { ⌜ MemoryOf (headerOf directory) (length (now memory)) ⌝ }
+    requires { ⌜ (card < directory .cards) × (nextLiveOf directory card < directory .cards) ⌝ }
+    requires { ⌜ length (now desk) ≡ deskSize ⌝ }
+    ensures { λ _. ⌜ now (desk .exit) ≡ deskOf directory (now (memory .entry)) card ⌝ }
 {
-    let size = area::layout::area_size(pages);
+    let size = area::layout::area_size(directory.pages);
     let at = card as usize;
-    if live[at] {
+    let header = directory.header();
+    if header.is_live(card) {
         memory::load_run(memory, size, at, area::layout::OWN_DESK, desk);
         return;
     }
-    let holder = directory::next_live_after(live, cards, card) as usize;
+    let holder = directory.next_live(card) as usize;
     area::records::load_record(memory, size, holder, at, desk);
 }
 
@@ -375,26 +338,18 @@ pub fn ask_desk(memory: &[u32], directory: Directory, card: u32) -> DeskReply
     ensures desk { λ r. ⌜ r .desk
         ≡ deskQuestion directory (now (memory .entry)) card .words ⌝ }
 {
-    let cards = directory.cards;
-    let pages = directory.pages;
-    let live = directory.live;
-    let primary = directory.primary;
-    let secondary = directory.secondary;
-    let status = directory.status;
+    let header = directory.header();
     let first = refusals::desk_question(
         memory,
-        cards,
-        pages,
-        &live,
-        &primary,
-        &secondary,
-        status,
+        header,
+        &directory.primary,
+        &directory.secondary,
         card,
     );
     let answer = answer::answer_of(first);
     let mut desk = [0u32; area::layout::DESK_SIZE];
     if first.number == 0 {
-        load_desk(memory, cards, pages, &live, card, &mut desk);
+        load_desk(memory, directory, card, &mut desk);
     }
     DeskReply {
         directory,

@@ -58,11 +58,11 @@ fn number_refusal(
     list_refusal(memory, header, card, list)
 }
 
-pub fn opening(
+pub fn opening<'a>(
     memory: &[u32],
     header: Header,
-    primary: &[u32],
-    secondary: &[u32],
+    primary: &'a [u32],
+    secondary: &'a [u32],
     card: u32,
     number: u32,
     list: &[u32],
@@ -83,11 +83,11 @@ pub fn opening(
 
 // ---- the other calls
 
-pub fn step(
+pub fn step<'a>(
     memory: &[u32],
     header: Header,
-    primary: &[u32],
-    secondary: &[u32],
+    primary: &'a [u32],
+    secondary: &'a [u32],
     card: u32,
 ) -> Outcome
     requires { ⌜ FullHomes (now primary) (now secondary) ⌝ }
@@ -137,11 +137,11 @@ fn page_refusal(
 }
 
 // `room`: how many words the page buffer has.
-pub fn fetch(
+pub fn fetch<'a>(
     memory: &[u32],
     header: Header,
-    primary: &[u32],
-    secondary: &[u32],
+    primary: &'a [u32],
+    secondary: &'a [u32],
     page: u32,
     room: usize,
 ) -> Outcome
@@ -159,11 +159,11 @@ pub fn fetch(
     checks::last_check(room != area::layout::PAGE_SIZE, answer::WRONG_BUFFER)
 }
 
-pub fn failure(
+pub fn failure<'a>(
     memory: &[u32],
     header: Header,
-    primary: &[u32],
-    secondary: &[u32],
+    primary: &'a [u32],
+    secondary: &'a [u32],
     card: u32,
 ) -> Outcome
     requires { ⌜ FullHomes (now primary) (now secondary) ⌝ }
@@ -180,11 +180,11 @@ pub fn failure(
     checks::last_check(checks::count_live(header) <= 2, answer::TWO_LIVE)
 }
 
-pub fn desk_question(
+pub fn desk_question<'a>(
     memory: &[u32],
     header: Header,
-    primary: &[u32],
-    secondary: &[u32],
+    primary: &'a [u32],
+    secondary: &'a [u32],
     card: u32,
 ) -> Outcome
     requires { ⌜ FullHomes (now primary) (now secondary) ⌝ }
@@ -198,11 +198,11 @@ pub fn desk_question(
 }
 
 // An accepted recovery answers a stamp, which is not known yet.
-pub fn recovery(
+pub fn recovery<'a>(
     memory: &[u32],
     header: Header,
-    primary: &[u32],
-    secondary: &[u32],
+    primary: &'a [u32],
+    secondary: &'a [u32],
 ) -> Outcome
     requires { ⌜ FullHomes (now primary) (now secondary) ⌝ }
     ensures { λ r. ⌜ r
@@ -222,11 +222,11 @@ pub fn recovery(
     )
 }
 
-pub fn join(
+pub fn join<'a>(
     memory: &[u32],
     header: Header,
-    primary: &[u32],
-    secondary: &[u32],
+    primary: &'a [u32],
+    secondary: &'a [u32],
     card: u32,
 ) -> Outcome
     requires { ⌜ FullHomes (now primary) (now secondary) ⌝ }

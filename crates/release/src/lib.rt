@@ -340,11 +340,11 @@ fn find_price(memory: &[u32], size: usize, pages: u32, card: usize, n: u32) -> P
 }
 
 // Makes one step of the release that is open on a card.
-pub fn step_release(
+pub fn step_release<'a>(
     memory: &mut [u32],
     header: Header,
-    primary: &[u32],
-    secondary: &[u32],
+    primary: &'a [u32],
+    secondary: &'a [u32],
     backup: usize,
     card: usize,
 )

@@ -1,10 +1,8 @@
 -- Rests on its checks: a refused question gives zeros, an accepted one finds a card and one that is live after it.
-use mathlib.Core.Path.{_≡_, refl}
-use native.Mathlib.Omega.{arith}
-use borrow.Author.Needs.{needs, length-unmapped}
-use lib.ListN.{length}
+use mathlib.Core.Path.{refl}
+use borrow.Author.Needs.{needs}
 use Rattle.memory.specs.Words.{zeros}
-use Rattle.protocol.specs.DeskQuestion.{deskOf}
+use Rattle.checks.proofs.Passing.{memory-of}
 use Rattle.rack.proofs.ValidRack.{valid-rack}
 use Rattle.rack.proofs.Results.{desk-facts, desk-refused, desk-accepted}
 use Rattle.rack.proofs.ask_desk.Statement.{statement}
@@ -12,31 +10,24 @@ use Rattle.rack.proofs.ask_desk.Tie as tie
 
 load-desk-requires : tie.Need-load-desk-requires
 load-desk-requires c κs =
-    let test = c .before .before in
+    let test = c .before in
     let first = test .before .before .before in
-    let start = first .before .before .before .before .before .before .before .before in
-    let a = start .args in
-    let d = a .directory in
-    let m = a .memory .now in
-    let arrays = start .good .1 .0 .1 .1 .1 .1 in
-    let marks : length (d .live) ≡ 8 = length-unmapped _ (d .live) 8 (arrays .0 .1 .0 .1) in
-    let passed = desk-facts d m (a .card) (first .desk-question .ensures) (test .if1 .taken) in
+    let taken = first .before .before .before .before .before .before in
+    let a = taken .before .before .args in
+    let reached = rw (taken .header .ensures) at (first .desk-question .ensures) in
+    let passed = desk-facts (a .t2) (a .memory .now) (a .card) reached (test .if1 .taken) in
     let fit = valid-rack (passed .0 .fits) in
-    let within = fit .within in
-    let next = fit .next-below (a .card) in
-    ((within .pages-most, within .whole), ((within .cards-most, omega arith, search needs), (passed .1, next)))
+    (memory-of (fit .within), ((passed .1, fit .next-below (a .card)), search needs))
 
 returns : tie.Need-returns
-unfolding deskOf
 returns c =
-    let test = c .before .before .before .before in
+    let test = c .before .before .before in
     let answered = test .before .before in
     let first = answered .before in
-    let start = first .before .before .before .before .before .before .before .before in
-    let a = start .args in
-    let d = a .directory in
-    let m = a .memory .now in
-    rw (desk-accepted d m (a .card) (first .desk-question .ensures) (test .if1 .taken))
+    let taken = first .before .before .before .before .before .before in
+    let a = taken .before .before .args in
+    let reached = rw (taken .header .ensures) at (first .desk-question .ensures) in
+    rw (desk-accepted (a .t2) (a .memory .now) (a .card) reached (test .if1 .taken))
     (answered .answer-of .ensures, (refl, c .before .load-desk .ensures))
 
 returns-2 : tie.Need-returns-2
@@ -44,15 +35,14 @@ unfolding zeros
 returns-2 c =
     let answered = c .before .before in
     let first = answered .before in
-    let start = first .before .before .before .before .before .before .before .before in
-    let a = start .args in
-    let d = a .directory in
-    let m = a .memory .now in
-    rw (desk-refused d m (a .card) (first .desk-question .ensures) (c .if1 .left))
+    let taken = first .before .before .before .before .before .before in
+    let a = taken .before .before .args in
+    let reached = rw (taken .header .ensures) at (first .desk-question .ensures) in
+    rw (desk-refused (a .t2) (a .memory .now) (a .card) reached (c .if1 .left))
     (answered .answer-of .ensures, (refl, refl))
 
 pub ask-desk-spec : {M : Type 1} → statement M
 ask-desk-spec =
     tie.close
-    (tie.spec (λ c. search needs) (λ c. search needs) (λ c. search needs) (λ c κs. search needs)
-    (λ c κs. search needs) (λ c. search needs) (λ c. search needs) load-desk-requires returns returns-2)
+    (tie.spec (λ c κs. search needs) (λ c κs. search needs) (λ c κs. search needs) (λ c. search needs)
+    load-desk-requires returns returns-2)

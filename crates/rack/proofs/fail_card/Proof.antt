@@ -9,26 +9,27 @@ returns : tie.Need-returns
 returns c =
     let answered = c .before .before in
     let first = answered .before in
-    let a = first .before .before .before .before .before .before .before .before .args in
-    let d = a .directory in
-    let m = a .memory .now in
-    rw (failure-refused d m (a .card) (first .failure .ensures) (c .if1 .taken)) (answered .answer-of .ensures, refl)
+    let taken = first .before .before .before .before .before .before in
+    let a = taken .before .before .args in
+    let reached = rw (taken .header .ensures) at (first .failure .ensures) in
+    rw (failure-refused (a .t2) (a .memory .now) (a .card) reached (c .if1 .taken))
+    (answered .answer-of .ensures, refl)
 
 returns-2 : tie.Need-returns-2
 returns-2 c =
-    let dead = c .before .before in
+    let dead = c .before in
     let test = dead .before in
     let answered = test .before .before in
     let first = answered .before in
-    let a = first .before .before .before .before .before .before .before .before .args in
-    let d = a .directory in
-    let m = a .memory .now in
-    let failed = rw (dead .mark-dead .ensures) at (c .rack-of .ensures) in
-    rw (failure-accepted d m (a .card) (first .failure .ensures) (test .if1 .left))
+    let taken = first .before .before .before .before .before .before in
+    let a = taken .before .before .args in
+    let reached = rw (taken .header .ensures) at (first .failure .ensures) in
+    let failed = rw (dead .mark-dead .ensures) at (c .with-status .ensures) in
+    rw (failure-accepted (a .t2) (a .memory .now) (a .card) reached (test .if1 .left))
     (answered .answer-of .ensures, failed)
 
 pub fail-card-spec : {M : Type 1} → statement M
 fail-card-spec =
     tie.close
-    (tie.spec (λ c. search needs) (λ c. search needs) (λ c. search needs) (λ c κs. search needs)
-    (λ c κs. search needs) returns (λ c κs. search needs) (λ c κs. search needs) returns-2)
+    (tie.spec (λ c κs. search needs) (λ c κs. search needs) (λ c κs. search needs) returns (λ c κs. search needs)
+    (λ c κs. search needs) returns-2)

@@ -1,94 +1,19 @@
--- Rests on its checks: a refused fetch leaves the buffer, an accepted one finds its page and a primary that is a card.
+-- Rests on `fetch_lent`; a fetch keeps the directory.
+use mathlib.Core.Path.{sym}
 use borrow.Author.Needs.{needs}
-use mathlib.Core.Path.{refl}
-use native.Mathlib.Omega.{arith}
-use Rattle.memory.proofs.Index.{area-in}
-use Rattle.protocol.specs.Fetch.{committedPage}
-use Rattle.rack.proofs.ValidRack.{valid-rack}
-use Rattle.rack.proofs.Results.{fetch-facts, fetch-refused, fetch-accepted}
+use Rattle.rack.proofs.Results.{fetch-keeps}
 use Rattle.rack.proofs.fetch_page.Statement.{statement}
 use Rattle.rack.proofs.fetch_page.Tie as tie
 
 returns : tie.Need-returns
 returns c =
-    let answered = c .before .before in
-    let first = answered .before in
-    let start = first .before .before .before .before .before .before .before .before .before in
-    let a = start .args in
-    let d = a .directory in
-    let m = a .memory .now in
-    rw (fetch-refused d m (a .page) (a .buffer .now) (first .fetch .ensures) (c .if1 .taken))
-    (answered .answer-of .ensures, (refl, refl))
-
-area-size-requires : tie.Need-area-size-requires
-area-size-requires c κs =
-    let first = c .before .before .before in
-    let start = first .before .before .before .before .before .before .before .before .before in
-    let a = start .args in
-    let d = a .directory in
-    let m = a .memory .now in
-    let passed = fetch-facts d m (a .page) (a .buffer .now) (first .fetch .ensures) (c .if1 .left) in
-    omega (arith, valid-rack (passed .runs .fits) .within .pages-most)
-
-array-read-home : tie.Need-array-read-home
-array-read-home c =
-    let test = c .before in
-    let first = test .before .before .before in
-    let start = first .before .before .before .before .before .before .before .before .before in
-    let a = start .args in
-    let d = a .directory in
-    let m = a .memory .now in
-    let passed = fetch-facts d m (a .page) (a .buffer .now) (first .fetch .ensures) (test .if1 .left) in
-    let fit = valid-rack (passed .runs .fits) in
-    search needs
-
-cast-home : tie.Need-cast-home
-cast-home c =
-    let test = c .before in
-    let first = test .before .before .before in
-    let start = first .before .before .before .before .before .before .before .before .before in
-    let a = start .args in
-    let d = a .directory in
-    let m = a .memory .now in
-    let passed = fetch-facts d m (a .page) (a .buffer .now) (first .fetch .ensures) (test .if1 .left) in
-    let fit = valid-rack (passed .runs .fits) in
-    omega (arith, fit .primary-below (a .page) (passed .page-below), fit .within .cards-most)
-
-load-committed-requires : tie.Need-load-committed-requires
-load-committed-requires c κs =
-    let sized = c .before in
-    let test = sized .before in
-    let first = test .before .before .before in
-    let start = first .before .before .before .before .before .before .before .before .before in
-    let a = start .args in
-    let d = a .directory in
-    let m = a .memory .now in
-    let passed = fetch-facts d m (a .page) (a .buffer .now) (first .fetch .ensures) (test .if1 .left) in
-    let fit = valid-rack (passed .runs .fits) in
-    let primary = area-in _ (fit .primary-below (a .page) (passed .page-below)) (fit .within .whole) in
-    let few = fit .within .pages-most in
-    rw (sized .area-size .ensures) (omega arith, ((omega arith, omega arith), passed .room-is))
-
-returns-2 : tie.Need-returns-2
-unfolding committedPage
-returns-2 c =
-    let loaded = c .before .before in
-    let sized = loaded .before .before in
-    let test = sized .before in
-    let answered = test .before .before in
-    let first = answered .before in
-    let start = first .before .before .before .before .before .before .before .before .before in
-    let a = start .args in
-    let d = a .directory in
-    let m = a .memory .now in
-    let passed = fetch-facts d m (a .page) (a .buffer .now) (first .fetch .ensures) (test .if1 .left) in
-    let words = rw (sized .area-size .ensures) at (loaded .load-committed .ensures) in
-    rw (fetch-accepted d m (a .page) (a .buffer .now) (first .fetch .ensures) (test .if1 .left))
-    (answered .answer-of .ensures, (refl, words))
+    let fetched = c .before .before in
+    let taken = fetched .before .before .before .before .before .before .before in
+    let a = taken .before .before .before .args in
+    let done = rw (taken .header .ensures) at (fetched .fetch-lent .ensures) in
+    (done .0, (sym (fetch-keeps (a .t2) (a .memory .now) (a .page) (a .buffer .now)), done .1))
 
 pub fetch-page-spec : {M : Type 1} → statement M
 fetch-page-spec =
     tie.close
-    (tie.spec (λ c. search needs) (λ c. search needs) (λ c. search needs) (λ c κs. search needs)
-    (λ c κs. search needs) returns area-size-requires (λ c. search needs) array-read-home cast-home
-    load-committed-requires (λ c. search needs) returns-2)
+    (tie.spec (λ c κs. search needs) (λ c κs. search needs) (λ c. search needs) returns)

@@ -12,41 +12,44 @@ returns : tie.Need-returns
 returns c =
     let answered = c .before .before in
     let first = answered .before in
-    let start = first .before .before .before .before .before .before .before .before .before in
-    let a = start .args in
-    let d = a .directory in
-    let m = a .memory .now in
-    rw (join-refused d m (a .card) (first .join .ensures) (c .if1 .taken)) (answered .answer-of .ensures, (refl, refl))
+    let taken = first .before .before .before .before .before .before .before in
+    let a = taken .before .before .args in
+    let reached = rw (taken .header .ensures) at (first .join .ensures) in
+    rw (join-refused (a .t2) (a .memory .now) (a .card) reached (c .if1 .taken))
+    (answered .answer-of .ensures, (refl, refl))
 
 join-memory-requires : tie.Need-join-memory-requires
 join-memory-requires c κs =
-    let first = c .before .before .before .before in
-    let start = first .before .before .before .before .before .before .before .before .before in
+    let test = c .before .before in
+    let first = test .before .before .before in
+    let taken = first .before .before .before .before .before .before .before in
+    let start = taken .before .before in
     let a = start .args in
-    let d = a .directory in
-    let m = a .memory .now in
+    let d = a .t2 in
     let arrays = start .good .1 .0 .1 .1 .1 .1 in
     let marks : length (d .live) ≡ 8 = length-unmapped _ (d .live) 8 (arrays .0 .1 .0 .1) in
-    let passed = join-facts d m (a .card) (first .join .ensures) (c .before .if1 .left) in
+    let reached = rw (taken .header .ensures) at (first .join .ensures) in
+    let passed = join-facts d (a .memory .now) (a .card) reached (test .if1 .left) in
     let fit = valid-rack (passed .runs .fits) in
-    (rack-in d m fit marks, (fit .some, passed .below))
+    rw (taken .header .ensures) (rack-in d (a .memory .now) fit marks, (fit .some, passed .below))
 
 returns-2 : tie.Need-returns-2
 returns-2 c =
     let joining = c .before .before .before in
-    let test = joining .before .before in
+    let test = joining .before .before .before in
     let answered = test .before .before in
     let first = answered .before in
-    let start = first .before .before .before .before .before .before .before .before .before in
-    let a = start .args in
-    let d = a .directory in
+    let taken = first .before .before .before .before .before .before .before in
+    let a = taken .before .before .args in
+    let d = a .t2 in
     let m = a .memory .now in
-    rw (join-accepted d m (a .card) (first .join .ensures) (test .if1 .left))
-    (answered .answer-of .ensures, (c .mark-live .ensures, joining .join-memory .ensures ∙ same-joined d (a .card) m))
+    let reached = rw (taken .header .ensures) at (first .join .ensures) in
+    let joined = rw (taken .header .ensures) at (joining .join-memory .ensures) in
+    rw (join-accepted d m (a .card) reached (test .if1 .left))
+    (answered .answer-of .ensures, (c .mark-live .ensures, joined ∙ same-joined d (a .card) m))
 
 pub join-card-spec : {M : Type 1} → statement M
 join-card-spec =
     tie.close
-    (tie.spec (λ c. search needs) (λ c. search needs) (λ c. search needs) (λ c κs. search needs)
-    (λ c κs. search needs) (λ c. search needs) returns join-memory-requires (λ c κs. search needs)
-    (λ c. search needs) returns-2)
+    (tie.spec (λ c κs. search needs) (λ c κs. search needs) (λ c κs. search needs) (λ c. search needs) returns
+    join-memory-requires (λ c κs. search needs) (λ c. search needs) returns-2)
