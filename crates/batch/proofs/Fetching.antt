@@ -8,15 +8,15 @@ use lib.Seq.{length-sets}
 use Rattle.laws.specs.Search.{lowest, inTurn, someBelow}
 use Rattle.laws.proofs.Bools.{by-cond}
 use Rattle.laws.proofs.Lists.{sets-self}
-use Rattle.answer.specs.Outcome.{given, refused, refusedAt, pageInMotion}
+use Rattle.answer.specs.declared.Outcome.{Outcome}
+use Rattle.answer.specs.Outcome.{given, refusedAt, pageInMotion}
 use Rattle.directory.specs.declared.Directory.{Directory}
 use Rattle.area.specs.Prelude.{pageSize}
 use Rattle.protocol.specs.Checks.{firstRefusal, awaitsRecovery}
 use Rattle.protocol.specs.Fetch.{inMotion, fetchChecks, committedPage}
 use Rattle.protocol.proofs.checks.ByCall.{Runs, desk-passed}
-use Rattle.protocol.proofs.checks.Outcome.{all-passed}
 use Rattle.protocol.proofs.checks.Limits.{within-limits}
-use Rattle.checks.proofs.Order.{by-number}
+use Rattle.checks.proofs.Passing.{all-pass}
 use Rattle.conflict.specs.Motion.{markMotion}
 use Rattle.conflict.proofs.InMotion.{motion-marked}
 use Rattle.rack.proofs.Results.{fetch-refused, fetch-accepted}
@@ -96,39 +96,41 @@ module _ (d : Directory) (m : List ℕ) where
         rw (pages-shown n s (omega arith) long)
         (next-shown n (inTurn (showNext moving d m) n s) (omega arith) (pages-length n s ∙ long))
 
--- ---- the whole call, by the number that its checks come to
+-- ---- the whole call, by the outcome that its checks come to
 
 pub record AllPassed (d : Directory) (m : List ℕ) (room : ℕ) : Type 0 where
   pub runs : Runs d m
   pub room-is : room ≡ pageSize * d .pages
 
-module _ (d : Directory) (m buffer : List ℕ) {number : ℕ}
-    (reached : number ≡ firstRefusal (fetchAllChecks d m (length buffer)) 0 .number) where
-  pub all-refused : number ≢ 0 → fetchAll d m buffer ≡ fetchedTo (refused number) d (fetchedPages buffer noneShown)
+module _ (d : Directory) (m buffer : List ℕ) where
+  pub all-keep : fetchAll d m buffer .directory ≡ d
   unfolding fetchAll
-  all-refused some =
-      rw (by-number (fetchAllChecks d m (length buffer)) refl reached) (rw (ne-eqb number 0 some))
+  all-keep = refl
 
-  -- 1, 2 and 11 are passed as a desk question on card 0 passes them
-  pub all-facts : number ≡ 0 → AllPassed d m (length buffer)
-  all-facts none =
-      let p = all-passed (fetchAllChecks d m (length buffer)) 0 refl (eq-eqb _ 0 (sym reached ∙ none)) in
-      let some = within-limits (length m) (d .cards) (d .pages) (p .0) .cards-least in
-      record {
-        runs = desk-passed d m 0 (p .0, (p .1 .0, (p .1 .1 .0, (lt-leb (d .cards) 0 (omega arith), tt)))) .0;
-        room-is =
-            eqb-true (length buffer) _ (not-false (eqb (length buffer) (pageSize * d .pages)) (p .1 .1 .1 .0));
-      }
+  module _ {first : Outcome} (reached : first ≡ firstRefusal (fetchAllChecks d m (length buffer)) 0) where
+    pub all-refused : first .number ≢ 0 → fetchAll d m buffer ≡ fetchedTo first d (fetchedPages buffer noneShown)
+    unfolding fetchAll
+    all-refused some = rw (← reached) (rw (ne-eqb (first .number) 0 some))
 
-  pub all-accepted : number ≡ 0
-      → fetchAll d m buffer
-      ≡ fetchedTo (given 0) d (inTurn (showNext (movingOf d m) d m) (d .pages) (fetchedPages buffer noneShown))
-  unfolding fetchAll
-  all-accepted none =
-      let passed = all-facts none in
-      let first = rw none at (by-number (fetchAllChecks d m (length buffer)) refl reached) in
-      rw (
-        first,
-        pages-shown d m (passed .runs) (d .pages) (fetchedPages buffer noneShown) (omega arith)
-            (passed .room-is),
-      )
+    -- 1, 2 and 11 are passed as a desk question on card 0 passes them
+    pub all-facts : first .number ≡ 0 → AllPassed d m (length buffer)
+    all-facts none =
+        let p = all-pass (fetchAllChecks d m (length buffer)) refl reached none in
+        let some = within-limits (length m) (d .cards) (d .pages) (p .0) .cards-least in
+        record {
+          runs = desk-passed d m 0 (p .0, (p .1 .0, (p .1 .1 .0, (lt-leb (d .cards) 0 (omega arith), tt)))) .0;
+          room-is =
+              eqb-true (length buffer) _ (not-false (eqb (length buffer) (pageSize * d .pages)) (p .1 .1 .1 .0));
+        }
+
+    pub all-accepted : first .number ≡ 0
+        → fetchAll d m buffer
+        ≡ fetchedTo first d (inTurn (showNext (movingOf d m) d m) (d .pages) (fetchedPages buffer noneShown))
+    unfolding fetchAll
+    all-accepted none =
+        let passed = all-facts none in
+        rw (← reached)
+        (rw (
+          eq-eqb (first .number) 0 none,
+          pages-shown d m (passed .runs) (d .pages) (fetchedPages buffer noneShown) (omega arith) (passed .room-is),
+        ))

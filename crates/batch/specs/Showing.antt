@@ -2,11 +2,9 @@
 -- before the first is copied, and each other page's words are its committed ones. `FetchAll` says what the call is to
 -- come to.
 -- Assumes nothing: these are definitions.
-use Rattle.laws.specs.Prelude.{ℕ, _*_, _<_, _≤_, List, [], Bool, false, cond, not, length, getD, set}
+use Rattle.laws.specs.Prelude.{ℕ, _*_, _<_, _≤_, List, Bool, false, cond, not, length, getD, set}
 use lib.Seq.{sets}
 use Rattle.directory.specs.declared.Directory.{Directory}
-use Rattle.directory.specs.declared.Status.the-variants.{Running}
-use Rattle.directory.specs.Directory.{directoryOf}
 use Rattle.area.specs.Prelude.{pageSize}
 use Rattle.protocol.specs.Fetch.{committedPage}
 use Rattle.batch.specs.FetchAll.{FetchedPages, fetchedPages}
@@ -19,10 +17,6 @@ wordsAfter moving d m page words =
 abbrev pub showNext : List Bool → Directory → List ℕ → ℕ → FetchedPages → FetchedPages
 showNext moving d m page s =
     fetchedPages (wordsAfter moving d m page (s .words)) (set (s .shown) page (not (getD moving page false)))
-
--- a directory as far as that looks at it: pages and primary homes
-abbrev pub primariesOf : ℕ → List ℕ → Directory
-primariesOf pages primary = directoryOf 0 pages [] primary [] Running
 
 -- each page has a primary home that is a card
 pub record PrimariesIn (cards pages : ℕ) (primary : List ℕ) : Type 0 where

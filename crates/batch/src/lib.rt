@@ -1,24 +1,24 @@
 // Several calls in one. Each answers and leaves what the single calls, made one after the other,
 // would; inside, the rack is checked once.
-ghost use Rattle.laws.specs.Prelude.{_≡_, false, not, _*_, _<_, _≤_, length, getD};
+ghost use Rattle.laws.specs.Prelude.{_≡_, ℕ, List, false, not, _*_, _<_, length, getD};
 ghost use Prim.Native.Nat.{min};
 ghost use Rattle.laws.specs.Search.{inTurn};
 ghost use Rattle.answer.specs.Outcome.{answerOf};
-ghost use Rattle.directory.specs.Directory.{backupOf};
-ghost use Rattle.area.specs.Prelude.{areaSize};
+ghost use Rattle.directory.specs.Directory.{backupOf, directoryBy, FullHomes};
+ghost use Rattle.area.specs.Prelude.{pageSize, MemoryOf};
 ghost use Rattle.protocol.specs.Release.{sizeOf};
 ghost use Rattle.protocol.specs.Checks.{firstRefusal};
-ghost use Rattle.protocol.specs.Step.{stepChecks};
 ghost use Rattle.protocol.specs.Recovery.{stepTimes};
 ghost use Rattle.release.specs.Stepping.{CardIn, HomesIn, GoodRelease, leftOf};
 ghost use Rattle.batch.specs.Steps.{steps, stoppedAt};
 ghost use Rattle.batch.specs.FetchAll.{fetchAllChecks, fetchAll, fetchedPages};
-ghost use Rattle.batch.specs.Showing.{wordsAfter, showNext, primariesOf, PrimariesIn};
+ghost use Rattle.batch.specs.Showing.{wordsAfter, showNext, PrimariesIn};
 ghost use Rattle.batch.specs.Demand1.{BatchedDemand1};
 use answer::Answer;
 use answer::Outcome;
 use area::layout;
 use directory::Directory;
+use directory::Header;
 
 // ---- steps
 
@@ -41,44 +41,12 @@ fn make_steps(memory: &mut [u32], directory: Directory, card: u32, count: u32) -
     ensures memory { λ r. ⌜ now (memory .exit)
         ≡ stepTimes directory (backupOf directory card) card r (now (memory .entry)) ⌝ }
 {
-    let pages = directory.pages;
-    let live = directory.live;
+    let header = directory.header();
     let primary = directory.primary;
     let secondary = directory.secondary;
     let backup = directory.backup(card) as usize;
     let at = card as usize;
-    release::make_steps(
-        memory,
-        pages,
-        &live,
-        &primary,
-        &secondary,
-        backup,
-        at,
-        count,
-    )
-}
-
-// The first refusal of a step, or the number 0.
-fn step_refusal(memory: &[u32], directory: Directory, card: u32) -> Outcome
-    ensures { λ r. ⌜ r ≡ firstRefusal (stepChecks directory (now (memory .entry)) card) 0 ⌝ }
-{
-    let cards = directory.cards;
-    let pages = directory.pages;
-    let live = directory.live;
-    let primary = directory.primary;
-    let secondary = directory.secondary;
-    let status = directory.status;
-    refusals::step(
-        memory,
-        cards,
-        pages,
-        &live,
-        &primary,
-        &secondary,
-        status,
-        card,
-    )
+    release::make_steps(memory, header, &primary, &secondary, backup, at, count)
 }
 
 // All steps asked for are made, or no release is open for the next one.
@@ -109,7 +77,14 @@ pub fn steps(memory: &mut [u32], directory: Directory, card: u32, count: u32) ->
             answer,
         };
     }
-    let first = step_refusal(memory, directory, card);
+    let header = directory.header();
+    let first = refusals::step(
+        memory,
+        header,
+        &directory.primary,
+        &directory.secondary,
+        card,
+    );
     if first.number != 0 {
         let answer = answer::answer_of(first);
         return StepsReply {
@@ -129,57 +104,53 @@ pub fn steps(memory: &mut [u32], directory: Directory, card: u32, count: u32) ->
 
 // ---- fetches
 
-// Which pages were shown: none if the call is refused.
-pub struct FetchAllReply {
-    pub directory: Directory,
-    pub answer: Answer,
-    pub shown: [bool; 64],
-}
-
-// 1, 2, 11, and 17 of a buffer that has not 32 words for each page; 0 if none.
-fn fetch_refusal(memory: &[u32], directory: Directory, room: usize) -> u32
+// 1, 2, 11, and 17 of a buffer that has not 32 words for each page.
+fn fetch_refusal(
+    memory: &[u32],
+    header: Header,
+    primary: &[u32],
+    secondary: &[u32],
+    room: usize,
+) -> Outcome
+    requires { ⌜ FullHomes (now primary) (now secondary) ⌝ }
     ensures { λ r. ⌜ r
-        ≡ firstRefusal (fetchAllChecks directory (now (memory .entry)) room) 0 .number ⌝ }
+        ≡ firstRefusal
+        (fetchAllChecks (directoryBy header (now (primary .entry)) (now (secondary .entry)))
+        (now (memory .entry)) room)
+        0 ⌝ }
 {
-    let cards = directory.cards;
-    let pages = directory.pages;
-    let live = directory.live;
-    let primary = directory.primary;
-    let secondary = directory.secondary;
-    let status = directory.status;
-    let first = checks::running_refusal(memory, cards, pages, &live, &primary, &secondary, status);
-    if first != 0 {
+    let first = checks::running_refusal(memory, header, primary, secondary);
+    if first.number != 0 {
         return first;
     }
-    if room != layout::PAGE_SIZE * (pages as usize) {
-        return answer::WRONG_BUFFER;
-    }
-    0
+    let whole = layout::PAGE_SIZE * (header.pages as usize);
+    checks::last_check(room != whole, answer::WRONG_BUFFER)
 }
 
 // Copies a page into its part of the buffer, unless it is in motion: whether it is shown.
 fn fetch_next(
     memory: &[u32],
-    cards: u32,
-    pages: u32,
+    header: Header,
     primary: &[u32],
     moving: &[bool],
     page: u32,
     buffer: &mut [u32],
 ) -> bool
-    requires { ⌜ (pages ≤ 64) × (length (now memory) ≡ cards * areaSize pages) ⌝ }
-    requires { ⌜ (length (now moving) ≡ 64) × (page < pages) × (page < length (now primary)) ⌝ }
-    requires { ⌜ (getD (now primary) page 0 < cards) × (length (now buffer) ≡ 32 * pages) ⌝ }
+    requires { ⌜ MemoryOf header (length (now memory)) ⌝ }
+    requires { ⌜ (length (now moving) ≡ 64) × (page < header .pages)
+        × (page < length (now primary)) ⌝ }
+    requires { ⌜ (getD (now primary) page 0 < header .cards)
+        × (length (now buffer) ≡ pageSize * header .pages) ⌝ }
     ensures shown { λ r. ⌜ r ≡ not (getD (now (moving .entry)) page false) ⌝ }
-    ensures buffer { λ _. ⌜ now (buffer .exit)
-        ≡ wordsAfter (now (moving .entry)) (primariesOf pages (now (primary .entry)))
-        (now (memory .entry)) page (now (buffer .entry)) ⌝ }
+    ensures buffer { λ _. ⌜ ((secondary : List ℕ) → now (buffer .exit)
+        ≡ wordsAfter (now (moving .entry)) (directoryBy header (now (primary .entry)) secondary)
+        (now (memory .entry)) page (now (buffer .entry))) ⌝ }
 {
     let at = page as usize;
     if moving[at] {
         return false;
     }
-    let size = layout::area_size(pages);
+    let size = layout::area_size(header.pages);
     let home = primary[at] as usize;
     let from = layout::PAGE_SIZE * at;
     let end = from + layout::PAGE_SIZE;
@@ -190,31 +161,72 @@ fn fetch_next(
 // Copies each page that is not in motion.
 fn fetch_pages(
     memory: &[u32],
-    cards: u32,
-    pages: u32,
+    header: Header,
     primary: &[u32],
     moving: &[bool],
     buffer: &mut [u32],
     shown: &mut [bool],
 )
-    requires { ⌜ (pages ≤ 64) × (length (now memory) ≡ cards * areaSize pages) ⌝ }
-    requires { ⌜ (length (now moving) ≡ 64) × PrimariesIn cards pages (now primary) ⌝ }
-    requires { ⌜ (length (now buffer) ≡ 32 * pages) × (length (now shown) ≡ 64) ⌝ }
-    ensures { λ _. ⌜ fetchedPages (now (buffer .exit)) (now (shown .exit))
+    requires { ⌜ MemoryOf header (length (now memory)) ⌝ }
+    requires { ⌜ (length (now moving) ≡ 64)
+        × PrimariesIn (header .cards) (header .pages) (now primary) ⌝ }
+    requires { ⌜ (length (now buffer) ≡ pageSize * header .pages) × (length (now shown) ≡ 64) ⌝ }
+    ensures { λ _. ⌜ ((secondary : List ℕ) → fetchedPages (now (buffer .exit)) (now (shown .exit))
         ≡ inTurn
-        (showNext (now (moving .entry)) (primariesOf pages (now (primary .entry)))
+        (showNext (now (moving .entry)) (directoryBy header (now (primary .entry)) secondary)
         (now (memory .entry)))
-        pages (fetchedPages (now (buffer .entry)) (now (shown .entry))) ⌝ }
+        (header .pages) (fetchedPages (now (buffer .entry)) (now (shown .entry)))) ⌝ }
 {
-    for page in 0..pages {
-        let seen = fetch_next(memory, cards, pages, primary, moving, page, buffer);
+    for page in 0..header.pages {
+        let seen = fetch_next(memory, header, primary, moving, page, buffer);
         let at = page as usize;
         shown[at] = seen;
     }
 }
 
+// The answer, and which pages were shown: none if the call is refused.
+pub struct FetchAllAnswer {
+    pub answer: Answer,
+    pub shown: [bool; 64],
+}
+
 // Fetches every page into its part of one buffer of 32 words for each page. The words of a page in
-// motion are kept.
+// motion are kept. The call for those who hold a directory as its header and homes, and lend these.
+pub fn fetch_all_lent<'a>(
+    memory: &[u32],
+    header: Header,
+    primary: &'a [u32],
+    secondary: &'a [u32],
+    buffer: &mut [u32],
+) -> FetchAllAnswer
+    requires { ⌜ FullHomes (now primary) (now secondary) ⌝ }
+    ensures answer { λ r. ⌜ r .answer
+        ≡ answerOf
+        (fetchAll (directoryBy header (now (primary .entry)) (now (secondary .entry)))
+        (now (memory .entry)) (now (buffer .entry)) .outcome) ⌝ }
+    ensures pages { λ r. ⌜ fetchedPages (now (buffer .exit)) (r .shown)
+        ≡ fetchAll (directoryBy header (now (primary .entry)) (now (secondary .entry)))
+        (now (memory .entry)) (now (buffer .entry)) .pages ⌝ }
+{
+    let mut shown = [false; 64];
+    let first = fetch_refusal(memory, header, primary, secondary, buffer.len());
+    let answer = answer::answer_of(first);
+    if first.number != 0 {
+        return FetchAllAnswer { answer, shown };
+    }
+    let mut moving = [false; 64];
+    conflict::mark_in_motion(memory, header, &mut moving);
+    fetch_pages(memory, header, primary, &moving, buffer, &mut shown);
+    FetchAllAnswer { answer, shown }
+}
+
+pub struct FetchAllReply {
+    pub directory: Directory,
+    pub answer: Answer,
+    pub shown: [bool; 64],
+}
+
+// The same, of a directory that is handed in and handed back.
 pub fn fetch_all(memory: &[u32], directory: Directory, buffer: &mut [u32]) -> FetchAllReply
     ensures answer { λ r. ⌜ r .answer
         ≡ answerOf (fetchAll directory (now (memory .entry)) (now (buffer .entry)) .outcome) ⌝ }
@@ -223,24 +235,16 @@ pub fn fetch_all(memory: &[u32], directory: Directory, buffer: &mut [u32]) -> Fe
     ensures pages { λ r. ⌜ fetchedPages (now (buffer .exit)) (r .shown)
         ≡ fetchAll directory (now (memory .entry)) (now (buffer .entry)) .pages ⌝ }
 {
-    let mut shown = [false; 64];
-    let first = fetch_refusal(memory, directory, buffer.len());
-    if first != 0 {
-        let answer = Answer::Refused(first, 0);
-        return FetchAllReply {
-            directory,
-            answer,
-            shown,
-        };
-    }
-    let cards = directory.cards;
-    let pages = directory.pages;
-    let live = directory.live;
-    let primary = directory.primary;
-    let mut moving = [false; 64];
-    conflict::mark_in_motion(memory, cards, pages, &live, &mut moving);
-    fetch_pages(memory, cards, pages, &primary, &moving, buffer, &mut shown);
-    let answer = Answer::Given(0);
+    let header = directory.header();
+    let fetched = fetch_all_lent(
+        memory,
+        header,
+        &directory.primary,
+        &directory.secondary,
+        buffer,
+    );
+    let answer = fetched.answer;
+    let shown = fetched.shown;
     FetchAllReply {
         directory,
         answer,

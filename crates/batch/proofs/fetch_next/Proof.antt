@@ -12,7 +12,7 @@ use Rattle.batch.proofs.fetch_next.Statement.{statement}
 use Rattle.batch.proofs.fetch_next.Tie as tie
 
 returns : tie.Need-returns
-returns c = (rw (c .if1 .taken), rw (c .if1 .taken))
+returns c = (rw (c .if1 .taken), λ secondary. rw (c .if1 .taken))
 
 load-committed-requires : tie.Need-load-committed-requires
 load-committed-requires c κs =
@@ -21,7 +21,7 @@ load-committed-requires c κs =
     let a = start .args in
     let pre = start .pre in
     let long = length-part (a .buffer .now) (pageSize * a .page) pageSize (omega arith) in
-    rw (sized .area-size .ensures) (area-in _ (pre .1 .1 .0) (pre .0 .1), ((omega arith, omega arith), omega arith))
+    rw (sized .area-size .ensures) (area-in _ (pre .1 .1 .0) (pre .0 .2), ((omega arith, omega arith), omega arith))
 
 returns-2 : tie.Need-returns-2
 unfolding committedPage
@@ -34,12 +34,14 @@ returns-2 c =
     let pre = start .pre in
     let still = test .if1 .left in
     let words = rw (sized .area-size .ensures) at (loaded .load-committed .ensures) in
-    let size = areaSize (a .pages) in
-    let area = area-in size (pre .1 .1 .0) (pre .0 .1) in
+    let size = areaSize (a .header .pages) in
+    let area = area-in size (pre .1 .1 .0) (pre .0 .2) in
     let run =
     length-load-run size (a .memory .now) (getD (a .primary .now) (a .page) 0) (committed (a .page)) pageSize area
-    (omega arith) in
-    (rw still, rw still (sets-all-part (a .buffer .now) (pageSize * a .page) pageSize _ words run (omega arith)))
+    (omega arith) in (
+      rw still,
+      λ secondary. rw still (sets-all-part (a .buffer .now) (pageSize * a .page) pageSize _ words run (omega arith)),
+    )
 
 pub fetch-next-spec : {M : Type 1} → statement M
 fetch-next-spec =

@@ -1,27 +1,29 @@
 -- The loop's invariant: the pages passed are fetched.
-use Prim.Native.Nat.{_-_, _≤_}
+use Prim.Native.Nat.{ℕ, _-_, _≤_}
+use mathlib.Core.List.{List}
 use mathlib.Core.Path.{_≡_, refl, sym, _∙_}
 use native.Mathlib.Omega.{arith}
 use borrow.Author.Needs.{needs}
 use lib.ListN.{length, length-set}
 use Rattle.laws.specs.Search.{inTurn}
 use Rattle.laws.proofs.Search.{in-turn-none, in-turn-more}
+use Rattle.directory.specs.Directory.{directoryBy}
 use Rattle.batch.specs.FetchAll.{fetchedPages}
-use Rattle.batch.specs.Showing.{showNext, primariesOf}
+use Rattle.batch.specs.Showing.{showNext}
 use Rattle.batch.proofs.fetch_pages.Statement.{statement}
 use Rattle.batch.proofs.fetch_pages.Tie as tie
 
 abbrev Inv-loop : tie.InvT-loop
-Inv-loop memory cards pages primary moving buffer₀ shown₀ page₀ buffer shown page =
-    (page ≤ pages) × (length buffer ≡ length buffer₀) × (length shown ≡ length shown₀)
-    × (fetchedPages buffer shown
-    ≡ inTurn (showNext moving (primariesOf pages primary) memory) page (fetchedPages buffer₀ shown₀))
+Inv-loop memory header primary moving buffer₀ shown₀ page₀ page-end buffer shown page =
+    (page ≤ page-end) × (length buffer ≡ length buffer₀) × (length shown ≡ length shown₀)
+    × ((secondary : List ℕ) → fetchedPages buffer shown
+    ≡ inTurn (showNext moving (directoryBy header primary secondary) memory) page (fetchedPages buffer₀ shown₀))
 
 abbrev μ-loop : tie.MeasureT-loop
-μ-loop memory cards pages primary moving buffer₀ shown₀ page₀ buffer shown page = pages - page
+μ-loop memory header primary moving buffer₀ shown₀ page₀ page-end buffer shown page = page-end - page
 
 loop-holds : tie.Need-loop-holds Inv-loop μ-loop
-loop-holds c = (omega arith, refl, refl, sym (in-turn-none _ _))
+loop-holds c = (omega arith, refl, refl, λ secondary. sym (in-turn-none _ _))
 
 fetch-next-requires : tie.Need-fetch-next-requires Inv-loop μ-loop
 fetch-next-requires c κs =
@@ -43,15 +45,15 @@ loop-again c =
       omega arith,
       c .before .buffer .given ∙ at .inv .1,
       simp length-set (at .inv .2),
-      rw (in-turn-more, ← at .inv .3, next .ensures .0, next .ensures .1),
+      λ secondary. rw (in-turn-more, ← at .inv .3 secondary, next .ensures .0, next .ensures .1 secondary),
     )
 
 returns : tie.Need-returns Inv-loop μ-loop
-returns c =
+returns c secondary =
     let start = c .before .before .before .before .before .before .before in
     let at = c .before .loop in
-    let end : at .page ≡ start .args .pages = omega arith in
-    rw end at (at .inv .3)
+    let end : at .page ≡ start .args .header .pages = omega arith in
+    rw end at (at .inv .3 secondary)
 
 pub fetch-pages-spec : {M : Type 1} → statement M
 fetch-pages-spec =
