@@ -116,7 +116,7 @@ pub extern "C" fn rack_steps(
     answers::with_made(answer, reply.made)
 }
 
-// `rack::fetch_page`, which keeps the directory.
+// `rack::fetch_page`, which keeps the directory: its words are lent.
 #[no_mangle]
 pub extern "C" fn rack_fetch(
     memory: &[u32],
@@ -132,13 +132,14 @@ pub extern "C" fn rack_fetch(
         ≡ fetch (directoryIn (now (directory .entry))) (now (memory .entry)) page
         (now (buffer .entry)) .words ⌝ }
 {
-    let taken = words::directory_in(directory);
-    let reply = rack::fetch_page(memory, taken, page, buffer);
-    let answer = reply.answer;
+    let header = words::header_in(directory);
+    let primary = words::homes_at(directory, words::PRIMARY);
+    let secondary = words::homes_at(directory, words::SECONDARY);
+    let answer = rack::fetch_lent(memory, header, primary, secondary, page, buffer);
     answers::in_numbers(answer)
 }
 
-// `batch::fetch_all`, which keeps the directory.
+// `batch::fetch_all`, which keeps the directory: its words are lent.
 #[no_mangle]
 pub extern "C" fn rack_fetch_all(
     memory: &[u32],
@@ -155,10 +156,12 @@ pub extern "C" fn rack_fetch_all(
         ≡ fetchAll (directoryIn (now (directory .entry))) (now (memory .entry))
         (now (buffer .entry)) .pages .words ⌝ }
 {
-    let taken = words::directory_in(directory);
-    let reply = batch::fetch_all(memory, taken, buffer);
-    let answer = reply.answer;
-    let shown = reply.shown;
+    let header = words::header_in(directory);
+    let primary = words::homes_at(directory, words::PRIMARY);
+    let secondary = words::homes_at(directory, words::SECONDARY);
+    let fetched = batch::fetch_all_lent(memory, header, primary, secondary, buffer);
+    let answer = fetched.answer;
+    let shown = fetched.shown;
     answers::with_shown(answer, shown)
 }
 

@@ -1,13 +1,20 @@
 // The directory as words, which is how it crosses to C: cards, pages, the awaited card, 8 marks, 64
 // primary homes, 64 secondary homes. Any words are a directory.
 ghost use Rattle.laws.specs.Prelude.{_≡_, _+_, _≤_, length, take, drop};
+ghost use Rattle.directory.specs.Directory.{headerOf};
 ghost use Rattle.bandsawpink.specs.Words.{statusIn, marksIn, directoryIn, awaitedWord};
 ghost use Rattle.bandsawpink.specs.Words.{headOf, wordsOf};
 use directory::Directory;
+use directory::Header;
 use directory::Status;
 
 // The awaited card of a rack that awaits none.
 const RUNNING: u32 = 0xFFFFFFFF;
+
+// Where the homes start.
+pub const PRIMARY: usize = 11;
+
+pub const SECONDARY: usize = 75;
 
 // ---- read
 
@@ -33,14 +40,37 @@ fn marks_in(words: &[u32]) -> [bool; 8]
     marks
 }
 
-// 64 words from `start` on.
-fn homes_in(words: &[u32], start: usize) -> [u32; 64]
+// All but the homes.
+pub fn header_in(words: &[u32]) -> Header
+    requires { ⌜ length (now words) ≡ 139 ⌝ }
+    ensures { λ r. ⌜ r ≡ headerOf (directoryIn (now (words .entry))) ⌝ }
+{
+    let live = marks_in(words);
+    let status = status_in(words[2]);
+    Header {
+        cards: words[0],
+        pages: words[1],
+        live,
+        status,
+    }
+}
+
+// The homes that start at PRIMARY or SECONDARY.
+pub fn homes_at(words: &[u32], start: usize) -> &[u32]
+    requires { ⌜ start + 64 ≤ length (now words) ⌝ }
+    ensures { λ r. ⌜ now r ≡ take 64 (drop start (now (words .entry))) ⌝ }
+    ensures { λ r. ⌜ length (now r) ≡ 64 ⌝ }
+{
+    let end = start + 64;
+    &words[start..end]
+}
+
+fn copy_homes(words: &[u32], start: usize) -> [u32; 64]
     requires { ⌜ start + 64 ≤ length (now words) ⌝ }
     ensures { λ r. ⌜ r ≡ take 64 (drop start (now (words .entry))) ⌝ }
 {
     let mut homes = [0u32; 64];
-    let end = start + 64;
-    memory::copy_words(&words[start..end], &mut homes);
+    memory::copy_words(homes_at(words, start), &mut homes);
     homes
 }
 
@@ -48,13 +78,14 @@ pub fn directory_in(words: &[u32]) -> Directory
     requires { ⌜ length (now words) ≡ 139 ⌝ }
     ensures { λ r. ⌜ r ≡ directoryIn (now (words .entry)) ⌝ }
 {
-    let live = marks_in(words);
-    let primary = homes_in(words, 11);
-    let secondary = homes_in(words, 75);
-    let status = status_in(words[2]);
+    let header = header_in(words);
+    let live = header.live;
+    let primary = copy_homes(words, PRIMARY);
+    let secondary = copy_homes(words, SECONDARY);
+    let status = header.status;
     Directory {
-        cards: words[0],
-        pages: words[1],
+        cards: header.cards,
+        pages: header.pages,
         live,
         primary,
         secondary,
@@ -102,6 +133,6 @@ pub fn write_directory(words: &mut [u32], directory: Directory)
     let primary = directory.primary;
     let secondary = directory.secondary;
     memory::store_run_in(words, 0, &head);
-    memory::store_run_in(words, 11, &primary);
-    memory::store_run_in(words, 75, &secondary);
+    memory::store_run_in(words, PRIMARY, &primary);
+    memory::store_run_in(words, SECONDARY, &secondary);
 }

@@ -7,18 +7,10 @@ use Rattle.bandsawpink.proofs.words.directory_in.Tie as tie
 returns : tie.Need-returns
 unfolding directoryIn
 returns c =
-    let status = c .before .before in
-    let secondary = status .before .before in
-    let primary = secondary .before in
-    rw (
-      primary .before .marks-in .ensures,
-      primary .homes-in .ensures,
-      secondary .homes-in2 .ensures,
-      status .status-in .ensures,
-    )
+    let primary = c .before in
+    rw (primary .before .before .header-in .ensures, primary .copy-homes .ensures, c .copy-homes2 .ensures)
 
 pub directory-in-spec : {M : Type 1} → statement M
 directory-in-spec =
     tie.close
-    (tie.spec (λ c κs. search needs) (λ c κs. search needs) (λ c κs. search needs) (λ c. search needs)
-    (λ c κs. search needs) (λ c. search needs) (λ c. search needs) returns)
+    (tie.spec (λ c κs. search needs) (λ c κs. search needs) (λ c κs. search needs) returns)
