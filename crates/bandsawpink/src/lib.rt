@@ -80,7 +80,7 @@ pub extern "C" fn rack_open(
     answers::in_numbers(answer)
 }
 
-// `rack::make_step`, which keeps the directory.
+// `rack::make_step`, which keeps the directory: its words are lent.
 #[no_mangle]
 pub extern "C" fn rack_step(memory: &mut [u32], directory: &[u32; 139], card: u32) -> RackAnswer
     ensures answer { λ r. ⌜ r
@@ -89,9 +89,10 @@ pub extern "C" fn rack_step(memory: &mut [u32], directory: &[u32; 139], card: u3
     ensures memory { λ _. ⌜ now (memory .exit)
         ≡ step (directoryIn (now (directory .entry))) (now (memory .entry)) card .memory ⌝ }
 {
-    let taken = words::directory_in(directory);
-    let reply = rack::make_step(memory, taken, card);
-    let answer = reply.answer;
+    let header = words::header_in(directory);
+    let primary = words::homes_at(directory, words::PRIMARY);
+    let secondary = words::homes_at(directory, words::SECONDARY);
+    let answer = rack::step_lent(memory, header, primary, secondary, card);
     answers::in_numbers(answer)
 }
 

@@ -5,8 +5,7 @@ ghost use Rattle.laws.specs.Examples.{AllHold};
 ghost use Rattle.directory.specs.Live.{liveAt, firstLive, nextLive};
 ghost use Rattle.directory.specs.Directory.{headerOf, nextLiveOf, backupOf};
 ghost use Rattle.directory.specs.Directory.{markedDead, markedLive};
-ghost use Rattle.directory.specs.Directory.{withHomes, withStatus};
-ghost use Rattle.directory.specs.Directory.{formattedMarks, formattedPrimary};
+ghost use Rattle.directory.specs.Directory.{withHomes, formattedMarks, formattedPrimary};
 ghost use Rattle.directory.specs.Directory.{formattedSecondary, table, formattedDirectory};
 ghost use Rattle.directory.specs.Directory.{emptyDirectory};
 ghost use Rattle.directory.specs.Examples.{examples};
@@ -82,6 +81,14 @@ impl Header {
         }
         false
     }
+
+    // The next live card after it.
+    pub fn backup(self, card: u32) -> u32
+        ensures { λ r. ⌜ r ≡ nextLive (self .live) (self .cards) card ⌝ }
+    {
+        let live = self.live;
+        next_live_after(&live, self.cards, card)
+    }
 }
 
 impl Directory {
@@ -140,25 +147,6 @@ impl Directory {
             self.secondary[at] = secondary;
         }
         self
-    }
-}
-
-impl Directory {
-    // A field that is an enum is not stored to: the struct is made anew.
-    pub fn with_status(self, status: Status) -> Self
-        ensures { λ r. ⌜ r ≡ withStatus self status ⌝ }
-    {
-        let live = self.live;
-        let primary = self.primary;
-        let secondary = self.secondary;
-        Directory {
-            cards: self.cards,
-            pages: self.pages,
-            live,
-            primary,
-            secondary,
-            status,
-        }
     }
 }
 

@@ -34,6 +34,13 @@ module _ {first o : Outcome} (reached : first ≡ o) (done : Outcome → Result)
   accepted-does : first .number ≡ 0 → resultOf o (done o) d m words ≡ done first
   accepted-does none = rw (← reached) (rw (eq-eqb _ _ none))
 
+-- where the call done keeps the directory, so does the call
+either-keeps : (o : Outcome) (d : Directory) (done m words kept : List ℕ)
+    → resultOf o (resultIs o d done words) d m kept .directory ≡ d
+either-keeps o d done m words kept =
+    by-cond (λ (r : Result). r .directory ≡ d) (accepted o) (resultIs o d done words) (resultIs o d m kept) (λ _. refl)
+    (λ _. refl)
+
 -- ---- each call
 
 module _ (d : Directory) (m : List ℕ) where
@@ -52,6 +59,10 @@ module _ (d : Directory) (m : List ℕ) where
     opening-facts none =
         opening-passed d m c (r .number) list (all-pass (openingChecks d m c (r .number) list) refl reached none)
 
+  pub step-keeps : (c : ℕ) → step d m c .directory ≡ d
+  unfolding step
+  step-keeps c = either-keeps (firstRefusal (stepChecks d m c) 0) d (stepMemory d (backupOf d c) m c) m [] []
+
   module _ (c : ℕ) {first : Outcome} (reached : first ≡ firstRefusal (stepChecks d m c) 0) where
     pub step-refused : first .number ≢ 0 → step d m c ≡ resultIs first d m []
     unfolding step
@@ -67,9 +78,7 @@ module _ (d : Directory) (m : List ℕ) where
   pub fetch-keeps : (page : ℕ) (buffer : List ℕ) → fetch d m page buffer .directory ≡ d
   unfolding fetch
   fetch-keeps page buffer =
-      let o = firstRefusal (fetchChecks d m page (length buffer)) 0 in
-      by-cond (λ (r : Result). r .directory ≡ d) (accepted o) (resultIs o d m (committedPage d m page))
-      (resultIs o d m buffer) (λ _. refl) (λ _. refl)
+      either-keeps (firstRefusal (fetchChecks d m page (length buffer)) 0) d m m (committedPage d m page) buffer
 
   module _ (page : ℕ) (buffer : List ℕ) {first : Outcome}
       (reached : first ≡ firstRefusal (fetchChecks d m page (length buffer)) 0) where

@@ -86,7 +86,35 @@ pub fn open_release(
     Reply { directory, answer }
 }
 
-// Makes one step of the release that is open on a card.
+// Makes one step of the release that is open on a card: the call for those who hold a directory as
+// its header and homes, and lend these.
+pub fn step_lent<'a>(
+    memory: &mut [u32],
+    header: Header,
+    primary: &'a [u32],
+    secondary: &'a [u32],
+    card: u32,
+) -> Answer
+    requires { ⌜ FullHomes (now primary) (now secondary) ⌝ }
+    ensures answer { λ r. ⌜ r
+        ≡ answerOf
+        (step (directoryBy header (now (primary .entry)) (now (secondary .entry)))
+        (now (memory .entry)) card .outcome) ⌝ }
+    ensures memory { λ _. ⌜ now (memory .exit)
+        ≡ step (directoryBy header (now (primary .entry)) (now (secondary .entry)))
+        (now (memory .entry)) card .memory ⌝ }
+{
+    let first = refusals::step(memory, header, primary, secondary, card);
+    let answer = answer::answer_of(first);
+    if first.number != 0 {
+        return answer;
+    }
+    let backup = header.backup(card) as usize;
+    release::step_release(memory, header, primary, secondary, backup, card as usize);
+    answer
+}
+
+// The same, of a directory that is handed in and handed back.
 pub fn make_step(memory: &mut [u32], directory: Directory, card: u32) -> Reply
     ensures answer { λ r. ⌜ r .answer
         ≡ answerOf (step directory (now (memory .entry)) card .outcome) ⌝ }
@@ -96,26 +124,12 @@ pub fn make_step(memory: &mut [u32], directory: Directory, card: u32) -> Reply
         ≡ step directory (now (memory .entry)) card .memory ⌝ }
 {
     let header = directory.header();
-    let first = refusals::step(
+    let answer = step_lent(
         memory,
         header,
         &directory.primary,
         &directory.secondary,
         card,
-    );
-    let answer = answer::answer_of(first);
-    if first.number != 0 {
-        return Reply { directory, answer };
-    }
-    let backup = directory.backup(card) as usize;
-    let at = card as usize;
-    release::step_release(
-        memory,
-        header,
-        &directory.primary,
-        &directory.secondary,
-        backup,
-        at,
     );
     Reply { directory, answer }
 }
@@ -193,8 +207,18 @@ pub fn fail_card(memory: &[u32], directory: Directory, card: u32) -> Reply
         return Reply { directory, answer };
     }
     let dead = directory.mark_dead(card);
+    let live = dead.live;
+    let primary = directory.primary;
+    let secondary = directory.secondary;
     let awaiting = Status::Awaiting(card);
-    let failed = dead.with_status(awaiting);
+    let failed = Directory {
+        cards: directory.cards,
+        pages: directory.pages,
+        live,
+        primary,
+        secondary,
+        status: awaiting,
+    };
     Reply {
         directory: failed,
         answer,

@@ -17,19 +17,18 @@ returns c =
 
 returns-2 : tie.Need-returns-2
 returns-2 c =
-    let dead = c .before in
+    let dead = c .before .before .before in
     let test = dead .before in
     let answered = test .before .before in
     let first = answered .before in
     let taken = first .before .before .before .before .before .before in
     let a = taken .before .before .args in
     let reached = rw (taken .header .ensures) at (first .failure .ensures) in
-    let failed = rw (dead .mark-dead .ensures) at (c .with-status .ensures) in
-    rw (failure-accepted (a .t2) (a .memory .now) (a .card) reached (test .if1 .left))
-    (answered .answer-of .ensures, failed)
+    rw (failure-accepted (a .t2) (a .memory .now) (a .card) reached (test .if1 .left), dead .mark-dead .ensures)
+    (answered .answer-of .ensures, refl)
 
 pub fail-card-spec : {M : Type 1} → statement M
 fail-card-spec =
     tie.close
     (tie.spec (λ c κs. search needs) (λ c κs. search needs) (λ c κs. search needs) returns (λ c κs. search needs)
-    (λ c κs. search needs) returns-2)
+    returns-2)
