@@ -90,8 +90,8 @@ pub extern "C" fn rack_step(memory: &mut [u32], directory: &[u32; 139], card: u3
         ≡ step (directoryIn (now (directory .entry))) (now (memory .entry)) card .memory ⌝ }
 {
     let header = words::header_in(directory);
-    let primary = words::homes_at(directory, words::PRIMARY);
-    let secondary = words::homes_at(directory, words::SECONDARY);
+    let primary = words::primary_in(directory);
+    let secondary = words::secondary_in(directory);
     let answer = rack::step_lent(memory, header, primary, secondary, card);
     answers::in_numbers(answer)
 }
@@ -134,8 +134,8 @@ pub extern "C" fn rack_fetch(
         (now (buffer .entry)) .words ⌝ }
 {
     let header = words::header_in(directory);
-    let primary = words::homes_at(directory, words::PRIMARY);
-    let secondary = words::homes_at(directory, words::SECONDARY);
+    let primary = words::primary_in(directory);
+    let secondary = words::secondary_in(directory);
     let answer = rack::fetch_lent(memory, header, primary, secondary, page, buffer);
     answers::in_numbers(answer)
 }
@@ -158,8 +158,8 @@ pub extern "C" fn rack_fetch_all(
         (now (buffer .entry)) .pages .words ⌝ }
 {
     let header = words::header_in(directory);
-    let primary = words::homes_at(directory, words::PRIMARY);
-    let secondary = words::homes_at(directory, words::SECONDARY);
+    let primary = words::primary_in(directory);
+    let secondary = words::secondary_in(directory);
     let fetched = batch::fetch_all_lent(memory, header, primary, secondary, buffer);
     let answer = fetched.answer;
     let shown = fetched.shown;

@@ -11,11 +11,6 @@ use directory::Status;
 // The awaited card of a rack that awaits none.
 const RUNNING: u32 = 0xFFFFFFFF;
 
-// Where the homes start.
-pub const PRIMARY: usize = 11;
-
-pub const SECONDARY: usize = 75;
-
 // ---- read
 
 fn status_in(awaited: u32) -> Status
@@ -55,8 +50,8 @@ pub fn header_in(words: &[u32]) -> Header
     }
 }
 
-// The homes that start at PRIMARY or SECONDARY.
-pub fn homes_at(words: &[u32], start: usize) -> &[u32]
+// 64 words from `start` on.
+fn homes_at(words: &[u32], start: usize) -> &[u32]
     requires { ⌜ start + 64 ≤ length (now words) ⌝ }
     ensures { λ r. ⌜ now r ≡ take 64 (drop start (now (words .entry))) ⌝ }
     ensures { λ r. ⌜ length (now r) ≡ 64 ⌝ }
@@ -65,12 +60,28 @@ pub fn homes_at(words: &[u32], start: usize) -> &[u32]
     &words[start..end]
 }
 
-fn copy_homes(words: &[u32], start: usize) -> [u32; 64]
-    requires { ⌜ start + 64 ≤ length (now words) ⌝ }
-    ensures { λ r. ⌜ r ≡ take 64 (drop start (now (words .entry))) ⌝ }
+pub fn primary_in(words: &[u32]) -> &[u32]
+    requires { ⌜ length (now words) ≡ 139 ⌝ }
+    ensures { λ r. ⌜ now r ≡ directoryIn (now (words .entry)) .primary ⌝ }
+    ensures { λ r. ⌜ length (now r) ≡ 64 ⌝ }
+{
+    homes_at(words, 11)
+}
+
+pub fn secondary_in(words: &[u32]) -> &[u32]
+    requires { ⌜ length (now words) ≡ 139 ⌝ }
+    ensures { λ r. ⌜ now r ≡ directoryIn (now (words .entry)) .secondary ⌝ }
+    ensures { λ r. ⌜ length (now r) ≡ 64 ⌝ }
+{
+    homes_at(words, 75)
+}
+
+fn copy_homes(lent: &[u32]) -> [u32; 64]
+    requires { ⌜ length (now lent) ≡ 64 ⌝ }
+    ensures { λ r. ⌜ r ≡ now (lent .entry) ⌝ }
 {
     let mut homes = [0u32; 64];
-    memory::copy_words(homes_at(words, start), &mut homes);
+    memory::copy_words(lent, &mut homes);
     homes
 }
 
@@ -80,8 +91,8 @@ pub fn directory_in(words: &[u32]) -> Directory
 {
     let header = header_in(words);
     let live = header.live;
-    let primary = copy_homes(words, PRIMARY);
-    let secondary = copy_homes(words, SECONDARY);
+    let primary = copy_homes(primary_in(words));
+    let secondary = copy_homes(secondary_in(words));
     let status = header.status;
     Directory {
         cards: header.cards,
@@ -133,6 +144,6 @@ pub fn write_directory(words: &mut [u32], directory: Directory)
     let primary = directory.primary;
     let secondary = directory.secondary;
     memory::store_run_in(words, 0, &head);
-    memory::store_run_in(words, PRIMARY, &primary);
-    memory::store_run_in(words, SECONDARY, &secondary);
+    memory::store_run_in(words, 11, &primary);
+    memory::store_run_in(words, 75, &secondary);
 }

@@ -262,12 +262,7 @@ pub fn recover_card(memory: &mut [u32], directory: Directory) -> DeskReply
         ≡ recovery directory (now (memory .entry)) .memory ⌝ }
 {
     let header = directory.header();
-    let first = refusals::recovery(
-        memory,
-        header,
-        &directory.primary,
-        &directory.secondary,
-    );
+    let first = refusals::recovery(memory, header, &directory.primary, &directory.secondary);
     if first.number != 0 {
         return refused_recovery(directory, first);
     }

@@ -31,13 +31,7 @@ fn list_refusal(memory: &[u32], header: Header, card: u32, list: &[u32]) -> Outc
 }
 
 // 4, 5 and 6, then the list.
-fn number_refusal(
-    memory: &[u32],
-    header: Header,
-    card: u32,
-    number: u32,
-    list: &[u32],
-) -> Outcome
+fn number_refusal(memory: &[u32], header: Header, card: u32, number: u32, list: &[u32]) -> Outcome
     requires { ⌜ MemoryOf header (length (now memory)) ⌝ }
     requires { ⌜ card < header .cards ⌝ }
     ensures { λ r. ⌜ r
@@ -216,10 +210,7 @@ pub fn recovery<'a>(
         return first;
     }
     let status = header.status;
-    checks::last_check(
-        !checks::awaits_recovery(status),
-        answer::NONE_AWAITED,
-    )
+    checks::last_check(!checks::awaits_recovery(status), answer::NONE_AWAITED)
 }
 
 pub fn join<'a>(
@@ -243,8 +234,5 @@ pub fn join<'a>(
     if header.is_live(card) {
         return answer::refused_at(answer::CARD_LIVE, 0);
     }
-    checks::last_check(
-        conflict::any_open(memory, header),
-        answer::JOIN_WHILE_OPEN,
-    )
+    checks::last_check(conflict::any_open(memory, header), answer::JOIN_WHILE_OPEN)
 }

@@ -270,14 +270,7 @@ fn count_steps(memory: &mut [u32], size: usize, card: usize, steps: u32, more: u
 }
 
 // The store of a step in the record at the backup: the nine between the prices, or the done mark.
-fn step_word(
-    memory: &mut [u32],
-    header: Header,
-    backup: usize,
-    card: usize,
-    k: u32,
-    steps: u32,
-)
+fn step_word(memory: &mut [u32], header: Header, backup: usize, card: usize, k: u32, steps: u32)
     requires { ⌜ CardIn (header .live) (length (now memory)) (areaSize (header .pages)) card ⌝ }
     requires { ⌜ CardIn (header .live) (length (now memory)) (areaSize (header .pages)) backup ⌝ }
     requires { ⌜ (header .pages ≤ 64) × (k ≡ length (openPrices (header .pages) (now memory) card))
@@ -299,14 +292,7 @@ fn step_word(
 }
 
 // A step of a release of k prices that stores none: a store in the record, counted, or the close.
-fn other_step(
-    memory: &mut [u32],
-    header: Header,
-    backup: usize,
-    card: usize,
-    k: u32,
-    steps: u32,
-)
+fn other_step(memory: &mut [u32], header: Header, backup: usize, card: usize, k: u32, steps: u32)
     requires { ⌜ CardIn (header .live) (length (now memory)) (areaSize (header .pages)) card ⌝ }
     requires { ⌜ CardIn (header .live) (length (now memory)) (areaSize (header .pages)) backup ⌝ }
     requires { ⌜ (header .pages ≤ 64) × Counted (header .pages) (now memory) card k ⌝ }

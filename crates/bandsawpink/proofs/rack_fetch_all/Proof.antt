@@ -1,20 +1,18 @@
 -- Rests on the batched call: the words that it is lent are the directory.
 use mathlib.Core.Path.{_∙_, ap}
 use borrow.Author.Needs.{needs}
-use Rattle.bandsawpink.specs.Words.{directoryIn}
 use Rattle.bandsawpink.proofs.Exported.{pages-exported}
 use Rattle.bandsawpink.proofs.rack_fetch_all.Statement.{statement}
 use Rattle.bandsawpink.proofs.rack_fetch_all.Tie as tie
 
 returns : tie.Need-returns
-unfolding directoryIn
 returns c =
     let called = c .before .before .before .before in
     let secondary = called .before .before in
     let primary = secondary .before .before in
     let header = primary .before .before in
     let fetched =
-    rw (header .header-in .ensures, primary .homes-at .ensures .0, secondary .homes-at2 .ensures .0) at
+    rw (header .header-in .ensures, primary .primary-in .ensures .0, secondary .secondary-in .ensures .0) at
     (called .fetch-all-lent .ensures)
     in
     let pages = fetched .1 in

@@ -1,20 +1,18 @@
 -- Rests on the call of the rack: the words that it is lent are the directory.
 use mathlib.Core.Path.{_∙_}
 use borrow.Author.Needs.{needs}
-use Rattle.bandsawpink.specs.Words.{directoryIn}
 use Rattle.bandsawpink.proofs.Exported.{answer-exported}
 use Rattle.bandsawpink.proofs.rack_step.Statement.{statement}
 use Rattle.bandsawpink.proofs.rack_step.Tie as tie
 
 returns : tie.Need-returns
-unfolding directoryIn
 returns c =
     let called = c .before .before .before in
     let secondary = called .before .before in
     let primary = secondary .before .before in
     let header = primary .before .before in
     let stepped =
-    rw (header .header-in .ensures, primary .homes-at .ensures .0, secondary .homes-at2 .ensures .0) at
+    rw (header .header-in .ensures, primary .primary-in .ensures .0, secondary .secondary-in .ensures .0) at
     (called .step-lent .ensures)
     in
     (c .in-numbers .ensures ∙ answer-exported _ (stepped .0), stepped .1)
