@@ -236,12 +236,12 @@ fn awaited_card(status: Status) -> u32
 }
 
 // What a recovery hands back that is refused.
-fn refused_recovery(directory: Directory, first: Outcome) -> DeskReply
-    ensures answer { λ r. ⌜ r .answer ≡ answerOf first ⌝ }
+fn refused_recovery(directory: Directory, refusal: Outcome) -> DeskReply
+    ensures answer { λ r. ⌜ r .answer ≡ answerOf refusal ⌝ }
     ensures directory { λ r. ⌜ r .directory ≡ directory ⌝ }
     ensures desk { λ r. ⌜ r .desk ≡ zeros deskSize ⌝ }
 {
-    let answer = answer::answer_of(first);
+    let answer = answer::answer_of(refusal);
     let desk = [0u32; area::layout::DESK_SIZE];
     DeskReply {
         directory,
@@ -262,9 +262,9 @@ pub fn recover_card(memory: &mut [u32], directory: Directory) -> DeskReply
         ≡ recovery directory (now (memory .entry)) .memory ⌝ }
 {
     let header = directory.header();
-    let first = refusals::recovery(memory, header, &directory.primary, &directory.secondary);
-    if first.number != 0 {
-        return refused_recovery(directory, first);
+    let refusal = refusals::recovery(memory, header, &directory.primary, &directory.secondary);
+    if refusal.number != 0 {
+        return refused_recovery(directory, refusal);
     }
     let cards = header.cards;
     let pages = header.pages;
