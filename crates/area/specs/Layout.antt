@@ -1,8 +1,7 @@
 -- Where things stand in a card's area (document 01, "Cards, pages, memory", the table of words). Each row starts where
 -- the row before it ends, so that a size is written once. src/layout.rt has the same table.
 -- Assumes nothing: these are definitions.
-use Rattle.laws.specs.Prelude.{ℕ, _+_, _*_, _%_, _≤_, _≡_}
-use Rattle.directory.specs.declared.Header.{Header}
+use Rattle.laws.specs.Prelude.{ℕ, _+_, _*_, _%_}
 
 -- ---- sizes
 
@@ -109,9 +108,3 @@ committed p = pageAt p + committedHalf
 -- "each 676 + 64 × pages words"
 abbrev pub areaSize : ℕ → ℕ
 areaSize pages = pageAt pages
-
--- ---- the memory of a rack: one area for each card
-
--- so many words are the memory of a rack with this header, and it has no more cards and pages than a rack can have
-abbrev pub MemoryOf : Header → ℕ → Type 0
-MemoryOf h words = (h .cards ≤ 8) × (h .pages ≤ 64) × (words ≡ h .cards * areaSize (h .pages))

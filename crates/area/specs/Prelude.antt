@@ -5,7 +5,8 @@ pub use Rattle.area.specs.Layout.{numberSize, deskSize, ownStamp, ownDes
 pub use Rattle.area.specs.Layout.{releaseNumber, releaseDesk, releaseSize, recordsStart, recordSize, deskInRecord}
 pub use Rattle.area.specs.Layout.{recordAt, recordStamp, recordDone, recordDesk, listStart, listSize, tentative}
 pub use Rattle.area.specs.Layout.{committed, pagesStart, pageSize, storedPageSize, pageAt, tentativeHalf}
-pub use Rattle.area.specs.Layout.{committedHalf, areaSize, MemoryOf}
+pub use Rattle.area.specs.Layout.{committedHalf, areaSize}
+pub use Rattle.area.specs.RackMemory.{MemoryOf}
 unfoldable pub use Rattle.area.specs.Numbers.{numberWords, numberAt}
 pub use Rattle.area.specs.Numbers.{loadNumber, storeNumber}
 unfoldable pub use Rattle.area.specs.Releases.{ownRelease, openRelease, openList, stepsOf, isOpen}

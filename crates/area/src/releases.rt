@@ -1,7 +1,8 @@
 // What a card's area says of the release that is open on the card.
 ghost use Rattle.laws.specs.Prelude.{_≡_, _<_, _≤_, length};
 ghost use Rattle.memory.specs.Words.{AreaIn};
-ghost use Rattle.area.specs.Layout.{listSize, pagesStart, areaSize, MemoryOf};
+ghost use Rattle.area.specs.Layout.{listSize, pagesStart, areaSize};
+ghost use Rattle.area.specs.RackMemory.{MemoryOf};
 ghost use Rattle.area.specs.Releases.{openList, stepsOf, isOpen};
 use crate::layout;
 use directory::Header;

@@ -80,7 +80,7 @@ pub extern "C" fn rack_open(
     answers::in_numbers(answer)
 }
 
-// `rack::make_step`, which keeps the directory: its words are lent.
+// `rack::step_lent`: the directory is kept, its homes are lent.
 #[no_mangle]
 pub extern "C" fn rack_step(memory: &mut [u32], directory: &[u32; 139], card: u32) -> RackAnswer
     ensures answer { λ r. ⌜ r
@@ -117,7 +117,7 @@ pub extern "C" fn rack_steps(
     answers::with_made(answer, reply.made)
 }
 
-// `rack::fetch_page`, which keeps the directory: its words are lent.
+// `rack::fetch_lent`: the directory is kept, its homes are lent.
 #[no_mangle]
 pub extern "C" fn rack_fetch(
     memory: &[u32],
@@ -140,7 +140,7 @@ pub extern "C" fn rack_fetch(
     answers::in_numbers(answer)
 }
 
-// `batch::fetch_all`, which keeps the directory: its words are lent.
+// `batch::fetch_all_lent`: the directory is kept, its homes are lent.
 #[no_mangle]
 pub extern "C" fn rack_fetch_all(
     memory: &[u32],

@@ -1,6 +1,6 @@
 -- On a rack that passed checks 1, 2 and 11, a fetch of one of its pages into 32 words is refused if the page is in
 -- motion, and only then.
-use Rattle.laws.proofs.Prelude.{ℕ, zero, suc, _*_, _≤_, _<_, _≡_, refl, sym, _∙_, _≢_, List, Bool, true, false, cond}
+use Rattle.laws.proofs.Prelude.{ℕ, zero, suc, _*_, _≤_, _<_, _≡_, refl, _∙_, _≢_, List, Bool, true, false, cond}
 use Rattle.laws.proofs.Prelude.{arith, eq-eqb, ne-eqb, eqb-true, not-false, lt-leb, length, getD, take, drop, eqb}
 use Rattle.laws.proofs.Prelude.{replicate}
 use lib.ListN.{length-take, length-drop}
@@ -103,9 +103,9 @@ pub record AllPassed (d : Directory) (m : List ℕ) (room : ℕ) : Type 0 where
   pub room-is : room ≡ pageSize * d .pages
 
 module _ (d : Directory) (m buffer : List ℕ) where
-  pub all-keep : fetchAll d m buffer .directory ≡ d
+  pub fetch-all-keeps : fetchAll d m buffer .directory ≡ d
   unfolding fetchAll
-  all-keep = refl
+  fetch-all-keeps = refl
 
   module _ {first : Outcome} (reached : first ≡ firstRefusal (fetchAllChecks d m (length buffer)) 0) where
     pub all-refused : first .number ≢ 0 → fetchAll d m buffer ≡ fetchedTo first d (fetchedPages buffer noneShown)

@@ -191,7 +191,7 @@ pub struct FetchAllAnswer {
 }
 
 // Fetches every page into its part of one buffer of 32 words for each page. The words of a page in
-// motion are kept. The call for those who hold a directory as its header and homes, and lend these.
+// motion are kept. For a caller that has the directory's header and lends its homes.
 pub fn fetch_all_lent<'a>(
     memory: &[u32],
     header: Header,
@@ -220,6 +220,7 @@ pub fn fetch_all_lent<'a>(
     FetchAllAnswer { answer, shown }
 }
 
+// The same, with the directory handed back.
 pub struct FetchAllReply {
     pub directory: Directory,
     pub answer: Answer,

@@ -1,10 +1,11 @@
 -- Checks in order: of two lists of checks the first decides, and where none of it refuses the second.
-use Rattle.laws.proofs.Prelude.{ℕ, _≡_, refl, _∙_, _≢_, List, [], _∷_, _++_, Bool, true, false, cond, not, _&&_, ne-eqb}
+use Rattle.laws.proofs.Prelude.{ℕ, _≡_, refl, _∙_, _≢_, List, [], _∷_, _++_, Bool, true, false, cond, not, ne-eqb}
 use Rattle.laws.proofs.Prelude.{not-true, eqb}
 use Rattle.laws.proofs.Bools.{and-first, and-second}
 use Rattle.answer.specs.declared.Outcome.{Outcome}
 use Rattle.answer.specs.Outcome.{given, refusedAt}
 use Rattle.protocol.specs.Checks.{Check, checkAt, firstRefusal}
+use Rattle.protocol.proofs.checks.Outcome.{numbered}
 
 -- ---- one check before others, and none
 
@@ -30,19 +31,14 @@ module _ (refuses : Bool) (number place : ℕ) where
 
 -- ---- checks that come to an outcome, before others
 
--- the checks refuse by a number other than 0
-abbrev pub named : List Check → Bool
-named [] = true
-named (c ∷ cs) = not (eqb (c .number) 0) && named cs
-
 module _ (more : List Check) (value : ℕ) where
-  first-then : (cs : List Check) → named cs ≡ true
+  first-then : (cs : List Check) → numbered cs ≡ true
       → firstRefusal (cs ++ more) value
       ≡ cond (eqb (firstRefusal cs 0 .number) 0) (firstRefusal more value) (firstRefusal cs 0)
   unfolding firstRefusal
   first-then [] all = refl
   first-then (c ∷ cs) all =
-      go (c .refuses) (first-then cs (and-second (not (eqb (c .number) 0)) (named cs) all))
+      go (c .refuses) (first-then cs (and-second (not (eqb (c .number) 0)) (numbered cs) all))
     where
       go : (refuses : Bool)
           → (firstRefusal (cs ++ more) value
@@ -50,10 +46,10 @@ module _ (more : List Check) (value : ℕ) where
           → cond refuses (refusedAt (c .number) (c .place)) (firstRefusal (cs ++ more) value)
           ≡ cond (eqb (cond refuses (refusedAt (c .number) (c .place)) (firstRefusal cs 0) .number) 0)
           (firstRefusal more value) (cond refuses (refusedAt (c .number) (c .place)) (firstRefusal cs 0))
-      go true later = rw (not-true (eqb (c .number) 0) (and-first (not (eqb (c .number) 0)) (named cs) all))
+      go true later = rw (not-true (eqb (c .number) 0) (and-first (not (eqb (c .number) 0)) (numbered cs) all))
       go false later = later
 
-  module _ (cs : List Check) (all : named cs ≡ true) {first : Outcome} (reached : first ≡ firstRefusal cs 0) where
+  module _ (cs : List Check) (all : numbered cs ≡ true) {first : Outcome} (reached : first ≡ firstRefusal cs 0) where
     pub refused-first : first .number ≢ 0 → firstRefusal (cs ++ more) value ≡ first
     refused-first some = first-then cs all ∙ rw (← reached) (rw (ne-eqb _ _ some))
 

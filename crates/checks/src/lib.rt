@@ -1,6 +1,7 @@
 // Whether a memory and a directory fit each other, whether the rack runs, and whether there is such
-// a card: refusals 1, 2, 11 and 3. Each check is true where it refuses. A directory comes as its
-// header, by value, with its homes lent beside it.
+// a card: refusals 1, 2, 11 and 3. Each check is true where it refuses; a function that ends in
+// `_refusal` answers the outcome of several, with the number 0 where none refuses. A directory comes
+// as its header, by value, with its homes lent beside it.
 ghost use Rattle.laws.specs.Prelude.{_≡_, _*_, _<_, _≤_, [], _∷_, not, _||_, length, leb};
 ghost use Rattle.laws.specs.Search.{someBelow, countBelow};
 ghost use Rattle.directory.specs.Directory.{liveAt, directoryBy, FullHomes, awaitsCard};
@@ -217,9 +218,9 @@ fn bad_cards(memory: &[u32], header: Header) -> bool
 {
     let live = header.live;
     let pages = header.pages;
-    let cards = header.cards as usize;
+    let end = header.cards as usize;
     let mut card: usize = 0;
-    while card < cards {
+    while card < end {
         if bad_card(memory, pages, &live, card) {
             return true;
         }
@@ -251,7 +252,7 @@ fn unfit_rack(memory: &[u32], header: Header, primary: &[u32], secondary: &[u32]
 
 // ---- the checks in order
 
-// What the last check of a call comes to.
+// The outcome of a check after which none follows.
 pub fn last_check(refuses: bool, number: u32) -> Outcome
     ensures { λ r. ⌜ r ≡ firstRefusal (check refuses number ∷ []) 0 ⌝ }
 {

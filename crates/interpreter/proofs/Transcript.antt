@@ -9,7 +9,7 @@ use Rattle.lines.specs.Grammar.{breakAt, linesOf}
 use Rattle.lines.proofs.Grammar.{reads-commands}
 use Rattle.lines.proofs.Begun.{begun, read-more}
 use Rattle.interpreter.specs.Transcript.{Session, sessionOf, executed, answered, stateAfter, printed, replies}
-use Rattle.interpreter.specs.Transcript.{answers, header, PrintsTranscript}
+use Rattle.interpreter.specs.Transcript.{answers, firstLine, PrintsTranscript}
 use Rattle.interpreter.proofs.Parts.{prints-in-parts}
 
 -- the first of these lines goes on from p
@@ -87,4 +87,4 @@ prints (b ∷ bs) = go (eqb b 10) refl (prints bs)
 pub prints-transcript : PrintsTranscript
 unfolding lineRead joined
 prints-transcript m input =
-    ap (λ l. header ++ l) (prints input 1 (formatting m 3 4 .directory) (formatting m 3 4 .memory) [])
+    ap (λ l. firstLine ++ l) (prints input 1 (formatting m 3 4 .directory) (formatting m 3 4 .memory) [])

@@ -96,8 +96,8 @@ abbrev pub firstSession : List ℕ → Session
 firstSession m = sessionOf (formatting m 3 4 .directory) 1 freshLine
 
 -- "rack 3 4"
-abbrev pub header : List ℕ
-header = 114 ∷ 97 ∷ 99 ∷ 107 ∷ 32 ∷ 51 ∷ 32 ∷ 52 ∷ 10 ∷ []
+abbrev pub firstLine : List ℕ
+firstLine = 114 ∷ 97 ∷ 99 ∷ 107 ∷ 32 ∷ 51 ∷ 32 ∷ 52 ∷ 10 ∷ []
 
 -- an answer for each line, the rack going from line to line
 unfoldable pub answers : ℕ → Directory → List ℕ → List (List ℕ) → List ℕ
@@ -110,9 +110,9 @@ answers number d m (line ∷ lines) =
 -- what the program prints, on a memory that is handed to it, for its whole input
 abbrev pub transcript : List ℕ → List ℕ → List ℕ
 transcript m input =
-    header ++ answers 1 (formatting m 3 4 .directory) (formatting m 3 4 .memory) (linesOf input)
+    firstLine ++ answers 1 (formatting m 3 4 .directory) (formatting m 3 4 .memory) (linesOf input)
 
--- The header and what is printed from the first byte on are the transcript.
+-- The first line and what is printed from the first byte on are the transcript.
 abbrev pub PrintsTranscript : Type 0
 PrintsTranscript =
-    (m input : List ℕ) → header ++ replies (firstSession m) (formatting m 3 4 .memory) input ≡ transcript m input
+    (m input : List ℕ) → firstLine ++ replies (firstSession m) (formatting m 3 4 .memory) input ≡ transcript m input

@@ -5,7 +5,7 @@ ghost use lib.Seq.{sets};
 ghost use Rattle.protocol.specs.Formatting.{formatting};
 ghost use Rattle.interpreter.specs.Transcript.{executed, answered, nextLine, withLine};
 ghost use Rattle.interpreter.specs.Transcript.{stateOf, stateAfter, printed, lastAnswer};
-ghost use Rattle.interpreter.specs.Transcript.{lastMemory, firstSession, header};
+ghost use Rattle.interpreter.specs.Transcript.{lastMemory, firstSession, firstLine};
 ghost use Rattle.interpreter.specs.Transcript.{PrintsInParts, PrintsTranscript};
 use directory::Directory;
 use lines::Line;
@@ -188,15 +188,15 @@ pub fn prints_in_parts()
     ensures { λ _. ⌜ PrintsInParts ⌝ }
 {}
 
-// Whatever the input holds, the header and what is printed from the first byte on are document 01's
-// transcript. It does nothing when it is called.
+// Whatever the input holds, the first line and what is printed from the first byte on are document
+// 01's transcript. It does nothing when it is called.
 pub fn prints_transcript()
     ensures { λ _. ⌜ PrintsTranscript ⌝ }
 {}
 
 // The line that the program prints first.
-pub fn header() -> [u8; 9]
-    ensures { λ r. ⌜ r ≡ header ⌝ }
+pub fn first_line() -> [u8; 9]
+    ensures { λ r. ⌜ r ≡ firstLine ⌝ }
 {
     [b'r', b'a', b'c', b'k', b' ', b'3', b' ', b'4', b'\n']
 }

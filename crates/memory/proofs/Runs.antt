@@ -1,6 +1,6 @@
 -- Runs of words of the memory: loaded after stores, stored one after another, cleared, copied.
 use Rattle.laws.proofs.Prelude.{ℕ, zero, suc, _+_, _*_, _-_, _<_, _≤_, _≡_, refl, sym, ap, _∙_, List, [], _∷_, _++_}
-use Rattle.laws.proofs.Prelude.{arith, length, getD, set, drop}
+use Rattle.laws.proofs.Prelude.{arith, length, getD, drop}
 use Prim.Native.Nat.{min}
 use native.Mathlib.Nat.{add-assoc}
 use lib.ListN.{length-take, length-drop, length-replicate}

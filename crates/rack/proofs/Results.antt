@@ -2,12 +2,12 @@
 use Rattle.laws.proofs.Prelude.{ℕ, _<_, _≡_, refl, sym, _∙_, _≢_, List, [], true, eq-eqb, ne-eqb, not-false, length}
 use Rattle.laws.proofs.Bools.{by-cond}
 use Rattle.answer.specs.declared.Outcome.{Outcome}
-use Rattle.answer.specs.Outcome.{given, refused}
+use Rattle.answer.specs.Outcome.{given}
 use Rattle.directory.specs.declared.Directory.{Directory}
 use Rattle.directory.specs.Directory.{backupOf, markedLive}
 use Rattle.area.specs.Prelude.{zeros, deskSize, Release}
 use Rattle.protocol.specs.Release.{sizeOf, stepMemory}
-use Rattle.protocol.specs.Checks.{Check, firstRefusal, awaitsRecovery}
+use Rattle.protocol.specs.Checks.{firstRefusal, awaitsRecovery}
 use Rattle.protocol.specs.Result.{Result, resultOf, accepted}
 use Rattle.protocol.specs.Calls.{opening, openingChecks, step, stepChecks, fetch, fetchChecks, failure, failureChecks}
 use Rattle.protocol.specs.Calls.{recovery, recoveryChecks, join, joinChecks, deskQuestion, deskChecks}
@@ -34,7 +34,7 @@ module _ {first o : Outcome} (reached : first ≡ o) (done : Outcome → Result)
   accepted-does : first .number ≡ 0 → resultOf o (done o) d m words ≡ done first
   accepted-does none = rw (← reached) (rw (eq-eqb _ _ none))
 
--- where the call done keeps the directory, so does the call
+-- a call whose accepted result keeps the directory keeps it, refused or not
 either-keeps : (o : Outcome) (d : Directory) (done m words kept : List ℕ)
     → resultOf o (resultIs o d done words) d m kept .directory ≡ d
 either-keeps o d done m words kept =
@@ -140,7 +140,8 @@ module _ (d : Directory) (m : List ℕ) where
     pub recovery-refused : first .number ≢ 0 → recovery d m ≡ resultIs first d m (zeros deskSize)
     unfolding recovery
     recovery-refused some =
-        refused-keeps (sym (refused-first [] stamp (recoveryChecks d m) refl reached some)) done d m (zeros deskSize) some
+        let first-is = sym (refused-first [] stamp (recoveryChecks d m) refl reached some) in
+        refused-keeps first-is done d m (zeros deskSize) some
 
     pub recovery-accepted : first .number ≡ 0 → recovery d m ≡ done (given stamp)
     unfolding recovery

@@ -1,5 +1,6 @@
 // The calls of the rack (document 01). Each takes the lent memory and the directory, and answers
 // on any of them: it refuses by number and place, and a refusal changes no word of what was lent.
+// Those that end in `_lent` take the directory's header, and its 64 homes of each kind lent.
 ghost use Rattle.laws.specs.Prelude.{_≡_, _<_, length};
 ghost use Rattle.answer.specs.Outcome.{answerOf};
 ghost use Rattle.directory.specs.Directory.{nextLiveOf, headerOf, directoryBy, FullHomes};
@@ -86,8 +87,8 @@ pub fn open_release(
     Reply { directory, answer }
 }
 
-// Makes one step of the release that is open on a card: the call for those who hold a directory as
-// its header and homes, and lend these.
+// Makes one step of the release that is open on a card: for a caller that has the directory's header
+// and lends its homes.
 pub fn step_lent<'a>(
     memory: &mut [u32],
     header: Header,
@@ -134,8 +135,8 @@ pub fn make_step(memory: &mut [u32], directory: Directory, card: u32) -> Reply
     Reply { directory, answer }
 }
 
-// Copies the committed page at its primary into the buffer: the call for those who hold a directory
-// as its header and homes, and lend these.
+// Copies the committed page at its primary into the buffer: for a caller that has the directory's
+// header and lends its homes.
 pub fn fetch_lent<'a>(
     memory: &[u32],
     header: Header,
@@ -187,7 +188,8 @@ pub fn fetch_page(memory: &[u32], directory: Directory, page: u32, buffer: &mut 
     Reply { directory, answer }
 }
 
-// Marks a card dead; its recovery is awaited.
+// Marks a card dead; its recovery is awaited. A field that is an enum is not stored to: the struct is
+// made anew.
 pub fn fail_card(memory: &[u32], directory: Directory, card: u32) -> Reply
     ensures answer { λ r. ⌜ r .answer
         ≡ answerOf (failure directory (now (memory .entry)) card .outcome) ⌝ }

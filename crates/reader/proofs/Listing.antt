@@ -1,6 +1,6 @@
 -- The prices of a list written out, one number for each: what is left to write, written from here on, gives the whole.
 use Rattle.laws.proofs.Prelude.{ℕ, zero, suc, _+_, _≤_, _<_, _≡_, refl, ap, _∙_, List, [], _∷_, Bool, true, false, cond}
-use Rattle.laws.proofs.Prelude.{_++_, sym, arith, length, getD, ltb}
+use Rattle.laws.proofs.Prelude.{sym, arith, length, getD, ltb}
 use mathlib.Core.List.{map, map-append}
 use native.Mathlib.Nat.{zero-add}
 use lib.ListN.{length-map, length-append}

@@ -1,36 +1,25 @@
 -- Recovery: each part looks at that of the directory which it is lent.
-use Rattle.laws.proofs.Prelude.{ℕ, zero, suc, _≡_, refl, sym, ap, _∙_, List, [], _∷_, Bool, true, set}
+use Rattle.laws.proofs.Prelude.{ℕ, zero, suc, _≡_, refl, sym, ap, _∙_, List, Bool, true, set}
 use Rattle.laws.specs.Search.{inTurn}
 use Rattle.directory.specs.declared.Directory.{Directory}
-use Rattle.directory.specs.Directory.{primaryOf, secondaryOf, backupOf}
+use Rattle.directory.specs.Directory.{backupOf}
 use Rattle.area.specs.Prelude.{Release, writeOwnRecord}
-use Rattle.diff.specs.declared.Price.{Price}
-use Rattle.protocol.specs.Release.{sizeOf, Write, priceWrite, priceWrites, releaseWrites, stepMemory}
+use Rattle.protocol.specs.Release.{sizeOf, stepMemory}
 use Rattle.protocol.specs.Recovery.{restoreHome, restorePage, restorePages, lostHome, keptHome, newHome, copyToNewHome}
 use Rattle.protocol.specs.Recovery.{copyToNewHomes, writeFailed, writeRecords, runToClose, closeReleases, failedRelease}
 use Rattle.protocol.specs.Recovery.{restoredMemory, recoveredMemory, recoveredDirectory, stepTimes}
+use Rattle.protocol.proofs.claims.SameHomes.{writes-same}
 use Rattle.recovery.specs.Rack.{marksOf, rackOf, backedBy}
 use Rattle.recovery.specs.Closing.{recoveredClosed}
 use Rattle.recovery.proofs.Turns.{in-turn-same}
 use Rattle.recovery.proofs.homes.Moves.{rack, all-moved}
 
--- ---- the steps of a release look at pages, marks and homes alone
+-- ---- the steps of a release do not look at the status
 
 module _ (d : Directory) where
-  same-prices : (half : ℕ) (ps : List Price) → priceWrites (rack d) half ps ≡ priceWrites d half ps
-  same-prices half [] = refl
-  same-prices half (p ∷ ps) =
-      ap (λ (rest : List Write). priceWrite (secondaryOf d) half p ∷ priceWrite (primaryOf d) half p ∷ rest)
-      (same-prices half ps)
-
-  same-writes : (backup c : ℕ) (r : Release) (ps : List Price)
-      → releaseWrites (rack d) backup c r ps ≡ releaseWrites d backup c r ps
-  unfolding releaseWrites
-  same-writes backup c r ps = simp same-prices
-
   same-step : (backup : ℕ) (m : List ℕ) (c : ℕ) → stepMemory (rack d) backup m c ≡ stepMemory d backup m c
   unfolding stepMemory
-  same-step backup m c = simp same-writes
+  same-step backup m c = simp (writes-same d (rack d) refl refl)
 
   same-times : (backup c n : ℕ) (m : List ℕ) → stepTimes (rack d) backup c n m ≡ stepTimes d backup c n m
   unfolding stepTimes

@@ -44,6 +44,7 @@ fn run_to_close(
     let at = card as usize;
     if area::releases::is_open(memory, area::layout::area_size(pages), &live, at) {
         let backup = backup_before(live, cards, failed, card) as usize;
+        // A step does not look at the status.
         let header = Header {
             cards,
             pages,

@@ -191,7 +191,7 @@ pub fn desk_question<'a>(
     checks::card_refusal(memory, header, primary, secondary, card)
 }
 
-// An accepted recovery answers a stamp, which is not known yet.
+// Accepted with 0: the stamp that the call answers is not known yet.
 pub fn recovery<'a>(
     memory: &[u32],
     header: Header,

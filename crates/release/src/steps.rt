@@ -53,9 +53,10 @@ fn listed_price(labels: &[u32], prices: &[u32], n: usize) -> Price
     }
 }
 
-// So many steps of the release open on a card, which has k prices; its record is at the backup.
-struct Run {
+// So many steps of the release open on a card, which has k prices.
+struct StepsToMake {
     card: usize,
+    // Holds the record; those that store a price store nothing there.
     backup: usize,
     k: u32,
     count: u32,
@@ -68,29 +69,29 @@ fn store_prices(
     header: Header,
     primary: &[u32],
     secondary: &[u32],
-    run: Run,
+    asked: StepsToMake,
     labels: &[u32],
     prices: &[u32],
 )
     requires { ⌜ HomesIn (header .live) (header .pages) (now primary) (now secondary)
         (length (now memory)) ⌝ }
     requires { ⌜ CardIn (header .live) (length (now memory)) (areaSize (header .pages))
-        (run .card) ⌝ }
-    requires { ⌜ StepsLeft (header .pages) (now memory) (run .card) (run .k) (run .count) ⌝ }
-    requires { ⌜ (0 < run .count)
-        × (run .count
-        ≤ pricesNext (run .k) (stepsOf (areaSize (header .pages)) (now memory) (run .card))) ⌝ }
-    requires { ⌜ Listed (header .pages) (now memory) (run .card) (now labels) (now prices) ⌝ }
+        (asked .card) ⌝ }
+    requires { ⌜ StepsLeft (header .pages) (now memory) (asked .card) (asked .k) (asked .count) ⌝ }
+    requires { ⌜ (0 < asked .count)
+        × (asked .count
+        ≤ pricesNext (asked .k) (stepsOf (areaSize (header .pages)) (now memory) (asked .card))) ⌝ }
+    requires { ⌜ Listed (header .pages) (now memory) (asked .card) (now labels) (now prices) ⌝ }
     ensures { λ _. ⌜ now (memory .exit)
         ≡ stepTimes (directoryBy header (now (primary .entry)) (now (secondary .entry)))
-        (run .backup) (run .card) (run .count) (now (memory .entry)) ⌝ }
+        (asked .backup) (asked .card) (asked .count) (now (memory .entry)) ⌝ }
 {
     let size = layout::area_size(header.pages);
-    let card = run.card;
-    let count = run.count;
+    let card = asked.card;
+    let count = asked.count;
     let steps = area::releases::steps_made(memory, size, card);
-    let half = crate::half_next(run.k, steps);
-    let first = crate::number_next(run.k, steps);
+    let half = crate::half_next(asked.k, steps);
+    let first = crate::number_next(asked.k, steps);
     let mut made: u32 = 0;
     while made < count {
         let at = first + made;
@@ -107,32 +108,32 @@ fn make_listed(
     header: Header,
     primary: &[u32],
     secondary: &[u32],
-    run: Run,
+    asked: StepsToMake,
     labels: &[u32],
     prices: &[u32],
 )
     requires { ⌜ HomesIn (header .live) (header .pages) (now primary) (now secondary)
         (length (now memory)) ⌝ }
     requires { ⌜ CardIn (header .live) (length (now memory)) (areaSize (header .pages))
-        (run .card) ⌝ }
+        (asked .card) ⌝ }
     requires { ⌜ CardIn (header .live) (length (now memory)) (areaSize (header .pages))
-        (run .backup) ⌝ }
-    requires { ⌜ StepsLeft (header .pages) (now memory) (run .card) (run .k) (run .count) ⌝ }
-    requires { ⌜ Listed (header .pages) (now memory) (run .card) (now labels) (now prices) ⌝ }
+        (asked .backup) ⌝ }
+    requires { ⌜ StepsLeft (header .pages) (now memory) (asked .card) (asked .k) (asked .count) ⌝ }
+    requires { ⌜ Listed (header .pages) (now memory) (asked .card) (now labels) (now prices) ⌝ }
     ensures { λ _. ⌜ now (memory .exit)
         ≡ stepTimes (directoryBy header (now (primary .entry)) (now (secondary .entry)))
-        (run .backup) (run .card) (run .count) (now (memory .entry)) ⌝ }
+        (asked .backup) (asked .card) (asked .count) (now (memory .entry)) ⌝ }
 {
     let size = layout::area_size(header.pages);
-    let card = run.card;
-    let backup = run.backup;
-    let k = run.k;
-    let mut left = run.count;
+    let card = asked.card;
+    let backup = asked.backup;
+    let k = asked.k;
+    let mut left = asked.count;
     while 0 < left {
         let made = area::releases::steps_made(memory, size, card);
         let count = smaller(left, crate::prices_next(k, made));
         if 0 < count {
-            let next = Run {
+            let next = StepsToMake {
                 card,
                 backup,
                 k,
@@ -175,12 +176,12 @@ pub fn make_steps(
     let list = area::releases::open_list(memory, size, card);
     let k = reader::list_prices(list, pages, &mut labels, &mut prices);
     let steps = smaller(count, steps_left(memory, size, card, k));
-    let run = Run {
+    let asked = StepsToMake {
         card,
         backup,
         k,
         count: steps,
     };
-    make_listed(memory, header, primary, secondary, run, &labels, &prices);
+    make_listed(memory, header, primary, secondary, asked, &labels, &prices);
     steps
 }

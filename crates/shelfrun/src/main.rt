@@ -66,7 +66,7 @@ fn answer_input(memory: &mut [u32], session: Session) -> Session {
 fn main() {
     let mut memory = [0u32; 2796];
     let session = interpreter::start(&mut memory);
-    io::write_all(STDOUT_FILENO, &interpreter::header());
+    io::write_all(STDOUT_FILENO, &interpreter::first_line());
     let last = answer_input(&mut memory, session);
     let mut answer = [0u8; 80];
     let written = interpreter::finish(&mut memory, last, &mut answer);

@@ -1,5 +1,5 @@
 -- Rests on `Passed`: the search from here on finds what the whole search finds.
-use Prim.Native.Nat.{_-_}
+use Prim.Native.Nat.{_-_, _<_}
 use mathlib.Core.Path.{_≡_, sym, _∙_}
 use native.Mathlib.Omega.{arith}
 use borrow.Author.Needs.{needs}
@@ -11,29 +11,30 @@ use Rattle.checks.proofs.bad_cards.Statement.{statement}
 use Rattle.checks.proofs.bad_cards.Tie as tie
 
 abbrev Inv-loop : tie.InvT-loop
-Inv-loop memory live pages cards card₀ card = Passed (badCard live pages memory) cards card
+Inv-loop memory live pages end card₀ card = Passed (badCard live pages memory) end card
 
 abbrev μ-loop : tie.MeasureT-loop
-μ-loop memory live pages cards card₀ card = cards - card
+μ-loop memory live pages end card₀ card = end - card
 
 bad-card-requires : tie.Need-bad-card-requires Inv-loop μ-loop
 bad-card-requires c κs =
     let start = c .before .before .before .before .before .before in
     let marks : length (start .args .header .live) ≡ 8 = search needs in
     let pre = start .pre in
-    ((pre .1, area-in _ (c .before .loop-test .taken) (pre .2)), omega (arith, pre .0))
+    let below : c .before .before .loop .card < start .args .header .cards = omega arith in
+    ((pre .1, area-in _ below (pre .2)), omega (arith, pre .0))
 
 returns : tie.Need-returns Inv-loop μ-loop
 returns c =
     let turn = c .before .before .before in
     let bad = sym (c .before .bad-card .ensures) ∙ c .if1 .taken in
-    some-found (turn .before .loop .inv) (turn .loop-test .taken) bad
+    some-found (turn .before .loop .inv) (omega arith) bad
 
 loop-again : tie.Need-loop-again Inv-loop μ-loop
 loop-again c =
     let turn = c .before .before .before in
     let fine = sym (c .before .bad-card .ensures) ∙ c .if1 .left in
-    passed-more (turn .before .loop .inv) (turn .loop-test .taken) fine
+    passed-more (turn .before .loop .inv) (omega arith) fine
 
 returns-2 : tie.Need-returns-2 Inv-loop μ-loop
 returns-2 c = none-found (c .before .loop .inv) (c .loop-test .left)

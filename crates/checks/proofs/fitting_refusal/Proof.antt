@@ -3,19 +3,20 @@ use mathlib.Core.Path.{sym, _∙_}
 use borrow.Author.Needs.{needs}
 use Rattle.protocol.proofs.checks.Limits.{within-limits}
 use Rattle.checks.proofs.Order.{first-refuses, first-passes}
+use Rattle.checks.proofs.Passing.{memory-of}
 use Rattle.checks.proofs.fitting_refusal.Statement.{statement}
 use Rattle.checks.proofs.fitting_refusal.Tie as tie
 
 returns : tie.Need-returns
 returns c =
-    let limits = c .before .before in
-    c .refused-at .ensures ∙ sym (first-refuses _ _ _ _ _ (sym (limits .outside-limits .ensures) ∙ c .before .if1 .taken))
+    let outside = sym (c .before .before .outside-limits .ensures) ∙ c .before .if1 .taken in
+    c .refused-at .ensures ∙ sym (first-refuses _ _ _ _ _ outside)
 
 unfit-rack-requires : tie.Need-unfit-rack-requires
 unfit-rack-requires c κs =
     let start = c .before .before .before .before .before in
     let within = within-limits _ _ _ (sym (c .before .outside-limits .ensures) ∙ c .if1 .left) in
-    ((within .cards-most, within .pages-most, within .whole), start .pre)
+    (memory-of within, start .pre)
 
 returns-2 : tie.Need-returns-2
 returns-2 c =

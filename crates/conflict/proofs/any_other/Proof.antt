@@ -29,7 +29,8 @@ returns : tie.Need-returns Inv-loop μ-loop
 returns c =
     let turn = c .before .before .before in
     let opened = sym (c .before .is-other .ensures) ∙ c .if1 .taken in
-    rw (← turn .before .before .area-size .ensures) (some-found (turn .before .loop .inv) (turn .loop-test .taken) opened)
+    rw (← turn .before .before .area-size .ensures)
+    (some-found (turn .before .loop .inv) (turn .loop-test .taken) opened)
 
 loop-again : tie.Need-loop-again Inv-loop μ-loop
 loop-again c =

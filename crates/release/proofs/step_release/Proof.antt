@@ -53,8 +53,9 @@ step-price-requires c κs =
     let k = counting .count-prices .result in
     let next = next-price k (nexts .before .steps-made .result) (omega (arith, nexts .prices-next .ensures)) in
     let bounds = half-bounds (next .half) in
+    let at = numbering .number-next .result in
     let price =
-    price-at (a .header .pages) (a .memory .now) (a .card) (numbering .number-next .result / 2) (found .find-price .result)
+    price-at (a .header .pages) (a .memory .now) (a .card) (at / 2) (found .find-price .result)
     (omega (arith, next .rest, numbering .number-next .ensures, counted .prices)) (found .find-price .ensures)
     in
     (start .pre .0, (price .on-page, price .in-page, omega (arith, bounds .1, c .before .half-next .ensures)))

@@ -12,7 +12,7 @@ use Rattle.release.proofs.Counting.{PricesMade, prices-none, prices-one
 use Rattle.release.proofs.steps.store_prices.Statement.{statement}
 use Rattle.release.proofs.steps.store_prices.Tie as tie
 
--- the release has as many prices as its list has
+-- k is not at hand in the loop: the number of prices is that of the list
 abbrev Inv-loop : tie.InvT-loop
 Inv-loop memory₀ header primary secondary labels prices size card count steps half first made₀ memory made =
     PricesMade (directoryBy header primary secondary) card (length (openPrices (header .pages) memory₀ card)) memory₀
@@ -57,7 +57,8 @@ add-at c =
     let some = pre .1 .1 .0 in
     let due = rw (sized .area-size .ensures) at (loaded .steps-made .ensures) in
     let more = rw (← due) at (pre .1 .1 .1 .0 .1) in
-    let next = next-price (start .args .run .k) (loaded .steps-made .result) (omega (arith, more, pre .1 .1 .1 .0 .0)) in
+    let steps = loaded .steps-made .result in
+    let next = next-price (start .args .asked .k) steps (omega (arith, more, pre .1 .1 .1 .0 .0)) in
     omega (arith, next .rest, numbering .number-next .ensures, some .few, more)
 
 listed-price-requires : tie.Need-listed-price-requires Inv-loop μ-loop
@@ -71,7 +72,8 @@ listed-price-requires c κs =
     let listed = pre .1 .1 .1 .1 in
     let due = rw (sized .area-size .ensures) at (loaded .steps-made .ensures) in
     let more = rw (← due) at (pre .1 .1 .1 .0 .1) in
-    let next = next-price (start .args .run .k) (loaded .steps-made .result) (omega (arith, more, pre .1 .1 .1 .0 .0)) in
+    let steps = loaded .steps-made .result in
+    let next = next-price (start .args .asked .k) steps (omega (arith, more, pre .1 .1 .1 .0 .0)) in
     let number = numbering .number-next .ensures in (
       omega (arith, next .rest, number, some .few, more, listed .labels-long),
       omega (arith, next .rest, number, some .few, more, listed .prices-long),
@@ -90,11 +92,11 @@ step-price-requires c κs =
     let some = pre .1 .1 .0 in
     let due = rw (sized .area-size .ensures) at (loaded .steps-made .ensures) in
     let more = rw (← due) at (pre .1 .1 .1 .0 .1) in
-    let next = next-price (a .run .k) (loaded .steps-made .result) (omega (arith, more, pre .1 .1 .1 .0 .0)) in
+    let next = next-price (a .asked .k) (loaded .steps-made .result) (omega (arith, more, pre .1 .1 .1 .0 .0)) in
     let bounds = half-bounds (next .half) in
     let at = numbering .number-next .result + turn .loop .made in
     let price =
-    price-at (a .header .pages) (a .memory .now) (a .run .card) (at / 2) (c .before .listed-price .result)
+    price-at (a .header .pages) (a .memory .now) (a .asked .card) (at / 2) (c .before .listed-price .result)
     (omega (arith, next .rest, numbering .number-next .ensures, some .prices, more))
     (rw (c .before .listed-price .ensures) (pre .1 .1 .1 .1 .is (at / 2)))
     in (
@@ -118,10 +120,10 @@ loop-again c =
     let some = pre .1 .1 .0 in
     let due = rw (sized .area-size .ensures) at (loaded .steps-made .ensures) in
     let more = rw (← due) at (pre .1 .1 .1 .0 .1) in
-    let next = next-price (a .run .k) (loaded .steps-made .result) (omega (arith, more, pre .1 .1 .1 .0 .0)) in
+    let next = next-price (a .asked .k) (loaded .steps-made .result) (omega (arith, more, pre .1 .1 .1 .0 .0)) in
     let number = numbering .number-next .ensures in
     let at = numbering .number-next .result + turn .loop .made in
-    let half : HalfFrom (a .run .k) (next .first) (halving .half-next .result) =
+    let half : HalfFrom (a .asked .k) (next .first) (halving .half-next .result) =
     rw (halving .half-next .ensures) (next .half)
     in
     prices-one (directoryBy (a .header) (a .primary .now) (a .secondary .now)) {first = next .first}
