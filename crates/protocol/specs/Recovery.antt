@@ -35,7 +35,7 @@ unfoldable pub closeReleases : Directory → ℕ → List ℕ → List ℕ
 closeReleases d f m = inTurn (runToClose d f) (d .cards) m
 
 -- ---- "If stamp and done mark differ, each live home of each page copies tentative to committed. If they agree,
--- committed to tentative."
+-- committed to tentative." (Rolled forward and rolled back, in the order of 004, section 4.5.2.)
 
 unfoldable pub restoreHome : Directory → Bool → ℕ → ℕ → List ℕ → List ℕ
 restoreHome d forward page home m =

@@ -1,10 +1,10 @@
 -- Inner contracts only. What recovery and join rely on, as a rack that passed its checks has it; a directory as far as
 -- they look at it.
-use Rattle.laws.specs.Prelude.{ℕ, _*_, _<_, _≤_, _≡_, List, [], Bool, true, cond, _&&_, length, eqb}
+use Rattle.laws.specs.Prelude.{ℕ, _+_, _*_, _<_, _≤_, _≡_, List, [], Bool, true, cond, _&&_, length, eqb}
 use Rattle.directory.specs.declared.Directory.{Directory}
 use Rattle.directory.specs.declared.Status.the-variants.{Running}
 use Rattle.directory.specs.Directory.{liveAt, nextLive, directoryOf, isLive}
-use Rattle.area.specs.Prelude.{storeRun, areaSize, recordAt}
+use Rattle.area.specs.Prelude.{copyRun, storeRun, areaSize, recordAt, pageSize, pageAt}
 use Rattle.protocol.specs.Release.{sizeOf}
 
 -- marks of at most 8 cards, and a memory of one area for each card
@@ -21,6 +21,13 @@ rackOf cards pages live primary secondary = directoryOf cards pages live primary
 -- cards, pages and marks
 abbrev pub marksOf : ℕ → ℕ → List Bool → Directory
 marksOf cards pages live = rackOf cards pages live [] []
+
+-- at a home that is live, one half of a page copied to the other; a half is named by its place in the page
+unfoldable pub copyAtHome : List Bool → ℕ → ℕ → ℕ → ℕ → ℕ → List ℕ → List ℕ
+copyAtHome live pages home page from to m =
+    cond (liveAt live home)
+    (copyRun (areaSize pages) m home (pageAt page + from) home (pageAt page + to) pageSize)
+    m
 
 -- the record of a failed card, given by its words, stored on a card if that is live
 abbrev pub storeFailed : Directory → ℕ → List ℕ → ℕ → List ℕ → List ℕ

@@ -1,40 +1,39 @@
 // Pages rolled forward or back: at each live home tentative is copied to committed, or committed to
 // tentative.
-ghost use Rattle.laws.specs.Prelude.{_≡_, _<_, _≤_, length};
-ghost use Rattle.area.specs.Prelude.{areaSize};
-ghost use Rattle.protocol.specs.Recovery.{restoreHome, restorePage, restorePages};
+ghost use Rattle.laws.specs.Prelude.{_≡_, _+_, _<_, _≤_, length};
+ghost use Rattle.area.specs.Prelude.{areaSize, pageSize, storedPageSize};
+ghost use Rattle.protocol.specs.Recovery.{restorePage, restorePages};
 ghost use Rattle.release.specs.Stepping.{CardIn, HomesIn};
-ghost use Rattle.recovery.specs.Rack.{marksOf, rackOf};
+ghost use Rattle.recovery.specs.Rack.{copyAtHome, rackOf};
 use area::layout;
 
-// On a live home of a page: tentative to committed, or back.
-fn restore_home(
+// At a home of a page that is live, copies one half of the page to the other; a half is named by
+// its place in the page.
+fn copy_at_home(
     memory: &mut [u32],
     pages: u32,
     live: &[bool],
-    forward: bool,
-    page: usize,
     home: usize,
+    page: usize,
+    from: usize,
+    to: usize,
 )
     requires { ⌜ CardIn (now live) (length (now memory)) (areaSize pages) home ⌝ }
     requires { ⌜ (page < pages) × (pages ≤ 64) ⌝ }
+    requires { ⌜ (from + pageSize ≤ storedPageSize) × (to + pageSize ≤ storedPageSize) ⌝ }
     ensures { λ _. ⌜ now (memory .exit)
-        ≡ restoreHome (marksOf 0 pages (now (live .entry))) forward page home
-        (now (memory .entry)) ⌝ }
+        ≡ copyAtHome (now (live .entry)) pages home page from to (now (memory .entry)) ⌝ }
 {
     if live[home] {
         let size = layout::area_size(pages);
-        let first = layout::TENTATIVE_HALF;
-        let second = layout::COMMITTED_HALF;
-        if forward {
-            area::pages::copy_half(memory, size, home, page, first, second);
-            return;
-        }
-        area::pages::copy_half(memory, size, home, page, second, first);
+        area::pages::copy_half(memory, size, home, page, from, to);
     }
 }
 
-// On both homes of a page.
+// Restores a page at each live home. Source document 004, section 4.5.2, "Restoring shared memory
+// consistency", makes the two copies of a page equal again in one of two cases: these are the two,
+// in its order. There each home has one copy, here each has both. `forward` says that the stamp and
+// the done mark of the failed card's record differ.
 fn restore_page(
     memory: &mut [u32],
     pages: u32,
@@ -51,13 +50,23 @@ fn restore_page(
         (rackOf 0 pages (now (live .entry)) (now (primary .entry)) (now (secondary .entry)))
         forward page (now (memory .entry)) ⌝ }
 {
-    let second = secondary[page] as usize;
-    let first = primary[page] as usize;
-    restore_home(memory, pages, live, forward, page, second);
-    restore_home(memory, pages, live, forward, page, first);
+    let secondary = secondary[page] as usize;
+    let primary = primary[page] as usize;
+    let tentative = layout::TENTATIVE_HALF;
+    let committed = layout::COMMITTED_HALF;
+    if forward {
+        // Roll forward, up to the completion of the interrupted release: tentative to committed.
+        copy_at_home(memory, pages, live, secondary, page, tentative, committed);
+        copy_at_home(memory, pages, live, primary, page, tentative, committed);
+    } else {
+        // Roll back, to the failed card's last successful release: committed to tentative.
+        copy_at_home(memory, pages, live, secondary, page, committed, tentative);
+        copy_at_home(memory, pages, live, primary, page, committed, tentative);
+    }
 }
 
-// On both homes of every page.
+// Restores every page, all in one case. 004 rolls forward the pages of the failed card's release
+// alone; here, on a rack that only calls have written, both copies of any other page are equal.
 pub(crate) fn restore_pages(
     memory: &mut [u32],
     pages: u32,

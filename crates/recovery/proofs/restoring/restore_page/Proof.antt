@@ -1,39 +1,47 @@
--- Rests on what `restore_home` ensures of the secondary, then of the primary.
+-- Rests on the direction, and on what `copy_at_home` ensures of the secondary, then of the primary.
 use native.Mathlib.Omega.{arith}
-use Rattle.protocol.specs.Recovery.{restoreHome, restorePage}
 use borrow.Author.Needs.{needs}
+use denote.Ref.{now}
+use Rattle.recovery.specs.Rack.{rackOf}
+use Rattle.recovery.proofs.restoring.Cases.{rolled-forward, rolled-back}
+use Rattle.recovery.proofs.restoring.Homes.{primary-card, secondary-card}
 use Rattle.recovery.proofs.restoring.restore_page.Statement.{statement}
 use Rattle.recovery.proofs.restoring.restore_page.Tie as tie
 
-cast-second : tie.Need-cast-second
-cast-second c =
+cast-secondary : tie.Need-cast-secondary
+cast-secondary c =
     let start = c .before .before .before .before .before in
     omega (arith, start .pre .0 .secondary-in (start .args .page) (start .pre .1) .eight)
 
-cast-first : tie.Need-cast-first
-cast-first c =
+cast-primary : tie.Need-cast-primary
+cast-primary c =
     let start = c .before .before .before .before .before .before in
     omega (arith, start .pre .0 .primary-in (start .args .page) (start .pre .1) .eight)
 
-restore-home-requires : tie.Need-restore-home-requires
-restore-home-requires c κs =
-    let start = c .before .before .before .before .before .before .before in
-    (start .pre .0 .secondary-in (start .args .page) (start .pre .1), (start .pre .1, start .pre .0 .few))
-
-restore-home-requires-2 : tie.Need-restore-home-requires-2
-restore-home-requires-2 c κs =
-    let start = c .before .before .before .before .before .before .before .before .before .before .before in
-    let same = c .before .before .memory .given in
-    (rw same (start .pre .0 .primary-in (start .args .page) (start .pre .1)), (start .pre .1, start .pre .0 .few))
-
 returns : tie.Need-returns
-unfolding restorePage restoreHome
 returns c =
-    let first = c .before .before .before .before .before .before in
-    rw (first .restore-home .ensures) at (c .before .before .restore-home2 .ensures)
+    let at-primary = c .before .before in
+    let at-secondary = at-primary .before .before .before .before in
+    let test = at-secondary .before .before in
+    let args = test .before .before .before .before .before .before .before .args in
+    let d = rackOf 0 (args .pages) (now (args .live)) (now (args .primary)) (now (args .secondary)) in
+    rolled-forward d (args .forward) (args .page) (now (args .memory)) (test .if1 .taken) (at-secondary .copy-at-home .ensures)
+    (at-primary .copy-at-home2 .ensures)
+
+returns-2 : tie.Need-returns-2
+returns-2 c =
+    let at-primary = c .before .before in
+    let at-secondary = at-primary .before .before .before .before in
+    let test = at-secondary .before .before in
+    let args = test .before .before .before .before .before .before .before .args in
+    let d = rackOf 0 (args .pages) (now (args .live)) (now (args .primary)) (now (args .secondary)) in
+    rolled-back d (args .forward) (args .page) (now (args .memory)) (test .if1 .left) (at-secondary .copy-at-home3 .ensures)
+    (at-primary .copy-at-home4 .ensures)
 
 pub restore-page-spec : {M : Type 1} → statement M
 restore-page-spec =
     tie.close
-    (tie.spec (λ c. search needs) (λ c. search needs) cast-second (λ c. search needs) (λ c. search needs) cast-first
-    restore-home-requires restore-home-requires-2 (λ c. search needs) returns)
+    (tie.spec (λ c. search needs) (λ c. search needs) cast-secondary (λ c. search needs) (λ c. search needs) cast-primary
+    (λ c κs. (search (needs, secondary-card), search needs)) (λ c κs. (search (needs, primary-card), search needs))
+    (λ c κs. (search (needs, secondary-card), search needs)) (λ c κs. (search (needs, primary-card), search needs))
+    (λ c. search needs) returns (λ c. search needs) returns-2)
