@@ -7,8 +7,8 @@ ghost use Rattle.release.specs.Stepping.{CardIn, HomesIn};
 ghost use Rattle.recovery.specs.Rack.{copyAtHome, rackOf};
 use area::layout;
 
-// At a home of a page that is live, copies one half of the page to the other; a half is named by
-// its place in the page.
+// At a live home of a page, copies one half of the page to the other; at a dead one, nothing. A
+// half is named by its place in the page.
 fn copy_at_home(
     memory: &mut [u32],
     pages: u32,
@@ -31,9 +31,9 @@ fn copy_at_home(
 }
 
 // Restores a page at each live home. Source document 004, section 4.5.2, "Restoring shared memory
-// consistency", makes the two copies of a page equal again in one of two cases: these are the two,
-// in its order. There each home has one copy, here each has both. `forward` says that the stamp and
-// the done mark of the failed card's record differ.
+// consistency", makes the two copies of a page equal again in one of two cases (its second
+// paragraph): these are the two, in its order. There each home has one copy, here each has both.
+// `forward` says that the stamp and the done mark of the failed card's record differ.
 fn restore_page(
     memory: &mut [u32],
     pages: u32,
@@ -66,7 +66,8 @@ fn restore_page(
 }
 
 // Restores every page, all in one case. 004 rolls forward the pages of the failed card's release
-// alone; here, on a rack that only calls have written, both copies of any other page are equal.
+// alone; here, on a rack that only calls have written, both copies of any other page are equal at
+// each live home.
 pub(crate) fn restore_pages(
     memory: &mut [u32],
     pages: u32,

@@ -1,4 +1,4 @@
--- The two cases of restoring a page: a copy at the secondary, then at the primary.
+-- The two cases of restoring a page, each a copy at the secondary, then at the primary.
 use Rattle.laws.proofs.Prelude.{ℕ, _≡_, List, Bool, true, false}
 use Rattle.directory.specs.declared.Directory.{Directory}
 use Rattle.directory.specs.Directory.{primaryOf, secondaryOf}
