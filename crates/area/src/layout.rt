@@ -1,7 +1,8 @@
 // Where things stand in a card's area: document 01's table of words, each row from the row before
 // it. specs/Layout.antt has the same table.
 ghost use Rattle.laws.specs.Prelude.{_≡_, _<_, _≤_};
-ghost use Rattle.area.specs.Layout.{areaSize, deskInRecord, recordAt, pageAt};
+ghost use Rattle.area.specs.Layout.{areaSize, deskInRecord, recordAt, recordStamp, recordDone};
+ghost use Rattle.area.specs.Layout.{recordDesk, pageAt};
 
 // Words of a release's number, of a stamp and of a done mark.
 pub const NUMBER_SIZE: usize = 1;
@@ -68,6 +69,30 @@ pub fn desk_in_record(number: u32) -> usize
     ensures { λ r. ⌜ r ≡ deskInRecord number ⌝ }
 {
     2 * NUMBER_SIZE + DESK_SIZE * (number % 2) as usize
+}
+
+// In the record of a card, its stamp.
+pub fn record_stamp(card: usize) -> usize
+    requires { ⌜ card < 8 ⌝ }
+    ensures { λ r. ⌜ r ≡ recordStamp card ⌝ }
+{
+    record_at(card)
+}
+
+// Its done mark.
+pub fn record_done(card: usize) -> usize
+    requires { ⌜ card < 8 ⌝ }
+    ensures { λ r. ⌜ r ≡ recordDone card ⌝ }
+{
+    record_at(card) + NUMBER_SIZE
+}
+
+// The desk of a release, by its number.
+pub fn record_desk(card: usize, number: u32) -> usize
+    requires { ⌜ card < 8 ⌝ }
+    ensures { λ r. ⌜ r ≡ recordDesk card number ⌝ }
+{
+    record_at(card) + desk_in_record(number)
 }
 
 pub(crate) fn page_at(page: usize) -> usize

@@ -17,9 +17,8 @@ pub fn load_record(memory: &[u32], size: usize, holder: usize, card: usize, desk
     ensures desk { λ _. ⌜ now (desk .exit)
         ≡ recordedRelease size (now (memory .entry)) holder card .desk ⌝ }
 {
-    let record = layout::record_at(card);
-    let number = numbers::load_number(memory, size, holder, record);
-    let start = record + layout::desk_in_record(number);
+    let number = numbers::load_number(memory, size, holder, layout::record_stamp(card));
+    let start = layout::record_desk(card, number);
     memory::load_run(memory, size, holder, start, desk);
     number
 }
@@ -30,9 +29,8 @@ pub fn under_way(memory: &[u32], size: usize, holder: usize, card: usize) -> boo
     requires { ⌜ card < 8 ⌝ }
     ensures { λ r. ⌜ r ≡ underWay size (now (memory .entry)) holder card ⌝ }
 {
-    let record = layout::record_at(card);
-    let stamp = numbers::load_number(memory, size, holder, record);
-    let done = numbers::load_number(memory, size, holder, record + layout::NUMBER_SIZE);
+    let stamp = numbers::load_number(memory, size, holder, layout::record_stamp(card));
+    let done = numbers::load_number(memory, size, holder, layout::record_done(card));
     if stamp == done {
         return false;
     }

@@ -164,7 +164,7 @@ fn step_desk(memory: &mut [u32], size: usize, live: &[bool], backup: usize, card
 {
     let number = numbers::load_number(memory, size, card, layout::RELEASE_NUMBER);
     let word = memory::load_word(memory, size, card, layout::RELEASE_DESK + j);
-    let desk = layout::record_at(card) + layout::desk_in_record(number);
+    let desk = layout::record_desk(card, number);
     write_word(memory, size, live, backup, desk + j, word);
 }
 
@@ -210,7 +210,7 @@ fn step_record(
         step_desk(memory, size, live, backup, card, at);
         return;
     }
-    step_number(memory, size, live, backup, card, layout::record_at(card));
+    step_number(memory, size, live, backup, card, layout::record_stamp(card));
 }
 
 // ---- which steps store a price
@@ -287,7 +287,7 @@ fn step_word(memory: &mut [u32], header: Header, backup: usize, card: usize, k: 
         step_record(memory, size, &live, backup, card, at);
         return;
     }
-    let done = layout::record_at(card) + layout::NUMBER_SIZE;
+    let done = layout::record_done(card);
     step_number(memory, size, &live, backup, card, done);
 }
 

@@ -20,13 +20,13 @@ step-number-requires : tie.Need-step-number-requires
 step-number-requires c κs =
     let start = c .before .before .before .before .before in
     let pre = start .pre in
-    rw (c .record-at .ensures) (pre .0, (pre .1 .0, (pre .1 .1 .0, omega (arith, pre .0 .eight))))
+    rw (c .record-stamp .ensures) (pre .0, (pre .1 .0, (pre .1 .1 .0, omega (arith, pre .0 .eight))))
 
 returns-2 : tie.Need-returns-2
 returns-2 c =
     let placed = c .before .before .before in
     rw (le-ltb _ _ (placed .before .before .if1 .left))
-    (rw (placed .record-at .ensures) at (c .before .before .step-number .ensures))
+    (rw (placed .record-stamp .ensures) at (c .before .before .step-number .ensures))
 
 pub step-record-spec : {M : Type 1} → statement M
 step-record-spec =

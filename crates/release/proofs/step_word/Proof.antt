@@ -38,7 +38,7 @@ step-number-requires c κs =
     let placed = c .before .before in
     let sized = placed .before .before .before in
     let pre = sized .before .before .pre in
-    rw (sized .area-size .ensures, placed .record-at .ensures)
+    rw (sized .area-size .ensures, placed .record-done .ensures)
     (pre .0, (pre .1 .0, (omega arith, omega (arith, pre .0 .eight))))
 
 returns-2 : tie.Need-returns-2
@@ -53,11 +53,11 @@ returns-2 c primary secondary =
     let past : 4 * a .k + 9 ≤ a .steps = omega (arith, none, pre .1 .1 .1 .1) in
     let d = directoryBy (a .header) primary secondary in
     rw (← done-store d (a .backup) (a .memory .now) (a .card) (a .steps) (pre .0 .area) (omega arith))
-    (rw (sized .area-size .ensures, placed .record-at .ensures) at (c .before .before .step-number .ensures))
+    (rw (sized .area-size .ensures, placed .record-done .ensures) at (c .before .before .step-number .ensures))
 
 pub step-word-spec : {M : Type 1} → statement M
 step-word-spec =
     tie.close
     (tie.spec (λ c κs. search needs) (λ c. search needs) (λ c. search needs) (λ c. search needs) sub-at
     (λ c. search needs) (λ c. search needs) step-record-requires (λ c. search needs) returns (λ c κs. search needs)
-    (λ c. search needs) (λ c. search needs) step-number-requires (λ c. search needs) returns-2)
+    (λ c. search needs) step-number-requires (λ c. search needs) returns-2)

@@ -9,17 +9,17 @@ use Rattle.area.proofs.records.under_way.Tie as tie
 returns : tie.Need-returns
 unfolding underWay
 returns c =
-    let place = c .before .before .before .record-at .ensures in
-    let stamp = rw place at (c .before .before .load-number .ensures) in
-    let done = rw place at (c .before .load-number2 .ensures) in
+    let done = rw (c .before .before .record-done .ensures) at (c .before .load-number2 .ensures) in
+    let first = c .before .before .before in
+    let stamp = rw (first .before .record-stamp .ensures) at (first .load-number .ensures) in
     rw (eq-eqb _ _ (sym stamp ∙ c .if1 .taken ∙ done))
 
 returns-2 : tie.Need-returns-2
 unfolding underWay
 returns-2 c =
-    let place = c .before .before .before .record-at .ensures in
-    let stamp = rw place at (c .before .before .load-number .ensures) in
-    let done = rw place at (c .before .load-number2 .ensures) in
+    let done = rw (c .before .before .record-done .ensures) at (c .before .load-number2 .ensures) in
+    let first = c .before .before .before in
+    let stamp = rw (first .before .record-stamp .ensures) at (first .load-number .ensures) in
     rw (ne-eqb _ _ (λ e. c .if1 .left (stamp ∙ e ∙ sym done)))
 
 pub under-way-spec : {M : Type 1} → statement M
