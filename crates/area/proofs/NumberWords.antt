@@ -15,18 +15,18 @@ module _ (f : ℕ → ℕ) (offset : ℕ) where
   pub number-kept : (f′ : ℕ → ℕ) → ((j : ℕ) → j < numberSize → f′ (offset + j) ≡ f (offset + j))
       → numberAt f′ offset ≡ numberAt f offset
   unfolding numberAt
-  number-kept f′ same = rw add-zero at (same 0 (omega arith))
+  number-kept f′ same = rw (rw add-zero at (same 0 (omega arith)), same 1 (omega arith))
 
   -- what was written is read
   pub number-is : (number : ℕ) → ((j : ℕ) → j < numberSize → f (offset + j) ≡ getD (numberWords number) j 0)
       → numberAt f offset ≡ number
   unfolding numberAt numberWords
-  number-is number words = rw add-zero at (words 0 (omega arith))
+  number-is number words = rw (rw add-zero at (words 0 (omega arith)), words 1 (omega arith)) (omega arith)
 
   -- words that are 0
   pub number-zero : ((j : ℕ) → j < numberSize → f (offset + j) ≡ 0) → numberAt f offset ≡ 0
   unfolding numberAt
-  number-zero zero-words = rw add-zero at (zero-words 0 (omega arith))
+  number-zero zero-words = rw (rw add-zero at (zero-words 0 (omega arith)), zero-words 1 (omega arith))
 
 -- a number stored, and the words that follow it, are one run
 pub number-then : (size : ℕ) (m : List ℕ) (card offset number : ℕ) (vs : List ℕ)

@@ -1,5 +1,6 @@
 -- Where things stand in a card's area (document 01, "Cards, pages, memory", the table of words). Each row starts where
--- the row before it ends, so that a size is written once. src/layout.rt has the same table.
+-- the row before it ends, so that a size is written once. src/layout.rt has the same table. Numbers take two words since
+-- document 02, request 5; `old` (crate mover) has the table of before.
 -- Assumes nothing: these are definitions.
 use Rattle.laws.specs.Prelude.{ℕ, _+_, _*_, _%_}
 
@@ -7,13 +8,13 @@ use Rattle.laws.specs.Prelude.{ℕ, _+_, _*_, _%_}
 
 -- words of a release's number, of a stamp and of a done mark
 abbrev pub numberSize : ℕ
-numberSize = 1
+numberSize = 2
 
 -- 8 words that the price desk wants back
 abbrev pub deskSize : ℕ
 deskSize = 8
 
--- ---- 0; 1–8: own stamp; own desk
+-- ---- 0–1; 2–9: own stamp; own desk
 
 abbrev pub ownStamp : ℕ
 ownStamp = 0
@@ -24,7 +25,7 @@ ownDesk = ownStamp + numberSize
 abbrev pub ownSize : ℕ
 ownSize = numberSize + deskSize
 
--- ---- 9; 10; 11; 12–19: release open (0 or 1); steps made; its number; its desk
+-- ---- 10; 11; 12–13; 14–21: release open (0 or 1); steps made; its number; its desk
 
 abbrev pub openFlag : ℕ
 openFlag = ownStamp + ownSize
@@ -41,7 +42,7 @@ releaseDesk = releaseNumber + numberSize
 abbrev pub releaseSize : ℕ
 releaseSize = 2 + numberSize + deskSize
 
--- ---- 20–163: for each card c a record of 18 words: stamp, done mark, even desk, odd desk
+-- ---- 22–181: for each card c a record of 20 words: stamp, done mark, even desk, odd desk
 
 abbrev pub recordsStart : ℕ
 recordsStart = openFlag + releaseSize
@@ -69,7 +70,7 @@ recordDone c = recordAt c + numberSize
 abbrev pub recordDesk : ℕ → ℕ → ℕ
 recordDesk c number = recordAt c + deskInRecord number
 
--- ---- 164–675: the open release's list, from its first word
+-- ---- 182–693: the open release's list, from its first word
 
 abbrev pub listStart : ℕ
 listStart = recordAt recordCount
@@ -77,7 +78,7 @@ listStart = recordAt recordCount
 abbrev pub listSize : ℕ
 listSize = 512
 
--- ---- 676 + 64p: page p: 32 tentative words, then 32 committed
+-- ---- 694 + 64p: page p: 32 tentative words, then 32 committed
 
 abbrev pub pagesStart : ℕ
 pagesStart = listStart + listSize
@@ -105,6 +106,6 @@ tentative p = pageAt p + tentativeHalf
 abbrev pub committed : ℕ → ℕ
 committed p = pageAt p + committedHalf
 
--- "each 676 + 64 × pages words"
+-- "its area to 694 + 64 × pages"
 abbrev pub areaSize : ℕ → ℕ
 areaSize pages = pageAt pages

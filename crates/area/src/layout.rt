@@ -5,7 +5,7 @@ ghost use Rattle.area.specs.Layout.{areaSize, deskInRecord, recordAt, re
 ghost use Rattle.area.specs.Layout.{recordDesk, pageAt};
 
 // Words of a release's number, of a stamp and of a done mark.
-pub const NUMBER_SIZE: usize = 1;
+pub const NUMBER_SIZE: usize = 2;
 
 // Words that the price desk wants back.
 pub const DESK_SIZE: usize = 8;
@@ -65,7 +65,7 @@ pub fn record_at(card: usize) -> usize
 }
 
 // Where the desk of a release stands in a record, by the release's number.
-pub fn desk_in_record(number: u32) -> usize
+pub fn desk_in_record(number: u64) -> usize
     ensures { λ r. ⌜ r ≡ deskInRecord number ⌝ }
 {
     2 * NUMBER_SIZE + DESK_SIZE * (number % 2) as usize
@@ -88,7 +88,7 @@ pub fn record_done(card: usize) -> usize
 }
 
 // The desk of a release, by its number.
-pub fn record_desk(card: usize, number: u32) -> usize
+pub fn record_desk(card: usize, number: u64) -> usize
     requires { ⌜ card < 8 ⌝ }
     ensures { λ r. ⌜ r ≡ recordDesk card number ⌝ }
 {

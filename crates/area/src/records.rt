@@ -9,7 +9,7 @@ use crate::layout;
 use crate::numbers;
 
 // Reads the release that the record tells: its number, and its desk by the number's evenness.
-pub fn load_record(memory: &[u32], size: usize, holder: usize, card: usize, desk: &mut [u32]) -> u32
+pub fn load_record(memory: &[u32], size: usize, holder: usize, card: usize, desk: &mut [u32]) -> u64
     requires { ⌜ (pagesStart ≤ size) × AreaIn (length (now memory)) size holder ⌝ }
     requires { ⌜ (card < 8) × (length (now desk) ≡ deskSize) ⌝ }
     ensures number { λ r. ⌜ r
@@ -38,7 +38,7 @@ pub fn under_way(memory: &[u32], size: usize, holder: usize, card: usize) -> boo
 }
 
 // The words of a record: stamp, done mark equal to it, desk by the number's evenness, other desk 0.
-pub fn settled_record(number: u32, desk: &[u32]) -> [u32; layout::RECORD_SIZE]
+pub fn settled_record(number: u64, desk: &[u32]) -> [u32; layout::RECORD_SIZE]
     requires { ⌜ length (now desk) ≡ deskSize ⌝ }
     ensures { λ r. ⌜ r ≡ settledRecord (releaseOf number (now (desk .entry))) ⌝ }
 {
@@ -62,7 +62,7 @@ fn write_record(
     size: usize,
     holder: usize,
     card: usize,
-    number: u32,
+    number: u64,
     desk: &[u32],
 )
     requires { ⌜ (pagesStart ≤ size) × AreaIn (length (now memory)) size holder ⌝ }

@@ -62,7 +62,7 @@ pub extern "C" fn rack_open(
     memory: &mut [u32],
     directory: &[u32; 139],
     card: u32,
-    number: u32,
+    number: u64,
     desk: &[u32; 8],
     list: &[u32],
 ) -> RackAnswer

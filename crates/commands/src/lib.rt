@@ -41,7 +41,7 @@ fn open_one(
         0xF0000003,
     ];
     let desk = [0u32; area::layout::DESK_SIZE];
-    let reply = rack::open_release(memory, directory, card, number, desk, &list);
+    let reply = rack::open_release(memory, directory, card, number as u64, desk, &list);
     let directory = reply.directory;
     let answer = reply.answer;
     let outcome = answer::outcome_of(answer);

@@ -53,7 +53,7 @@ pub fn open_release(
     memory: &mut [u32],
     directory: Directory,
     card: u32,
-    number: u32,
+    number: u64,
     desk: [u32; 8],
     list: &[u32],
 ) -> Reply
@@ -294,7 +294,7 @@ pub fn recover_card(memory: &mut [u32], directory: Directory) -> DeskReply
         secondary,
         status: Status::Running,
     };
-    let answer = Answer::Given(number as u64);
+    let answer = Answer::Given(number);
     DeskReply {
         directory: recovered,
         answer,

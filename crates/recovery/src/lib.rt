@@ -26,7 +26,7 @@ fn recover_closed(
     secondary: &mut [u32],
     failed: u32,
     desk: &mut [u32],
-) -> u32
+) -> u64
     requires { ⌜ RackIn live cards pages (length (now memory)) ⌝ }
     requires { ⌜ HomesIn live pages (now primary) (now secondary) (length (now memory)) ⌝ }
     requires { ⌜ SomeLive live cards ⌝ }
@@ -64,7 +64,7 @@ pub fn recover_memory(
     secondary: &mut [u32],
     failed: u32,
     desk: &mut [u32],
-) -> u32
+) -> u64
     requires { ⌜ RackIn live cards pages (length (now memory)) ⌝ }
     requires { ⌜ HomesIn live pages (now primary) (now secondary) (length (now memory)) ⌝ }
     requires { ⌜ SomeLive live cards ⌝ }

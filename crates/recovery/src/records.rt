@@ -123,7 +123,7 @@ pub(crate) fn write_records(
     pages: u32,
     live: [bool; 8],
     failed: u32,
-    number: u32,
+    number: u64,
     desk: &[u32],
 )
     requires { ⌜ RackIn live cards pages (length (now memory)) ⌝ }

@@ -31,7 +31,7 @@ fn list_refusal(memory: &[u32], header: Header, card: u32, list: &[u32]) -> Outc
 }
 
 // 4, 5 and 6, then the list.
-fn number_refusal(memory: &[u32], header: Header, card: u32, number: u32, list: &[u32]) -> Outcome
+fn number_refusal(memory: &[u32], header: Header, card: u32, number: u64, list: &[u32]) -> Outcome
     requires { ⌜ MemoryOf header (length (now memory)) ⌝ }
     requires { ⌜ card < header .cards ⌝ }
     ensures { λ r. ⌜ r
@@ -44,7 +44,7 @@ fn number_refusal(memory: &[u32], header: Header, card: u32, number: u32, list: 
     let size = area::layout::area_size(header.pages);
     let stamp = area::numbers::load_number(memory, size, card as usize, area::layout::OWN_STAMP);
     if number <= stamp {
-        return answer::refused_at(answer::NUMBER_USED, stamp as u64);
+        return answer::refused_at(answer::NUMBER_USED, stamp);
     }
     if stamp + 1 < number {
         return answer::refused_at(answer::NUMBER_AHEAD, 0);
@@ -58,7 +58,7 @@ pub fn opening<'a>(
     primary: &'a [u32],
     secondary: &'a [u32],
     card: u32,
-    number: u32,
+    number: u64,
     list: &[u32],
 ) -> Outcome
     requires { ⌜ FullHomes (now primary) (now secondary) ⌝ }

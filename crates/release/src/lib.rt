@@ -25,7 +25,7 @@ pub fn open_release(
     memory: &mut [u32],
     size: usize,
     card: usize,
-    number: u32,
+    number: u64,
     desk: &[u32],
     list: &[u32],
 )
@@ -97,7 +97,7 @@ fn write_number(
     live: &[bool],
     holder: usize,
     offset: usize,
-    number: u32,
+    number: u64,
 )
     requires { ⌜ CardIn (now live) (length (now memory)) size holder ⌝ }
     requires { ⌜ offset + numberSize ≤ size ⌝ }

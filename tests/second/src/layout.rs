@@ -1,5 +1,7 @@
-//! The lent memory and the words of one card's area ("Cards, pages, memory"). Where a
-//! thing stands there, and how many words it takes, is said in this file alone.
+//! The lent memory and the words of one card's area ("Cards, pages, memory", with the
+//! numbers of two words of "Stamps that outlast the shop"). Where a thing stands there,
+//! and how many words it takes, is said in this file alone; `old_layout` says it of the
+//! form with numbers of one word.
 
 use std::ops::{Range, RangeInclusive};
 
@@ -14,24 +16,26 @@ pub const PAGE_WORDS: usize = 32;
 pub const DESK_WORDS: usize = 8;
 /// The most words of a list ("At most 512 words in all").
 pub const LIST_WORDS: usize = 512;
+/// A number is 64 bits, "low word first".
+pub const NUMBER_WORDS: usize = 2;
 
 // The table of one area, by the first word of each row.
 pub const OWN_STAMP: usize = 0;
-pub const OWN_DESK: usize = 1;
-pub const OPEN: usize = 9;
-pub const STEPS: usize = 10;
-pub const NUMBER: usize = 11;
-pub const DESK: usize = 12;
-pub const RECORDS: usize = 20;
-pub const LIST: usize = 164;
-pub const PAGES: usize = 676;
+pub const OWN_DESK: usize = 2;
+pub const OPEN: usize = 10;
+pub const STEPS: usize = 11;
+pub const NUMBER: usize = 12;
+pub const DESK: usize = 14;
+pub const RECORDS: usize = 22;
+pub const LIST: usize = 182;
+pub const PAGES: usize = 694;
 
 // A card's record: "stamp, done mark, even desk, odd desk".
 pub const STAMP: usize = 0;
-pub const DONE_MARK: usize = 1;
-pub const EVEN_DESK: usize = 2;
-pub const ODD_DESK: usize = 10;
-pub const RECORD_WORDS: usize = 18;
+pub const DONE_MARK: usize = 2;
+pub const EVEN_DESK: usize = 4;
+pub const ODD_DESK: usize = 12;
+pub const RECORD_WORDS: usize = 20;
 
 /// The words of a card's open release: what stands before the records, and the list.
 pub const RELEASE: [Range<usize>; 2] = [OPEN..RECORDS, LIST..PAGES];
@@ -39,17 +43,46 @@ pub const RELEASE: [Range<usize>; 2] = [OPEN..RECORDS, LIST..PAGES];
 pub type Desk = [u32; DESK_WORDS];
 
 /// A release's number; a stamp and a done mark are such numbers.
-pub type Number = u32;
+pub type Number = u64;
 
-/// An area is 676 + 64 × pages words.
+/// What the checks of a rack need of a form of the memory: where an area holds the open
+/// release, and where its pages start.
+pub struct Form {
+    pub open: usize,
+    pub steps: usize,
+    pub list: usize,
+    pub pages: usize,
+}
+
+impl Form {
+    /// An area is 64 words for each page and those before the pages.
+    pub const fn area_words(&self, pages: u32) -> usize {
+        self.pages + 2 * PAGE_WORDS * pages as usize
+    }
+
+    /// The stated length of the memory, or `None` outside the limits.
+    pub fn memory_words(&self, cards: u32, pages: u32) -> Option<usize> {
+        let within = CARD_LIMITS.contains(&cards) && PAGE_LIMITS.contains(&pages);
+        within.then(|| cards as usize * self.area_words(pages))
+    }
+
+    pub fn area<'a>(&self, memory: &'a [u32], pages: u32, card: u32) -> &'a [u32] {
+        let words = self.area_words(pages);
+        &memory[card as usize * words..][..words]
+    }
+}
+
+/// The form of this file.
+pub const FORM: Form = Form { open: OPEN, steps: STEPS, list: LIST, pages: PAGES };
+
+/// An area is 694 + 64 × pages words.
 pub const fn area_words(pages: u32) -> usize {
-    PAGES + 2 * PAGE_WORDS * pages as usize
+    FORM.area_words(pages)
 }
 
 /// The stated length of the memory, or `None` outside the limits.
 pub fn memory_words(cards: u32, pages: u32) -> Option<usize> {
-    let within = CARD_LIMITS.contains(&cards) && PAGE_LIMITS.contains(&pages);
-    within.then(|| cards as usize * area_words(pages))
+    FORM.memory_words(cards, pages)
 }
 
 /// The first word of a card's area in the memory.
@@ -58,14 +91,14 @@ pub fn area_at(pages: u32, card: u32) -> usize {
 }
 
 pub fn area(memory: &[u32], pages: u32, card: u32) -> &[u32] {
-    &memory[area_at(pages, card)..][..area_words(pages)]
+    FORM.area(memory, pages, card)
 }
 
 pub fn area_mut(memory: &mut [u32], pages: u32, card: u32) -> &mut [u32] {
     &mut memory[area_at(pages, card)..][..area_words(pages)]
 }
 
-/// Where an area holds the record of a card: 20 + 18c.
+/// Where an area holds the record of a card: 22 + 20c.
 pub fn record_at(card: u32) -> usize {
     RECORDS + RECORD_WORDS * card as usize
 }
@@ -87,7 +120,7 @@ pub fn desk_of_number_at(card: u32, number: Number) -> usize {
     record_at(card) + desk
 }
 
-/// Where an area holds a page's tentative words: 676 + 64p.
+/// Where an area holds a page's tentative words: 694 + 64p.
 pub fn tentative_at(page: u32) -> usize {
     PAGES + 2 * PAGE_WORDS * page as usize
 }
@@ -99,16 +132,25 @@ pub fn committed_at(page: u32) -> usize {
 
 /// The number that starts at a word of an area.
 pub fn number_at(area: &[u32], at: usize) -> Number {
-    area[at]
+    Number::from(area[at]) | Number::from(area[at + 1]) << u32::BITS
 }
 
 pub fn put_number(area: &mut [u32], at: usize, number: Number) {
-    area[at] = number;
+    area[at..at + NUMBER_WORDS].copy_from_slice(&[low_word(number), high_word(number)]);
 }
 
-/// A card's own stamp, `None` where the memory ends before it.
+pub const fn low_word(number: Number) -> u32 {
+    number as u32
+}
+
+pub const fn high_word(number: Number) -> u32 {
+    (number >> u32::BITS) as u32
+}
+
+/// A card's own stamp, `None` where the memory ends before its last word.
 pub fn own_stamp(memory: &[u32], pages: u32, card: u32) -> Option<Number> {
-    memory.get(area_at(pages, card) + OWN_STAMP).copied()
+    let words = memory.get(area_at(pages, card) + OWN_STAMP..)?;
+    (words.len() >= NUMBER_WORDS).then(|| number_at(words, 0))
 }
 
 /// The eight desk words that start at a word of an area.

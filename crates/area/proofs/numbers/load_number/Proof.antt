@@ -1,4 +1,4 @@
--- Rests on what `load_word` ensures: a number is one word.
+-- Rests on what `load_word` ensures, of both words.
 use borrow.Author.Needs.{needs}
 use Rattle.area.specs.Numbers.{numberAt}
 use Rattle.area.proofs.numbers.load_number.Statement.{statement}
@@ -6,9 +6,10 @@ use Rattle.area.proofs.numbers.load_number.Tie as tie
 
 returns : tie.Need-returns
 unfolding numberAt
-returns c = c .load-word .ensures
+returns c = rw (c .before .load-word .ensures, c .load-word2 .ensures)
 
 pub load-number-spec : {M : Type 1} → statement M
 load-number-spec =
     tie.close
-    (tie.spec (λ c κs. search needs) returns)
+    (tie.spec (λ c κs. search needs) (λ c. search needs) (λ c κs. search needs) (λ c. search needs)
+    (λ c. search needs) (λ c. search needs) (λ c. search needs) returns)
