@@ -13,7 +13,7 @@ use Rattle.commands.specs.Execute.{execute, letterOf}
 
 -- the rack of 3 cards and 4 pages, newly formatted
 unfoldable pub newRack : Result
-newRack = formatting (zeros 2796) 3 4
+newRack = formatting (zeros 2850) 3 4
 
 -- what a command comes to on the rack that the last one left
 unfoldable pub next : Command → Result → Result

@@ -66,7 +66,7 @@ unfoldable pub badRelease : Verdict → ℕ → Bool
 badRelease (Good k words) steps = ltb (4 * k + 10) steps
 badRelease (Faulty place) steps = true
 
--- of a live card: "word 9 above 1", or a bad release
+-- of a live card: "word 9 above 1" (word 10 since document 02, request 5), or a bad release
 unfoldable pub badCard : List Bool → ℕ → List ℕ → ℕ → Bool
 badCard marks pages m c =
     liveAt marks c

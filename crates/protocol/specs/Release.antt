@@ -72,7 +72,8 @@ stepsIn k = 4 * k + 11
 unfoldable pub makeWrite : List Bool → ℕ → List ℕ → Write → List ℕ
 makeWrite marks size m w = cond (liveAt marks (w .card)) (storeRun size m (w .card) (w .offset) (w .words)) m
 
--- 6. the close: "own stamp and desk are set and words 9 to 675 apart from 20 to 163 become 0"
+-- 6. the close: "own stamp and desk are set and words 9 to 675 apart from 20 to 163 become 0"; since document 02,
+-- request 5, these are the words 10 to 693 apart from 22 to 181
 unfoldable pub close : ℕ → List ℕ → ℕ → List ℕ
 close size m c =
     clearRun size
@@ -84,7 +85,7 @@ close size m c =
 abbrev pub noWrite : Write
 noWrite = writeOf 0 0 []
 
--- "Each step makes one store and, but for the close, adds 1 to word 10."
+-- "Each step makes one store and, but for the close, adds 1 to word 10", which is now word 11.
 unfoldable pub stepMemory : Directory → ℕ → List ℕ → ℕ → List ℕ
 stepMemory d backup m c =
     let writes : List Write = releaseWrites d backup c (openRelease (sizeOf d) m c) (openPrices (d .pages) m c) in

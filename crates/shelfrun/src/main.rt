@@ -64,7 +64,7 @@ fn answer_input(memory: &mut [u32], session: Session) -> Session {
 }
 
 fn main() {
-    let mut memory = [0u32; 2796];
+    let mut memory = [0u32; 2850];
     let session = interpreter::start(&mut memory);
     io::write_all(STDOUT_FILENO, &interpreter::first_line());
     let last = answer_input(&mut memory, session);

@@ -1,6 +1,7 @@
 -- Document 01's worked numbers with ◆ ("Numbers to hold it against"), as rows of one list, computed from the
--- definitions that the calls' contracts cite. A row shows outcomes beside words, or words that an accepted call alone
--- changes, and buffers that are lent hold sevens: a call that is refused meets none.
+-- definitions that the calls' contracts cite; the first and the last but one are as document 02, request 5, makes them.
+-- A row shows outcomes beside words, or words that an accepted call alone changes, and buffers that are lent hold
+-- sevens: a call that is refused meets none.
 -- Assumes nothing: these are definitions.
 use Rattle.laws.specs.Prelude.{ℕ, zero, suc, _≤_, _<_, _≡_, List, [], _∷_, _++_, true, false, length, set, take}
 use Rattle.laws.specs.Prelude.{replicate}
@@ -23,7 +24,7 @@ abbrev pub sevens : ℕ → List ℕ
 sevens n = replicate n 7
 
 unfoldable pub newRack : Result
-newRack = formatting (sevens 2796) 3 4
+newRack = formatting (sevens 2850) 3 4
 
 abbrev pub formattedWith : ℕ → List ℕ
 formattedWith words = inWords (formatting (sevens words) 3 4 .outcome)
@@ -62,13 +63,13 @@ stepped (suc n) r = stepped n (step (r .directory) (r .memory) 1)
 
 -- after so many steps: the stamp of card 1's record on its backup, card 2
 abbrev pub stampAfter : List ℕ → ℕ → ℕ
-stampAfter list steps = loadNumber 932 (stepped steps (opened list) .memory) 2 (recordStamp 1)
+stampAfter list steps = loadNumber 950 (stepped steps (opened list) .memory) 2 (recordStamp 1)
 
 -- after so many steps: whether the release is open, the steps made and its number; each accepted step counts
 abbrev pub releaseAfter : List ℕ → ℕ → List ℕ
 releaseAfter list steps =
     let m : List ℕ = stepped steps (opened list) .memory in
-    load 932 m 1 openFlag ∷ stepsOf 932 m 1 ∷ openRelease 932 m 1 .number ∷ []
+    load 950 m 1 openFlag ∷ stepsOf 950 m 1 ∷ openRelease 950 m 1 .number ∷ []
 
 -- ---- ".. by card 1, which dies after .. steps"
 
@@ -118,8 +119,8 @@ pub record Idle (d : Directory) (m : List ℕ) (card : ℕ) : Type 0 where
 abbrev pub EveryNumberUsed : Type 0
 EveryNumberUsed =
     (d : Directory) (m : List ℕ) (card : ℕ) (r : Release) (list : List ℕ) → Idle d m card
-    → ownRelease (sizeOf d) m card .number ≡ 4294967295 → r .number ≤ 4294967295
-    → opening d m card r list .outcome ≡ refusedAt numberUsed 4294967295
+    → ownRelease (sizeOf d) m card .number ≡ 18446744073709551615 → r .number ≤ 18446744073709551615
+    → opening d m card r list .outcome ≡ refusedAt numberUsed 18446744073709551615
 
 abbrev pub NumberZeroUsed : Type 0
 NumberZeroUsed =
@@ -130,8 +131,8 @@ NumberZeroUsed =
 
 abbrev pub rows : List Example
 rows =
-    -- "3 cards, 4 pages: 2796 words. 2795 and 2797 give 1."
-    computed (formattedWith 2796 ++ formattedWith 2795 ++ formattedWith 2797) (0 ∷ 0 ∷ 1 ∷ 0 ∷ 1 ∷ 0 ∷ [])
+    -- "3 cards, 4 pages: 2850 words. 2849 and 2851 give 1."
+    computed (formattedWith 2850 ++ formattedWith 2849 ++ formattedWith 2851) (0 ∷ 0 ∷ 1 ∷ 0 ∷ 1 ∷ 0 ∷ [])
     -- "Page 1, words 2 and 3 from 0 to 250 and 199 (hex): 10000001 20020002 000000FA 000000C7 F0000004."
     ∷ computed (made changedPages) (0 ∷ 5 ∷ twoPrices ++ sevens 1)
     -- "19 steps, stamp at step 13."
@@ -155,7 +156,7 @@ rows =
     ∷ computed (openedWith (0x10000000 ∷ 0x201F0002 ∷ 7 ∷ 8 ∷ 0xF0000004 ∷ [])) (7 ∷ 1 ∷ [])
     -- "A list of no words: 7, place 0."
     ∷ computed (openedWith []) (7 ∷ 0 ∷ [])
-    -- "at stamp 4294967295 every number gives 5"
+    -- "at stamp 18446744073709551615 every number gives 5"
     ∷ claimed EveryNumberUsed
     -- "number 0 gives 5 at each stamp"
     ∷ claimed NumberZeroUsed

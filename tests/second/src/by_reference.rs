@@ -5,6 +5,7 @@ use crate::answer::Answer;
 use crate::calls;
 use crate::directory::Directory;
 use crate::layout::{Desk, Number, MOST_PAGES};
+use crate::mover;
 
 #[inline(never)]
 pub fn format_rack(memory: &mut [u32], cards: u32, pages: u32, directory: &mut Directory) -> Answer {
@@ -61,4 +62,14 @@ pub fn join_card(memory: &mut [u32], directory: &mut Directory, card: u32) -> An
 #[inline(never)]
 pub fn ask_desk(memory: &[u32], directory: &Directory, card: u32) -> (Answer, Desk) {
     calls::ask_desk(memory, directory, card)
+}
+
+#[inline(never)]
+pub fn move_in(old: &[u32], directory: &Directory, memory: &mut [u32]) -> Answer {
+    mover::move_in(old, directory, memory)
+}
+
+#[inline(never)]
+pub fn move_back(memory: &[u32], directory: &Directory, old: &mut [u32]) -> Answer {
+    mover::move_back(memory, directory, old)
 }

@@ -121,7 +121,7 @@ pub fn recover(memory: &mut [u32], directory: &mut Directory) -> (Answer, Desk) 
         Err(refusal) => (refusal.into(), NO_DESK),
         Ok(failed) => {
             let record = recovery::recover_card(memory, directory, failed);
-            (Answer::Given(u64::from(record.stamp)), record.desk)
+            (Answer::Given(record.stamp), record.desk)
         }
     }
 }

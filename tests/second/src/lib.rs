@@ -3,8 +3,10 @@
 //! A second implementation, written from document 01 alone by a hand that had
 //! not read the Rattle source, but for the calls with the directory lent, which
 //! came later from one that had: `by_reference`, `by_value`, and what these
-//! needed in `calls`, `directory` and `recovery`. Comments cite document 01 by
-//! the titles of its sections.
+//! needed in `calls`, `directory` and `recovery`. The numbers of 64 bits and the
+//! mover are from document 02, "Stamps that outlast the shop", again by a hand that
+//! had not read the Rattle source. Comments cite document 01 by the titles of its
+//! sections and document 02 by those of its requests.
 
 #![forbid(unsafe_code)]
 
@@ -17,6 +19,8 @@ mod checks;
 mod directory;
 pub mod layout;
 mod list;
+pub mod mover;
+pub mod old_layout;
 mod record;
 mod recovery;
 pub mod refusals;

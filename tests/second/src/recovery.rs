@@ -2,8 +2,8 @@
 
 use crate::directory::{Directory, Status};
 use crate::layout::{
-    area, area_at, area_mut, committed_at, put_desk, put_number, record_at, tentative_at, OWN_DESK, OWN_STAMP,
-    PAGE_WORDS, RECORD_WORDS,
+    area, area_at, area_mut, committed_at, low_word, put_desk, put_number, record_at, tentative_at, OWN_DESK,
+    OWN_STAMP, PAGE_WORDS, RECORD_WORDS,
 };
 use crate::record::Record;
 use crate::release::{all_steps, step, Release};
@@ -44,6 +44,9 @@ fn steps_left(area: &[u32]) -> u32 {
 fn second_phase(record: &Record) -> bool {
     if cfg!(feature = "wrong_done_mark") {
         return record.stamp > record.done_mark;
+    }
+    if cfg!(feature = "wrong_under_way_low") {
+        return low_word(record.stamp) != low_word(record.done_mark);
     }
     record.stamp != record.done_mark
 }

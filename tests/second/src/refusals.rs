@@ -8,7 +8,7 @@ pub const OUTSIDE_LIMITS: u32 = 1;
 /// "Fewer than two live cards, homes equal, not below the number of cards, or dead
 /// and not the awaited card, an awaited card that is live or does not exist, a live
 /// card's word 9 above 1, or an open release whose list is faulty or whose steps
-/// exceed 4k + 10."
+/// exceed 4k + 10." In the form of `layout` that is word 10.
 pub const UNSOUND_RACK: u32 = 2;
 
 // "The price desk".
@@ -49,7 +49,10 @@ pub const NONE_AWAITED: u32 = 12;
 pub const TWO_LIVE: u32 = 13;
 /// "Joining a live card."
 pub const JOINING_LIVE_CARD: u32 = 14;
-/// "Joining with a release open."
+/// "Joining with a release open"; moving with one open too.
 pub const JOINING_WITH_RELEASE_OPEN: u32 = 15;
 /// "An unreadable line (the program below)."
 pub const UNREADABLE_LINE: u32 = 18;
+/// "A stamp or done mark on a live card's area is above 4294967295 on the way back"
+/// (document 02, "Stamps that outlast the shop").
+pub const STAMP_TOO_HIGH: u32 = 20;

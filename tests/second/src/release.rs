@@ -2,8 +2,9 @@
 
 use crate::directory::Directory;
 use crate::layout::{
-    area, area_mut, committed_at, desk_at, desk_of_number_at, done_mark_at, number_at, put_desk, put_number, stamp_at,
-    tentative_at, Desk, Number, DESK, DESK_WORDS, LIST, LIST_WORDS, NUMBER, OPEN, OWN_DESK, OWN_STAMP, RELEASE, STEPS,
+    area, area_mut, committed_at, desk_at, desk_of_number_at, done_mark_at, low_word, number_at, put_desk, put_number,
+    stamp_at, tentative_at, Desk, Form, Number, DESK, DESK_WORDS, FORM, LIST, LIST_WORDS, NUMBER, OPEN, OWN_DESK,
+    OWN_STAMP, RELEASE, STEPS,
 };
 use crate::list::prices;
 
@@ -20,12 +21,12 @@ pub fn all_steps(prices: u32) -> u32 {
     4 * prices + 11
 }
 
-/// The words of an area that hold the open release's list.
-pub fn list_of(area: &[u32]) -> &[u32] {
+/// The words of an area, in a form of the memory, that hold the open release's list.
+pub fn list_of<'a>(form: &Form, area: &'a [u32]) -> &'a [u32] {
     if cfg!(feature = "wrong_stored_list") {
-        return &area[LIST..];
+        return &area[form.list..];
     }
-    &area[LIST..LIST + LIST_WORDS]
+    &area[form.list..form.list + LIST_WORDS]
 }
 
 /// The release open on a card, as the card's own area holds it.
@@ -62,7 +63,7 @@ impl Value {
 impl Release<'_> {
     /// The release open on the area's card, or `None`.
     pub fn read(area: &[u32]) -> Option<Release<'_>> {
-        let list = list_of(area);
+        let list = list_of(&FORM, area);
         (area[OPEN] == 1).then(|| Release {
             steps: area[STEPS],
             number: number_at(area, NUMBER),
@@ -98,7 +99,7 @@ impl Release<'_> {
             let word = (step - 2 * self.prices) as usize;
             to_backup(desk_of_number_at(card, self.number) + word, Value::Word(self.desk[word]))
         } else if step == stamping {
-            to_backup(stamp_at(card), Value::Number(self.number))
+            to_backup(stamp_at(card), self.stamp())
         } else if step < marking {
             self.price_store(step - stamping - 1, homes, committed_at)
         } else if step == marking {
@@ -106,6 +107,14 @@ impl Release<'_> {
         } else {
             Some(Store::Close)
         }
+    }
+
+    /// What part 3 stores: the number, "both words one store".
+    fn stamp(&self) -> Value {
+        if cfg!(feature = "wrong_low_word_alone") {
+            return Value::Word(low_word(self.number));
+        }
+        Value::Number(self.number)
     }
 
     /// A store of parts 1 and 4: "for each price, the word at the secondary,
@@ -132,7 +141,7 @@ pub fn open(area: &mut [u32], number: Number, desk: &Desk, list: &[u32]) {
 }
 
 /// Makes one step of a card's open release. A store meant for the `lost` card is
-/// dropped. "Each step makes one store and, but for the close, adds 1 to word 10."
+/// dropped. Each step "makes one store and, but for the close, adds 1" to the steps.
 pub fn step(memory: &mut [u32], homes: &Directory, card: u32, lost: Option<u32>) {
     let own = area(memory, homes.pages, card);
     let store = Release::read(own).and_then(|release| release.next_store(card, homes));
@@ -148,11 +157,14 @@ pub fn step(memory: &mut [u32], homes: &Directory, card: u32, lost: Option<u32>)
     }
 }
 
-/// The close: "own stamp and desk are set and words 9 to 675 apart from 20 to
-/// 163 become 0".
+/// The close: "own stamp and desk are set", and the words of the open release
+/// become 0.
 fn close(area: &mut [u32]) {
     let (number, desk) = (number_at(area, NUMBER), desk_at(area, DESK));
-    put_number(area, OWN_STAMP, number);
+    match cfg!(feature = "wrong_close_low_word") {
+        true => area[OWN_STAMP] = low_word(number),
+        false => put_number(area, OWN_STAMP, number),
+    }
     put_desk(area, OWN_DESK, &desk);
     RELEASE.into_iter().for_each(|words| area[words].fill(0));
 }

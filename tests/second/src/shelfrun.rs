@@ -165,7 +165,7 @@ impl Rack {
         match Command::read(line) {
             None => ('-', UNREADABLE_LINE, 0),
             Some(Command::Open { card, number, page, word, price }) => {
-                report('B', self.open(card, number, &one_price(page, word, price)))
+                report('B', self.open(card, Number::from(number), &one_price(page, word, price)))
             }
             Some(Command::Steps { card, count }) => self.steps(card, count),
             Some(Command::Fail { card }) => report('X', self.fail(card)),

@@ -38,7 +38,7 @@ fn random_calls_agree_with_the_book() {
 /// Opens a release and makes so many steps, as far as there are any.
 fn release(play: &mut Play, card: u32, number: u32, changes: &[Change], steps: u32) {
     let list = list_of(changes);
-    play.call(&Call::Open { card, number, desk: [number + 10 * card; 8], list }).unwrap();
+    play.call(&Call::Open { card, number: number.into(), desk: [number + 10 * card; 8], list }).unwrap();
     for _ in 0..steps {
         play.call(&Call::Step { card }).unwrap();
     }
@@ -91,7 +91,8 @@ fn a_release_of_forty_prices_pulled_after_each_step() {
 #[test]
 fn the_book_by_hand() {
     let mut book = Book::new();
-    let open = |number| Call::Open { card: 1, number, desk: [number; 8], list: list_of(&[(1, 2, 250)]) };
+    let open =
+        |number: u32| Call::Open { card: 1, number: number.into(), desk: [number; 8], list: list_of(&[(1, 2, 250)]) };
     book.feed(&open(1), false);
     assert!(!book.is_open(1));
     book.feed(&open(1), true);

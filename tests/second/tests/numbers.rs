@@ -1,4 +1,5 @@
-//! The numbers of document 01's section "Numbers to hold it against".
+//! The numbers of document 01's section "Numbers to hold it against", two of them as
+//! document 02 changed them: the words of a memory and the last stamp.
 
 mod common;
 
@@ -10,10 +11,10 @@ const TWO_PRICES: [u32; 5] = [0x1000_0001, 0x2002_0002, 0x0000_00FA, 0x0000_00C7
 const NO_DESK: [u32; 8] = [0; 8];
 
 #[test]
-fn three_cards_and_four_pages_take_2796_words() {
-    assert_eq!(memory_words(3, 4), Some(2796));
-    assert_eq!(format_rack(&mut [1; 2796], 3, 4).1, OK);
-    for length in [2795, 2797] {
+fn three_cards_and_four_pages_take_2850_words() {
+    assert_eq!(memory_words(3, 4), Some(2850));
+    assert_eq!(format_rack(&mut [1; 2850], 3, 4).1, OK);
+    for length in [2849, 2851] {
         let mut memory = vec![1; length];
         let (directory, answer) = format_rack(&mut memory, 3, 4);
         assert_eq!(answer, refused(1));
@@ -32,7 +33,7 @@ fn three_cards_and_four_pages_take_2796_words() {
 
 #[test]
 fn other_lengths_are_refused_by_every_call() {
-    for length in [2795, 2797] {
+    for length in [2849, 2851] {
         let mut rack = Rack::new(3, 4);
         rack.memory.resize(length, 0);
         assert_eq!(rack.open(0, 1, NO_DESK, &TWO_PRICES), refused(1));
@@ -127,18 +128,18 @@ fn a_run_ends_with_its_page() {
 fn every_number_is_too_low_at_the_last_stamp() {
     let mut rack = Rack::new(3, 4);
     rack.set_stamp(1, Number::MAX);
-    for number in [0, 1, 2, 1 << 31, Number::MAX - 1, Number::MAX] {
+    for number in [0, 1, 2, 1 << 31, 1 << 32, 1 << 63, Number::MAX - 1, Number::MAX] {
         let answer = rack.open(1, number, NO_DESK, &TWO_PRICES);
-        assert_eq!(answer, refused_at(5, Number::MAX.into()));
+        assert_eq!(answer, refused_at(5, 18_446_744_073_709_551_615));
     }
 }
 
 #[test]
 fn number_0_is_too_low_at_each_stamp() {
     let mut rack = Rack::new(3, 4);
-    for stamp in [0, 1, 2, 1 << 31, Number::MAX - 1, Number::MAX] {
+    for stamp in [0, 1, 2, 1 << 31, 1 << 32, 1 << 63, Number::MAX - 1, Number::MAX] {
         rack.set_stamp(1, stamp);
-        assert_eq!(rack.open(1, 0, NO_DESK, &TWO_PRICES), refused_at(5, stamp.into()));
+        assert_eq!(rack.open(1, 0, NO_DESK, &TWO_PRICES), refused_at(5, stamp));
     }
 }
 

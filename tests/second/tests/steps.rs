@@ -2,7 +2,7 @@
 
 mod common;
 
-use common::{list_of, random_changes, refused, Change, Rack, OK};
+use common::{list_of, random_changes, refused, wide_number, Change, Rack, OK};
 use random::Random;
 use second::layout::*;
 use second::refusals::NO_RELEASE_OPEN;
@@ -71,7 +71,7 @@ fn every_step_makes_its_one_store() {
             continue;
         }
         releases += 1;
-        let stamp = random.word() >> 1;
+        let stamp = wide_number(&mut random).min(Number::MAX - 1);
         rack.set_stamp(card, stamp);
         for word in RELEASE.into_iter().flatten().filter(|&word| word != OPEN) {
             rack.set(card, word, random.word());

@@ -25,9 +25,9 @@ fn random_calls_part_from_the_book() {
 #[test]
 fn half_a_release_is_caught() {
     let mut play = Play::new(9, 3, 4);
-    for (number, steps) in [(1, 19), (2, 2)] {
+    for (number, steps) in [(1_u32, 19), (2, 2)] {
         let list = list_of(&[(1, 2, 200 + number), (1, 3, 300 + number)]);
-        play.call(&Call::Open { card: 1, number, desk: [number; 8], list }).unwrap();
+        play.call(&Call::Open { card: 1, number: number.into(), desk: [number; 8], list }).unwrap();
         (0..steps).for_each(|_| play.call(&Call::Step { card: 1 }).unwrap());
     }
     play.call(&Call::Fail { card: 1 }).unwrap();

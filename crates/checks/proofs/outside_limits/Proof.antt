@@ -4,6 +4,7 @@ use native.Mathlib.Nat.{mul-le-mul}
 use native.Mathlib.Omega.{arith}
 use borrow.Author.Needs.{needs}
 use borrow.Author.Tests.{lt-ltb, le-ltb}
+use Rattle.area.specs.Layout.{areaSize}
 use Rattle.protocol.specs.Checks.{outsideLimits}
 use Rattle.checks.proofs.outside_limits.Statement.{statement}
 use Rattle.checks.proofs.outside_limits.Tie as tie
@@ -36,7 +37,7 @@ mul-stated : tie.Need-mul-stated
 mul-stated c =
     let start = c .before .before .before .before .before in
     let few : start .args .cards ≤ 8 = omega arith in
-    let small : c .area-size .result ≤ 4772 = omega arith in
+    let small : c .area-size .result ≤ areaSize 64 = omega arith in
     omega (arith, mul-le-mul few small)
 
 returns-5 : tie.Need-returns-5

@@ -9,12 +9,12 @@ use Rattle.area.specs.Prelude.{zeros}
 use Rattle.area.specs.Examples.{bit}
 use Rattle.protocol.specs.Result.{Result}
 
--- Three live cards and one page, on cards 0 and 1. An area has 740 words.
+-- Three live cards and one page, on cards 0 and 1. An area has 758 words.
 abbrev pub smallRack : Directory
 smallRack = formattedDirectory 3 1
 
 unfoldable pub smallMemory : List ℕ
-smallMemory = zeros 2220
+smallMemory = zeros 2274
 
 -- n words of a card's area, from an offset on
 abbrev pub wordsAt : ℕ → List ℕ → ℕ → ℕ → ℕ → List ℕ

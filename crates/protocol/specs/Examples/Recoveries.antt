@@ -6,7 +6,7 @@ use Rattle.laws.specs.Examples.{Example, computed}
 use Rattle.directory.specs.declared.Directory.{Directory}
 use Rattle.directory.specs.declared.Status.the-variants.{Awaiting}
 use Rattle.directory.specs.Directory.{formattedDirectory, markedDead, withHomes, withStatus}
-use Rattle.area.specs.Prelude.{store, zeros, releaseOf, writeRecord, listStart, pagesStart}
+use Rattle.area.specs.Prelude.{store, storeRun, zeros, releaseOf, writeRecord, listStart, pagesStart}
 use Rattle.area.specs.Examples.{numbersFrom}
 use Rattle.protocol.specs.Result.{Result}
 use Rattle.protocol.specs.Opening.{openMemory}
@@ -18,17 +18,18 @@ use Rattle.protocol.specs.Examples.Racks.{smallRack, wordsAt, outcomeOf,
 abbrev pub failedOne : Directory → Directory
 failedOne d = withStatus (markedDead d 1) (Awaiting 1)
 
--- Three cards and two pages; an area has 804 words. Page 0 is on cards 1 and 0, page 1 on cards 2 and 0.
+-- Three cards and two pages; an area has 822 words. Page 0 is on cards 1 and 0, page 1 on cards 2 and 0.
 abbrev pub twoPages : Directory
 twoPages = failedOne (withHomes (withHomes (formattedDirectory 3 2) 0 1 0) 1 2 0)
 
--- The record of card 1 is read on card 2, at 38 of its area: stamp 1646, done mark 1647.
+-- The record of card 1 is read on card 2, at 42 of its area: the words 1686 and 1687 are its stamp, 1688 and 1689 its
+-- done mark.
 unfoldable pub rolledForward : List ℕ
-rolledForward = recoveredMemory twoPages 1 (numbersFrom 0 2412)
+rolledForward = recoveredMemory twoPages 1 (numbersFrom 0 2466)
 
--- There the stamp is 1647, as the done mark is.
+-- There stamp and done mark are one odd number.
 unfoldable pub rolledBack : List ℕ
-rolledBack = recoveredMemory twoPages 1 (store 804 (numbersFrom 0 2412) 2 38 1647)
+rolledBack = recoveredMemory twoPages 1 (storeRun 822 (numbersFrom 0 2466) 2 42 (replicate 4 1687))
 
 -- Four cards and three pages: page 0 on cards 0 and 3, page 1 on 1 and 2, page 2 on 0 and 1.
 abbrev pub threePages : Directory
@@ -36,12 +37,12 @@ threePages = failedOne (withHomes (withHomes (withHomes (formattedDirectory 4 3)
 
 -- The small rack, in whose area of card 1, which is dead, are threes.
 unfoldable pub deadArea : List ℕ
-deadArea = zeros 740 ++ replicate 740 3 ++ zeros 740
+deadArea = zeros 758 ++ replicate 758 3 ++ zeros 758
 
 -- release 1 of word 4 open on a card, at a price
 abbrev pub withPrice : ℕ → ℕ → List ℕ → List ℕ
 withPrice card price m =
-    openMemory 740 m card (releaseOf 1 (numbersFrom 50 8)) (0x10000000 ∷ 0x20040001 ∷ price ∷ 0xF0000003 ∷ [])
+    openMemory 758 m card (releaseOf 1 (numbersFrom 50 8)) (0x10000000 ∷ 0x20040001 ∷ price ∷ 0xF0000003 ∷ [])
 
 -- Card 0 has one open, with no step made.
 unfoldable pub closedWithout1 : List ℕ
@@ -49,18 +50,18 @@ closedWithout1 = closeReleases (failedOne smallRack) 1 (withPrice 0 7 deadArea)
 
 -- Card 2 has another open, which prices the same word, and has made its first committed store.
 unfoldable pub closedInTurn : List ℕ
-closedInTurn = closeReleases (failedOne smallRack) 1 (store 740 (withPrice 2 9 (withPrice 0 7 deadArea)) 2 10 12)
+closedInTurn = closeReleases (failedOne smallRack) 1 (store 758 (withPrice 2 9 (withPrice 0 7 deadArea)) 2 11 12)
 
 -- Card 2 has the record of release 5 of card 1, card 0 has one of release 4.
 unfoldable pub recovered : Result
 recovered =
     recovery (failedOne smallRack)
-    (writeRecord 740 (writeRecord 740 deadArea 2 1 (releaseOf 5 (numbersFrom 50 8))) 0 1
+    (writeRecord 758 (writeRecord 758 deadArea 2 1 (releaseOf 5 (numbersFrom 50 8))) 0 1
     (releaseOf 4 (numbersFrom 90 8)))
 
--- a card's words 38 to 739 with the record of release 5 of card 1, all else 0
+-- a card's words 42 to 757 with the record of release 5 of card 1, all else 0
 abbrev pub recordOfFive : List ℕ
-recordOfFive = 5 ∷ 5 ∷ zeros 8 ++ numbersFrom 50 8 ++ zeros 684
+recordOfFive = 5 ∷ 0 ∷ 5 ∷ 0 ∷ zeros 8 ++ numbersFrom 50 8 ++ zeros 696
 
 abbrev pub recoveryExamples : List Example
 recoveryExamples =
@@ -72,31 +73,31 @@ recoveryExamples =
     -- page 0, has card 0's. The failed card's record, its even desk kept and its odd desk zero, stands on both live
     -- cards; card 0's, made from its own stamp and desk, on its new backup. No other word changes.
     ∷ computed rolledForward
-    (numbersFrom 0 38 ++ 1646 ∷ 1646 ∷ numbersFrom 1648 8 ++ zeros 8 ++ numbersFrom 56 620
-    ++ numbersFrom pagesStart 32 ++ numbersFrom pagesStart 32 ++ numbersFrom 740 32 ++ numbersFrom 740 32
-    ++ numbersFrom 804 804
-    ++ numbersFrom 1608 20 ++ 0 ∷ 0 ∷ numbersFrom 1 8 ++ zeros 8
-    ++ 1646 ∷ 1646 ∷ numbersFrom 1648 8 ++ zeros 8 ++ numbersFrom 1664 620
-    ++ numbersFrom pagesStart 32 ++ numbersFrom pagesStart 32 ++ numbersFrom 2348 32 ++ numbersFrom 2348 32)
+    (numbersFrom 0 42 ++ 1686 ∷ 1687 ∷ 1686 ∷ 1687 ∷ numbersFrom 1690 8 ++ zeros 8 ++ numbersFrom 62 632
+    ++ numbersFrom pagesStart 32 ++ numbersFrom pagesStart 32 ++ numbersFrom 758 32 ++ numbersFrom 758 32
+    ++ numbersFrom 822 822
+    ++ numbersFrom 1644 22 ++ 0 ∷ 1 ∷ 0 ∷ 1 ∷ numbersFrom 2 8 ++ zeros 8
+    ++ 1686 ∷ 1687 ∷ 1686 ∷ 1687 ∷ numbersFrom 1690 8 ++ zeros 8 ++ numbersFrom 1706 632
+    ++ numbersFrom pagesStart 32 ++ numbersFrom pagesStart 32 ++ numbersFrom 2402 32 ++ numbersFrom 2402 32)
     -- Rolled back, they have the committed ones; of an odd stamp the odd desk is kept, and the even one zero.
     ∷ computed
-    (wordsAt 804 rolledBack 0 pagesStart 128 ++ wordsAt 804 rolledBack 2 pagesStart 128 ++ wordsAt 804 rolledBack 0 38
-    18)
-    (numbersFrom 708 32 ++ numbersFrom 708 32 ++ numbersFrom 772 32 ++ numbersFrom 772 32
-    ++ numbersFrom 708 32 ++ numbersFrom 708 32 ++ numbersFrom 2380 32 ++ numbersFrom 2380 32
-    ++ 1647 ∷ 1647 ∷ zeros 8 ++ numbersFrom 1656 8)
+    (wordsAt 822 rolledBack 0 pagesStart 128 ++ wordsAt 822 rolledBack 2 pagesStart 128 ++ wordsAt 822 rolledBack 0 42
+    20)
+    (numbersFrom 726 32 ++ numbersFrom 726 32 ++ numbersFrom 790 32 ++ numbersFrom 790 32
+    ++ numbersFrom 726 32 ++ numbersFrom 726 32 ++ numbersFrom 2434 32 ++ numbersFrom 2434 32
+    ++ replicate 4 1687 ++ zeros 8 ++ numbersFrom 1698 8)
     -- A live card's release is run to its close. Its stores to the failed card, which is its backup and the page's
     -- secondary, are dropped.
     ∷ computed
-    (wordsAt 740 closedWithout1 0 0 12 ++ wordsAt 740 closedWithout1 0 listStart 4 ++ wordsAt 740 closedWithout1 0 680 1
-    ++ wordsAt 740 closedWithout1 0 712 1 ++ wordsAt 740 closedWithout1 1 0 740)
-    (1 ∷ numbersFrom 50 8 ++ zeros 7 ++ 7 ∷ 7 ∷ replicate 740 3)
+    (wordsAt 758 closedWithout1 0 0 14 ++ wordsAt 758 closedWithout1 0 listStart 4 ++ wordsAt 758 closedWithout1 0 698 1
+    ++ wordsAt 758 closedWithout1 0 730 1 ++ wordsAt 758 closedWithout1 1 0 758)
+    (1 ∷ 0 ∷ numbersFrom 50 8 ++ zeros 8 ++ 7 ∷ 7 ∷ replicate 758 3)
     -- One card's release is run to its close before the next card's, from the lowest card on.
-    ∷ computed (wordsAt 740 closedInTurn 0 712 1) (9 ∷ [])
+    ∷ computed (wordsAt 758 closedInTurn 0 730 1) (9 ∷ [])
     -- The answer is the stamp and desk of the record on the next live card after the failed one, not on the lowest.
     ∷ computed (outcomeOf recovered ++ recovered .words) (0 ∷ 5 ∷ numbersFrom 50 8)
     -- The rack runs again: page 0 keeps its primary, and has the other live card as secondary. The record stands on
     -- both live cards, and the dead card's area is as it was.
     ∷ computed (directoryWords (recovered .directory)) (1 ∷ 0 ∷ 1 ∷ 0 ∷ 2 ∷ 0 ∷ [])
-    ∷ computed (recovered .memory) (zeros 38 ++ recordOfFive ++ replicate 740 3 ++ zeros 38 ++ recordOfFive)
+    ∷ computed (recovered .memory) (zeros 42 ++ recordOfFive ++ replicate 758 3 ++ zeros 42 ++ recordOfFive)
     ∷ []

@@ -38,15 +38,19 @@ onePriceAt word = 0x10000000 ∷ runWord word 1 ∷ 7 ∷ 0xF0000003 ∷ []
 -- the memory with release 1 of that list open on a card, and so many steps made
 abbrev pub withOpen : ℕ → ℕ → ℕ → List ℕ → List ℕ
 withOpen card word steps m =
-    store 740 (openMemory 740 m card (releaseOf 1 (zeros 8)) (onePriceAt word)) card 10 steps
+    store 758 (openMemory 758 m card (releaseOf 1 (zeros 8)) (onePriceAt word)) card 11 steps
 
 -- on card 0 a release of word 6, on card 2 one of word 4
 unfoldable pub twoOpen : List ℕ
 twoOpen = withOpen 2 4 0 (withOpen 0 6 0 smallMemory)
 
--- card 1 has closed 9 releases
+-- card 1 has this stamp, by its words
+abbrev pub stampedWith : ℕ → ℕ → List ℕ
+stampedWith low high = storeRun 758 smallMemory 1 0 (low ∷ high ∷ [])
+
+-- it has closed 9 releases
 unfoldable pub nineClosed : List ℕ
-nineClosed = store 740 smallMemory 1 0 9
+nineClosed = stampedWith 9 0
 
 -- release `number` of words 4 to 6, by card 1
 abbrev pub openThree : ℕ → List ℕ → Result
@@ -73,23 +77,23 @@ bothAt steps = withOpen 2 4 steps (withOpen 1 6 steps smallMemory)
 -- page 0 at its homes, cards 0 and 1: tentative words 100 to 131 and 300 to 331, committed 200 to 231 and 400 to 431
 unfoldable pub fourCopies : List ℕ
 fourCopies =
-    storeRun 740 (storeRun 740 smallMemory 0 pagesStart (numbersFrom 100 32 ++ numbersFrom 200 32)) 1 pagesStart
+    storeRun 758 (storeRun 758 smallMemory 0 pagesStart (numbersFrom 100 32 ++ numbersFrom 200 32)) 1 pagesStart
     (numbersFrom 300 32 ++ numbersFrom 400 32)
 
 abbrev pub refusalExamples : List Example
 refusalExamples =
     -- 3 to 8 cards, 1 to 64 pages, and a memory of the length that they ask for
     computed
-    (limitsRefuse 1480 2 1 ∷ limitsRefuse 2220 3 1 ∷ limitsRefuse 5920 8 1 ∷ limitsRefuse 6660 9 1
-    ∷ limitsRefuse 2028 3 0 ∷ limitsRefuse 14316 3 64 ∷ limitsRefuse 14508 3 65 ∷ limitsRefuse 2219 3 1
-    ∷ limitsRefuse 2221 3 1 ∷ [])
+    (limitsRefuse 1516 2 1 ∷ limitsRefuse 2274 3 1 ∷ limitsRefuse 6064 8 1 ∷ limitsRefuse 6822 9 1
+    ∷ limitsRefuse 2082 3 0 ∷ limitsRefuse 14370 3 64 ∷ limitsRefuse 14562 3 65 ∷ limitsRefuse 2273 3 1
+    ∷ limitsRefuse 2275 3 1 ∷ [])
     (1 ∷ 0 ∷ 0 ∷ 1 ∷ 1 ∷ 0 ∷ 1 ∷ 1 ∷ 1 ∷ [])
     -- Formatting zeroes every word; a refused one keeps them.
     ∷ computed
-    (outcomeOf (formatting (replicate 2220 7) 3 1) ++ formatting (replicate 2220 7) 3 1 .memory) (0 ∷ 0 ∷ zeros 2220)
+    (outcomeOf (formatting (replicate 2274 7) 3 1) ++ formatting (replicate 2274 7) 3 1 .memory) (0 ∷ 0 ∷ zeros 2274)
     ∷ computed
-    (outcomeOf (formatting (replicate 2219 7) 3 1) ++ formatting (replicate 2219 7) 3 1 .memory)
-    (1 ∷ 0 ∷ replicate 2219 7)
+    (outcomeOf (formatting (replicate 2273 7) 3 1) ++ formatting (replicate 2273 7) 3 1 .memory)
+    (1 ∷ 0 ∷ replicate 2273 7)
     -- two live cards fit; one does not, though the other home is awaited
     ∷ computed
     (unfitIs twoCards smallMemory ∷ unfitIs (withStatus (markedDead twoCards 1) (Awaiting 1)) smallMemory ∷ [])
@@ -107,11 +111,11 @@ refusalExamples =
     (1 ∷ 1 ∷ [])
     -- "release open" of a live card is 0 or 1; what a dead card's area says is not looked at
     ∷ computed
-    (unfitIs smallRack (store 740 smallMemory 2 9 2) ∷ unfitIs twoCards (store 740 smallMemory 2 9 2) ∷ []) (1 ∷ 0 ∷ [])
+    (unfitIs smallRack (store 758 smallMemory 2 10 2) ∷ unfitIs twoCards (store 758 smallMemory 2 10 2) ∷ []) (1 ∷ 0 ∷ [])
     -- an open release of one price has made at most 14 steps, and its list is not faulty
     ∷ computed
     (unfitIs smallRack (withOpen 2 4 14 smallMemory) ∷ unfitIs smallRack (withOpen 2 4 15 smallMemory)
-    ∷ unfitIs smallRack (store 740 (withOpen 2 4 0 smallMemory) 2 167 0) ∷ [])
+    ∷ unfitIs smallRack (store 758 (withOpen 2 4 0 smallMemory) 2 185 0) ∷ [])
     (0 ∷ 1 ∷ 1 ∷ [])
     -- An opening under the next number is taken. One at or below the stamp is refused with 5 at the stamp, one
     -- further on with 6, both before the list is looked at; a faulty list with 7 at its faulty word.
@@ -119,6 +123,13 @@ refusalExamples =
     (outcomeOf (openThree 10 nineClosed) ++ outcomeOf (openFaulty 9 nineClosed) ++ outcomeOf (openFaulty 0 nineClosed)
     ++ outcomeOf (openFaulty 11 nineClosed) ++ outcomeOf (openFaulty 10 nineClosed))
     (0 ∷ 0 ∷ 5 ∷ 9 ∷ 5 ∷ 9 ∷ 6 ∷ 0 ∷ 7 ∷ 3 ∷ [])
+    -- Numbers and stamps are compared by both their words.
+    ∷ computed
+    (outcomeOf (openThree 4294967296 (stampedWith 4294967295 0))
+    ++ outcomeOf (openThree 4294967295 (stampedWith 4294967295 0))
+    ++ outcomeOf (openThree 4294967297 (stampedWith 4294967295 0)) ++ outcomeOf (openThree 4294967298 (stampedWith 1 1))
+    ++ outcomeOf (openThree 2 (stampedWith 1 1)))
+    (0 ∷ 0 ∷ 5 ∷ 4294967295 ∷ 6 ∷ 0 ∷ 0 ∷ 0 ∷ 5 ∷ 4294967297 ∷ [])
     -- Neither a card that is not there nor a dead one opens a release, whatever the number and the list; one with a
     -- release open opens no other, whatever the number. A faulty list is refused with 7, though it shares a word.
     ∷ computed
@@ -166,9 +177,9 @@ refusalExamples =
     -- There is no recovery without a failure. Of a rack that does not fit neither is said, and 2 not of a memory of
     -- another length.
     ∷ computed
-    (outcomeOf (recovery smallRack smallMemory) ++ outcomeOf (recovery smallRack (store 740 smallMemory 2 9 2))
-    ++ outcomeOf (step awaitingCard2 (store 740 smallMemory 1 9 2) 9)
-    ++ outcomeOf (step (withHomes smallRack 0 1 1) (zeros 2219) 0))
+    (outcomeOf (recovery smallRack smallMemory) ++ outcomeOf (recovery smallRack (store 758 smallMemory 2 10 2))
+    ++ outcomeOf (step awaitingCard2 (store 758 smallMemory 1 10 2) 9)
+    ++ outcomeOf (step (withHomes smallRack 0 1 1) (zeros 2273) 0))
     (12 ∷ 0 ∷ 2 ∷ 0 ∷ 2 ∷ 0 ∷ 1 ∷ 0 ∷ [])
     -- A live card does not join, whatever is open; a dead one not while a release is open on another.
     ∷ computed

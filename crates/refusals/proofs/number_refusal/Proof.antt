@@ -61,5 +61,4 @@ pub number-refusal-spec : {M : Type 1} → statement M
 number-refusal-spec =
     tie.close
     (tie.spec (λ c κs. search needs) (λ c κs. search needs) returns (λ c κs. search needs) load-number-requires
-    (λ c. search needs) (λ c κs. search needs) returns-2 (λ c. omega arith)
-    (λ c κs. search needs) returns-3 (λ c κs. search needs) returns-4)
+    (λ c κs. search needs) returns-2 (λ c. omega arith) (λ c κs. search needs) returns-3 (λ c κs. search needs) returns-4)

@@ -3,10 +3,12 @@
 #![allow(dead_code)]
 
 pub mod play;
+pub mod racks;
 
 use random::Random;
 use second::layout::{
-    area_at, memory_words, number_at, put_desk, put_number, Desk, Number, LIST, OWN_STAMP, PAGE_WORDS,
+    area_at, done_mark_at, memory_words, number_at, put_desk, put_number, stamp_at, Desk, Number, LIST, OWN_STAMP,
+    PAGE_WORDS,
 };
 use second::*;
 
@@ -61,6 +63,16 @@ impl Rack {
 
     pub fn set_stamp(&mut self, card: u32, stamp: Number) {
         self.set_number(card, OWN_STAMP, stamp);
+    }
+
+    /// Makes a number the last one of a card: its own stamp, and stamp and done mark of
+    /// its record on every card.
+    pub fn set_last_number(&mut self, card: u32, number: Number) {
+        self.set_stamp(card, number);
+        for other in 0..self.directory.cards {
+            self.set_number(other, stamp_at(card), number);
+            self.set_number(other, done_mark_at(card), number);
+        }
     }
 
     pub fn open(&mut self, card: u32, number: Number, desk: Desk, list: &[u32]) -> Answer {
@@ -141,6 +153,11 @@ pub fn refused(number: u32) -> Answer {
 
 pub fn refused_at(number: u32, place: u64) -> Answer {
     Answer::Refused(number, place)
+}
+
+/// A number of two words, often at the edges of one or both.
+pub fn wide_number(random: &mut Random) -> Number {
+    Number::from(random.odd_word()) | Number::from(random.odd_word()) << 32
 }
 
 /// A change: page, word, price.

@@ -1,6 +1,6 @@
 //! Plays random lists of calls on a rack and holds the book beside it.
 
-use super::{list_of, random_changes, Change, Rack};
+use super::{list_of, random_changes, wide_number, Change, Rack};
 use random::Random;
 use second::book::{Book, Call};
 use second::layout::Number;
@@ -121,7 +121,7 @@ impl Play {
             Call::Fetch { page } => self.book.page(*page).into(),
             Call::Recover => {
                 let (number, desk) = self.book.last(self.book.failed());
-                hold(answer == Answer::Given(number.into()), || format!("book {number}"))?;
+                hold(answer == Answer::Given(number), || format!("book {number}"))?;
                 desk.into()
             }
             Call::AskDesk { card } if !self.book.is_open(*card) => self.book.last(*card).1.into(),
@@ -138,7 +138,7 @@ impl Play {
         if let Call::Recover = call {
             return match self.awaited {
                 None => refused(NONE_AWAITED),
-                Some(_) => Answer::Given(self.last_of_awaited().into()),
+                Some(_) => Answer::Given(self.last_of_awaited()),
             };
         }
         if self.awaited.is_some() {
@@ -171,7 +171,7 @@ impl Play {
             return Answer::Refused(RELEASE_OPEN, 0);
         }
         if number <= last {
-            return Answer::Refused(NUMBER_TOO_LOW, last.into());
+            return Answer::Refused(NUMBER_TOO_LOW, last);
         }
         if number - last > 1 {
             return Answer::Refused(NUMBER_TOO_HIGH, 0);
@@ -346,7 +346,7 @@ impl Play {
         let number = match random.below(15) {
             0 => last,
             1 => last.wrapping_add(2),
-            2 => random.odd_word(),
+            2 => wide_number(random),
             _ => last.wrapping_add(1),
         };
         Call::Open { card, number, desk: random.array(), list }
