@@ -44,7 +44,7 @@ examples =
     (7 ∷ 0 ∷ 9 ∷ 0 ∷ 3 ∷ 0 ∷ 14 ∷ 0 ∷ 18 ∷ 0 ∷ [])
     -- B opens release 1 with a list of one price and a desk of zeros
     ∷ computed
-    (take 11 (drop 941 (next (Open 1 1 1 2 250) newRack .memory))
-    ++ take 5 (drop 1096 (next (Open 1 1 1 2 250) newRack .memory)))
-    (1 ∷ 0 ∷ 1 ∷ replicate 8 0 ++ 0x10000001 ∷ 0x20020001 ∷ 250 ∷ 0xF0000003 ∷ 0 ∷ [])
+    (take 12 (drop 960 (next (Open 1 1 1 2 250) newRack .memory))
+    ++ take 5 (drop 1132 (next (Open 1 1 1 2 250) newRack .memory)))
+    (1 ∷ 0 ∷ 1 ∷ 0 ∷ replicate 8 0 ++ 0x10000001 ∷ 0x20020001 ∷ 250 ∷ 0xF0000003 ∷ 0 ∷ [])
     ∷ []

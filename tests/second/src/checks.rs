@@ -113,12 +113,13 @@ fn running(memory: &[u32], directory: &Directory) -> Checked {
     running_in_form(&FORM, memory, directory)
 }
 
-/// Refusals 1, 2, 11 and 15, the rack read in the form that it is moved from.
+/// Refusals 1, 2, 11 and 15 of a move, the rack read in the form moved from.
 fn running_with_none_open(form: &Form, memory: &[u32], directory: &Directory) -> Checked {
     running_in_form(form, memory, directory)?;
     none_open(form, memory, directory)
 }
 
+/// Refusals 1, 2 and 11 of a rack in either form.
 fn running_in_form(form: &Form, memory: &[u32], directory: &Directory) -> Checked {
     rack(form, memory, directory)?;
     refuse_if(directory.status != Status::Running, RECOVERY_AWAITED)

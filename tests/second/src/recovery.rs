@@ -40,8 +40,10 @@ fn steps_left(area: &[u32]) -> u32 {
 
 /// "If stamp and done mark differ": the failed card's release counts and its
 /// committed stores may be missing.
-#[cfg(not(feature = "wrong"))]
 fn second_phase(record: &Record) -> bool {
+    if cfg!(feature = "wrong") {
+        return record.stamp != 0;
+    }
     if cfg!(feature = "wrong_done_mark") {
         return record.stamp > record.done_mark;
     }
@@ -49,13 +51,6 @@ fn second_phase(record: &Record) -> bool {
         return low_word(record.stamp) != low_word(record.done_mark);
     }
     record.stamp != record.done_mark
-}
-
-/// The deliberate error: recovery that goes by the stamp alone.
-#[cfg(feature = "wrong")]
-fn second_phase(record: &Record) -> bool {
-    let _ = record.done_mark;
-    record.stamp != 0
 }
 
 /// "Each live home of each page copies tentative to committed. If they agree,

@@ -68,4 +68,4 @@ recover-card-spec =
     tie.close
     (tie.spec (λ c κs. search needs) (λ c κs. search needs) (λ c κs. search needs) (λ c. search needs) returns
     (λ c κs. search needs) (λ c. search needs) (λ c. search needs) (λ c. search needs) recover-memory-requires
-    (λ c. search needs) (λ c. search needs) returns-2)
+    (λ c. search needs) returns-2)
