@@ -101,10 +101,14 @@ twoLive = 13
 abbrev pub cardLive : ℕ
 cardLive = 14
 
--- Joining with a release open.
+-- Joining, or moving to another form, with a release open.
 abbrev pub joinWhileOpen : ℕ
 joinWhileOpen = 15
 
 -- A line that the program cannot read.
 abbrev pub unreadable : ℕ
 unreadable = 18
+
+-- Document 02, request 5: moving back with a stamp or done mark above 4294967295 on a live card's area.
+abbrev pub numberTooHigh : ℕ
+numberTooHigh = 20

@@ -3,10 +3,12 @@ unfoldable pub use Rattle.memory.specs.Words.{load, store, loadRun, overwrite, 
 pub use Rattle.memory.specs.Words.{indexOf, AreaIn}
 pub use Rattle.area.specs.Layout.{numberSize, deskSize, ownStamp, ownDesk, ownSize, openFlag, stepsMade}
 pub use Rattle.area.specs.Layout.{releaseNumber, releaseDesk, releaseSize, recordsStart, recordSize, deskInRecord}
+pub use Rattle.area.specs.Layout.{recordCount}
 pub use Rattle.area.specs.Layout.{recordAt, recordStamp, recordDone, recordDesk, listStart, listSize, tentative}
 pub use Rattle.area.specs.Layout.{committed, pagesStart, pageSize, storedPageSize, pageAt, tentativeHalf}
 pub use Rattle.area.specs.Layout.{committedHalf, areaSize}
 pub use Rattle.area.specs.RackMemory.{MemoryOf}
+pub use Rattle.area.specs.Places.{placesOf, PlacesIn, MemoryBy}
 unfoldable pub use Rattle.area.specs.Numbers.{numberWords, numberAt}
 pub use Rattle.area.specs.Numbers.{loadNumber, storeNumber}
 unfoldable pub use Rattle.area.specs.Releases.{ownRelease, openRelease, openList, stepsOf, isOpen}

@@ -9,7 +9,8 @@ use Rattle.directory.specs.declared.Directory.{Directory}
 use Rattle.directory.specs.declared.Status.{Status}
 use Rattle.directory.specs.declared.Status.the-variants.{Running, Awaiting}
 use Rattle.directory.specs.Directory.{liveAt, isLive, primaryOf, secondaryOf, awaitsCard}
-use Rattle.area.specs.Prelude.{load, areaSize, openFlag, openList, stepsOf}
+use Rattle.area.specs.declared.layout.Places.{Places}
+use Rattle.area.specs.Prelude.{load, loadRun, areaSize, openFlag, listSize, openList, stepsOf}
 use Rattle.diff.specs.declared.Verdict.{Verdict}
 use Rattle.diff.specs.declared.Verdict.the-variants.{Good, Faulty}
 use Rattle.diff.specs.Reading.{readDiff}
@@ -66,19 +67,32 @@ unfoldable pub badRelease : Verdict → ℕ → Bool
 badRelease (Good k words) steps = ltb (4 * k + 10) steps
 badRelease (Faulty place) steps = true
 
--- of a live card: "word 9 above 1" (word 10 since document 02, request 5), or a bad release
+-- "word 9 above 1" (word 10 since document 02, request 5), or a bad release: by that word, the steps and the list
+abbrev pub badOpen : ℕ → ℕ → ℕ → List ℕ → Bool
+badOpen pages flag steps list = ltb 1 flag || (eqb flag 1 && badRelease (readDiff pages list) steps)
+
+-- of a live card
 unfoldable pub badCard : List Bool → ℕ → List ℕ → ℕ → Bool
 badCard marks pages m c =
     liveAt marks c
-    && (ltb 1 (load (areaSize pages) m c openFlag)
-    || (eqb (load (areaSize pages) m c openFlag) 1
-    && badRelease (readDiff pages (openList (areaSize pages) m c)) (stepsOf (areaSize pages) m c)))
+    && badOpen pages (load (areaSize pages) m c openFlag) (stepsOf (areaSize pages) m c)
+    (openList (areaSize pages) m c)
+
+-- the same, by the places where an area has these words
+abbrev pub badCardAt : Places → List Bool → ℕ → List ℕ → ℕ → Bool
+badCardAt at marks pages m c =
+    liveAt marks c
+    && badOpen pages (load (at .size) m c (at .flag)) (load (at .size) m c (at .steps))
+    (loadRun (at .size) m c (at .list) listSize)
+
+-- a bad page, status or card; which cards are bad is told by a test
+abbrev pub unfitBy : Directory → (ℕ → Bool) → Bool
+unfitBy d bad =
+    fewLive (d .live) (d .cards)
+    || (someBelow (badPage d) (d .pages) || (badStatus (d .cards) (d .live) (d .status) || someBelow bad (d .cards)))
 
 unfoldable pub unfitRack : Directory → List ℕ → Bool
-unfitRack d m =
-    fewLive (d .live) (d .cards)
-    || (someBelow (badPage d) (d .pages)
-    || (badStatus (d .cards) (d .live) (d .status) || someBelow (badCard (d .live) (d .pages) m) (d .cards)))
+unfitRack d m = unfitBy d (badCard (d .live) (d .pages) m)
 
 -- ---- 11, and the checks that calls share
 

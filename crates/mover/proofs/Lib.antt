@@ -1,0 +1,3 @@
+-- Laws of the mover.
+pub mod FieldWords
+pub mod Cursors

@@ -1,0 +1,5 @@
+-- The mover: the two forms of a rack's memory, the fields that both have, and moves from one form to the other.
+pub mod Forms
+pub mod Fields
+pub mod Moving
+pub mod Move

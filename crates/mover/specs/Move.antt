@@ -1,0 +1,84 @@
+-- The mover (document 02, request 5): "takes an old memory to the new form and back", for a directory, from one lent
+-- memory into another.
+-- Assumes nothing: these are definitions.
+use Rattle.laws.specs.Prelude.{ℕ, _*_, List, [], _∷_, _++_, Bool, not, _&&_, _||_, length, ltb, eqb}
+use Rattle.laws.specs.Search.{someBelow}
+use Rattle.answer.specs.declared.Outcome.{Outcome}
+use Rattle.answer.specs.Outcome.{limits, unfit, recoveryAwaited, joinWhileOpen, numberTooHigh}
+use Rattle.directory.specs.declared.Directory.{Directory}
+use Rattle.directory.specs.Directory.{liveAt, isLive}
+use Rattle.area.specs.Prelude.{load, loadNumber, ownStamp, recordStamp, recordDone, recordCount}
+use Rattle.protocol.specs.Release.{sizeOf}
+use Rattle.protocol.specs.Checks.{Check, check, firstRefusal, outsideLimits, badCardAt, unfitBy, awaitsRecovery}
+use Rattle.protocol.specs.Result.{Result, resultOf}
+use Rattle.mover.specs.Forms.{oldForm, newForm, areaSizeIn, openFlagIn, placesIn}
+use Rattle.mover.specs.Fields.{rackFields, moved}
+
+-- ---- what an accepted move leaves in the other memory
+
+abbrev pub movedIn : Directory → List ℕ → List ℕ
+movedIn d old = moved oldForm newForm (rackFields (d .cards) (d .pages)) old
+
+-- "On the way back a dead card's high words, and those of release numbers, are dropped"; others are 0, by refusal 20
+abbrev pub movedBack : Directory → List ℕ → List ℕ
+movedBack d new = moved newForm oldForm (rackFields (d .cards) (d .pages)) new
+
+-- ---- what it refuses
+
+-- 1: cards or pages outside their limits, or either memory not of its length
+abbrev pub outsideLimitsOf : Directory → ℕ → ℕ → Bool
+outsideLimitsOf d oldWords newWords =
+    outsideLimits newWords (d .cards) (d .pages) || not (eqb oldWords (d .cards * areaSizeIn oldForm (d .pages)))
+
+-- 2, of a memory in a form
+abbrev pub unfitIn : ℕ → Directory → List ℕ → Bool
+unfitIn form d m = unfitBy d (badCardAt (placesIn form (d .pages)) (d .live) (d .pages) m)
+
+-- a release is open on a live card
+abbrev pub isOpenIn : ℕ → Directory → List ℕ → ℕ → Bool
+isOpenIn form d m c = liveAt (d .live) c && eqb (load (areaSizeIn form (d .pages)) m c (openFlagIn form)) 1
+
+-- 1, 2, 11 and 15, the source being in this form
+abbrev pub moveChecks : ℕ → Directory → ℕ → ℕ → List ℕ → List Check
+moveChecks form d oldWords newWords source =
+    check (outsideLimitsOf d oldWords newWords) limits
+    ∷ check (unfitIn form d source) unfit
+    ∷ check (awaitsRecovery (d .status)) recoveryAwaited
+    ∷ check (someBelow (isOpenIn form d source) (d .cards)) joinWhileOpen
+    ∷ []
+
+-- "above 4294967295"
+abbrev pub above : ℕ → Bool
+above number = ltb 4294967295 number
+
+-- the record of a card, in the area of its holder, has such a stamp or done mark
+unfoldable pub highRecord : ℕ → List ℕ → ℕ → ℕ → Bool
+highRecord size m holder c =
+    above (loadNumber size m holder (recordStamp c)) || above (loadNumber size m holder (recordDone c))
+
+-- an area has such an own stamp, or such a record, be it of a card that the rack has not
+unfoldable pub highArea : ℕ → List ℕ → ℕ → Bool
+highArea size m c = above (loadNumber size m c ownStamp) || someBelow (highRecord size m c) recordCount
+
+-- 20: "a stamp or done mark on a live card's area is above 4294967295"
+unfoldable pub tooHigh : Directory → List ℕ → Bool
+tooHigh d m = someBelow (λ c. isLive d c && highArea (sizeOf d) m c) (d .cards)
+
+-- ---- both ways; `memory` of the result is the other memory
+
+abbrev pub moveInChecks : Directory → List ℕ → List ℕ → List Check
+moveInChecks d old new = moveChecks oldForm d (length old) (length new) old
+
+unfoldable pub moveIn : Directory → List ℕ → List ℕ → Result
+moveIn d old new =
+    let o : Outcome = firstRefusal (moveInChecks d old new) 0 in
+    resultOf o (record { outcome = o; directory = d; memory = movedIn d old; words = [] }) d new []
+
+abbrev pub moveBackChecks : Directory → List ℕ → List ℕ → List Check
+moveBackChecks d new old =
+    moveChecks newForm d (length old) (length new) new ++ check (tooHigh d new) numberTooHigh ∷ []
+
+unfoldable pub moveBack : Directory → List ℕ → List ℕ → Result
+moveBack d new old =
+    let o : Outcome = firstRefusal (moveBackChecks d new old) 0 in
+    resultOf o (record { outcome = o; directory = d; memory = movedBack d new; words = [] }) d old []
