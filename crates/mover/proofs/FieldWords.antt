@@ -5,9 +5,11 @@ use mathlib.Core.List.{append-nil, append-assoc}
 use native.Mathlib.Nat.{zero-add}
 use lib.ListN.{length-append, length-drop}
 use lib.Seq.{drop-drop, length-take-le}
-use Rattle.area.specs.Prelude.{zeros}
+use Rattle.area.specs.Prelude.{zeros, recordCount, listSize, storedPageSize}
 use Rattle.area.proofs.Prelude.{length-zeros}
-use Rattle.mover.specs.Fields.{Field, number, words, repeated, fieldSize, fieldsSize, moved}
+use Rattle.mover.specs.Forms.{areaSizeIn}
+use Rattle.mover.specs.Fields.{Field, number, words, repeated, recordFields, areaFields, rackFields, fieldsSize}
+use Rattle.mover.specs.Fields.{moved}
 
 -- ---- how many words
 
@@ -20,6 +22,17 @@ module _ (form : ℕ) where
   unfolding repeated
   size-repeated zero fs = omega arith
   size-repeated (suc n) fs = size-append fs (repeated n fs) ∙ omega (arith, size-repeated n fs)
+
+-- an area and a rack have the words that their form says
+pub area-fields : (form pages : ℕ) → fieldsSize form (areaFields pages) ≡ areaSizeIn form pages
+area-fields form pages =
+    let records = repeated recordCount recordFields in
+    let both = size-append form records (words (listSize + storedPageSize * pages) ∷ []) in
+    omega (arith, both, size-repeated form recordCount recordFields)
+
+pub rack-fields : (form cards pages : ℕ) → fieldsSize form (rackFields cards pages) ≡ cards * areaSizeIn form pages
+rack-fields form cards pages =
+    size-repeated form cards (areaFields pages) ∙ ap (λ size. cards * size) (area-fields form pages)
 
 -- once more, at the end
 pub repeated-more : (n : ℕ) (fs : List Field) → repeated (suc n) fs ≡ repeated n fs ++ fs

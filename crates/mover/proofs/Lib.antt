@@ -1,3 +1,5 @@
 -- Laws of the mover.
 pub mod FieldWords
 pub mod Cursors
+pub mod Limits
+pub mod Results

@@ -6,12 +6,13 @@ use Rattle.laws.specs.Search.{someBelow}
 use Rattle.answer.specs.declared.Outcome.{Outcome}
 use Rattle.answer.specs.Outcome.{limits, unfit, recoveryAwaited, joinWhileOpen, numberTooHigh}
 use Rattle.directory.specs.declared.Directory.{Directory}
-use Rattle.directory.specs.Directory.{liveAt, isLive}
+use Rattle.directory.specs.Directory.{liveAt}
+use Rattle.area.specs.declared.layout.Places.{Places}
 use Rattle.area.specs.Prelude.{load, loadNumber, ownStamp, recordStamp, recordDone, recordCount}
 use Rattle.protocol.specs.Release.{sizeOf}
 use Rattle.protocol.specs.Checks.{Check, check, firstRefusal, outsideLimits, badCardAt, unfitBy, awaitsRecovery}
 use Rattle.protocol.specs.Result.{Result, resultOf}
-use Rattle.mover.specs.Forms.{oldForm, newForm, areaSizeIn, openFlagIn, placesIn}
+use Rattle.mover.specs.Forms.{oldForm, newForm, areaSizeIn, placesIn}
 use Rattle.mover.specs.Fields.{rackFields, moved}
 
 -- ---- what an accepted move leaves in the other memory
@@ -25,26 +26,21 @@ movedBack d new = moved newForm oldForm (rackFields (d .cards) (d .pages)) new
 
 -- ---- what it refuses
 
--- 1: cards or pages outside their limits, or either memory not of its length
-abbrev pub outsideLimitsOf : Directory → ℕ → ℕ → Bool
-outsideLimitsOf d oldWords newWords =
-    outsideLimits newWords (d .cards) (d .pages) || not (eqb oldWords (d .cards * areaSizeIn oldForm (d .pages)))
+-- 1: "cards or pages outside their limits", or either memory not of its length
+abbrev pub outsideLimitsOf : ℕ → ℕ → ℕ → ℕ → Bool
+outsideLimitsOf oldWords newWords cards pages =
+    outsideLimits newWords cards pages || not (eqb oldWords (cards * areaSizeIn oldForm pages))
 
--- 2, of a memory in a form
-abbrev pub unfitIn : ℕ → Directory → List ℕ → Bool
-unfitIn form d m = unfitBy d (badCardAt (placesIn form (d .pages)) (d .live) (d .pages) m)
+-- a release is open on a live card, whose area has these places
+abbrev pub openAt : Places → List Bool → List ℕ → ℕ → Bool
+openAt at marks m c = liveAt marks c && eqb (load (at .size) m c (at .flag)) 1
 
--- a release is open on a live card
-abbrev pub isOpenIn : ℕ → Directory → List ℕ → ℕ → Bool
-isOpenIn form d m c = liveAt (d .live) c && eqb (load (areaSizeIn form (d .pages)) m c (openFlagIn form)) 1
-
--- 1, 2, 11 and 15, the source being in this form
-abbrev pub moveChecks : ℕ → Directory → ℕ → ℕ → List ℕ → List Check
-moveChecks form d oldWords newWords source =
-    check (outsideLimitsOf d oldWords newWords) limits
-    ∷ check (unfitIn form d source) unfit
+-- 2, 11 and 15, read in the source, which has these places
+abbrev pub sourceChecks : Places → Directory → List ℕ → List Check
+sourceChecks at d source =
+    check (unfitBy d (badCardAt at (d .live) (d .pages) source)) unfit
     ∷ check (awaitsRecovery (d .status)) recoveryAwaited
-    ∷ check (someBelow (isOpenIn form d source) (d .cards)) joinWhileOpen
+    ∷ check (someBelow (openAt at (d .live) source) (d .cards)) joinWhileOpen
     ∷ []
 
 -- "above 4294967295"
@@ -61,13 +57,18 @@ unfoldable pub highArea : ℕ → List ℕ → ℕ → Bool
 highArea size m c = above (loadNumber size m c ownStamp) || someBelow (highRecord size m c) recordCount
 
 -- 20: "a stamp or done mark on a live card's area is above 4294967295"
-unfoldable pub tooHigh : Directory → List ℕ → Bool
-tooHigh d m = someBelow (λ c. isLive d c && highArea (sizeOf d) m c) (d .cards)
+abbrev pub highCard : List Bool → ℕ → List ℕ → ℕ → Bool
+highCard marks size m c = liveAt marks c && highArea size m c
+
+abbrev pub tooHigh : Directory → List ℕ → Bool
+tooHigh d m = someBelow (highCard (d .live) (sizeOf d) m) (d .cards)
 
 -- ---- both ways; `memory` of the result is the other memory
 
 abbrev pub moveInChecks : Directory → List ℕ → List ℕ → List Check
-moveInChecks d old new = moveChecks oldForm d (length old) (length new) old
+moveInChecks d old new =
+    check (outsideLimitsOf (length old) (length new) (d .cards) (d .pages)) limits
+    ∷ sourceChecks (placesIn oldForm (d .pages)) d old
 
 unfoldable pub moveIn : Directory → List ℕ → List ℕ → Result
 moveIn d old new =
@@ -76,7 +77,8 @@ moveIn d old new =
 
 abbrev pub moveBackChecks : Directory → List ℕ → List ℕ → List Check
 moveBackChecks d new old =
-    moveChecks newForm d (length old) (length new) new ++ check (tooHigh d new) numberTooHigh ∷ []
+    check (outsideLimitsOf (length old) (length new) (d .cards) (d .pages)) limits
+    ∷ (sourceChecks (placesIn newForm (d .pages)) d new ++ check (tooHigh d new) numberTooHigh ∷ [])
 
 unfoldable pub moveBack : Directory → List ℕ → List ℕ → Result
 moveBack d new old =

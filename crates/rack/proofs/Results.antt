@@ -24,14 +24,14 @@ use Rattle.checks.proofs.Passing.{all-pass}
 
 -- ---- any call
 
-abbrev resultIs : Outcome → Directory → List ℕ → List ℕ → Result
+abbrev pub resultIs : Outcome → Directory → List ℕ → List ℕ → Result
 resultIs o d m words = record { outcome = o; directory = d; memory = m; words = words }
 
 module _ {first o : Outcome} (reached : first ≡ o) (done : Outcome → Result) (d : Directory) (m words : List ℕ) where
-  refused-keeps : first .number ≢ 0 → resultOf o (done o) d m words ≡ resultIs first d m words
+  pub refused-keeps : first .number ≢ 0 → resultOf o (done o) d m words ≡ resultIs first d m words
   refused-keeps some = rw (← reached) (rw (ne-eqb _ _ some))
 
-  accepted-does : first .number ≡ 0 → resultOf o (done o) d m words ≡ done first
+  pub accepted-does : first .number ≡ 0 → resultOf o (done o) d m words ≡ done first
   accepted-does none = rw (← reached) (rw (eq-eqb _ _ none))
 
 -- a call whose accepted result keeps the directory keeps it, refused or not

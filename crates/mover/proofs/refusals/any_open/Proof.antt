@@ -1,0 +1,44 @@
+-- Rests on `Passed`: the search from here on finds what the whole search finds.
+use Prim.Native.Nat.{_-_, _<_}
+use mathlib.Core.Path.{_≡_, sym, _∙_}
+use native.Mathlib.Omega.{arith}
+use lib.ListN.{length}
+use borrow.Author.Needs.{needs}
+use Rattle.laws.proofs.Search.{Passed, passed-none, passed-more, some-found, none-found}
+use Rattle.memory.proofs.Index.{area-in}
+use Rattle.mover.specs.Move.{openAt}
+use Rattle.mover.proofs.refusals.any_open.Statement.{statement}
+use Rattle.mover.proofs.refusals.any_open.Tie as tie
+
+abbrev Inv-loop : tie.InvT-loop
+Inv-loop memory at live end card₀ card = Passed (openAt at live memory) end card
+
+abbrev μ-loop : tie.MeasureT-loop
+μ-loop memory at live end card₀ card = end - card
+
+open-at-requires : tie.Need-open-at-requires Inv-loop μ-loop
+open-at-requires c κs =
+    let start = c .before .before .before .before .before .before in
+    let marks : length (start .args .header .live) ≡ 8 = search needs in
+    let pre = start .pre in
+    let below : c .before .before .loop .card < start .args .header .cards = omega arith in
+    ((area-in _ below (pre .2), pre .3 .0), omega (arith, pre .0))
+
+returns : tie.Need-returns Inv-loop μ-loop
+returns c =
+    let turn = c .before .before .before in
+    some-found (turn .before .loop .inv) (omega arith) (sym (c .before .open-at .ensures) ∙ c .if1 .taken)
+
+loop-again : tie.Need-loop-again Inv-loop μ-loop
+loop-again c =
+    let turn = c .before .before .before in
+    passed-more (turn .before .loop .inv) (omega arith) (sym (c .before .open-at .ensures) ∙ c .if1 .left)
+
+returns-2 : tie.Need-returns-2 Inv-loop μ-loop
+returns-2 c = none-found (c .before .loop .inv) (c .loop-test .left)
+
+pub any-open-spec : {M : Type 1} → statement M
+any-open-spec =
+    tie.close
+    (tie.spec Inv-loop μ-loop (λ c. search needs) (λ c. passed-none) (λ c. search needs) open-at-requires returns
+    (λ c. search needs) (λ c. search needs) loop-again returns-2)
