@@ -8,6 +8,7 @@ ghost use Rattle.protocol.specs.Calls.{formatting, opening, step, fetch, failur
 ghost use Rattle.protocol.specs.Calls.{deskQuestion};
 ghost use Rattle.batch.specs.Steps.{steps};
 ghost use Rattle.batch.specs.FetchAll.{fetchAll};
+ghost use Rattle.mover.specs.Move.{moveIn, moveBack};
 ghost use Rattle.bandsawpink.specs.Words.{directoryIn, wordsOf};
 ghost use Rattle.bandsawpink.specs.Answers.{exportedAnswer, exportedDeskAnswer};
 ghost use Rattle.bandsawpink.specs.Answers.{directoryAfter, exportedStepsAnswer};
@@ -254,6 +255,48 @@ pub extern "C" fn rack_make_list(working: &[u32], twins: &[u32], buffer: &mut [u
         ≡ bufferAfter (now (working .entry)) (now (twins .entry)) (now (buffer .entry)) ⌝ }
 {
     let answer = maker::make(working, twins, buffer);
+    answers::in_numbers(answer)
+}
+
+// `mover::move_in`, which keeps the directory and the old memory.
+#[no_mangle]
+pub extern "C" fn rack_move_in(
+    old: &[u32],
+    directory: &[u32; 139],
+    memory: &mut [u32],
+) -> RackAnswer
+    ensures answer { λ r. ⌜ r
+        ≡ exportedAnswer
+        (moveIn (directoryIn (now (directory .entry))) (now (old .entry)) (now (memory .entry))
+        .outcome) ⌝ }
+    ensures memory { λ _. ⌜ now (memory .exit)
+        ≡ moveIn (directoryIn (now (directory .entry))) (now (old .entry)) (now (memory .entry))
+        .memory ⌝ }
+{
+    let taken = words::directory_in(directory);
+    let reply = mover::move_in(old, taken, memory);
+    let answer = reply.answer;
+    answers::in_numbers(answer)
+}
+
+// `mover::move_back`, which keeps the directory and the memory that it moves.
+#[no_mangle]
+pub extern "C" fn rack_move_back(
+    memory: &[u32],
+    directory: &[u32; 139],
+    old: &mut [u32],
+) -> RackAnswer
+    ensures answer { λ r. ⌜ r
+        ≡ exportedAnswer
+        (moveBack (directoryIn (now (directory .entry))) (now (memory .entry)) (now (old .entry))
+        .outcome) ⌝ }
+    ensures old { λ _. ⌜ now (old .exit)
+        ≡ moveBack (directoryIn (now (directory .entry))) (now (memory .entry)) (now (old .entry))
+        .memory ⌝ }
+{
+    let taken = words::directory_in(directory);
+    let reply = mover::move_back(memory, taken, old);
+    let answer = reply.answer;
     answers::in_numbers(answer)
 }
 
