@@ -3,3 +3,6 @@ pub mod FieldWords
 pub mod Cursors
 pub mod Limits
 pub mod Results
+pub mod Reading
+pub mod Parts
+pub mod Areas

@@ -3,3 +3,5 @@ pub mod Forms
 pub mod Fields
 pub mod Moving
 pub mod Move
+pub mod Areas
+pub mod Theorems
