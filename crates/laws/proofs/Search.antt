@@ -100,6 +100,14 @@ module _ (test : ℕ → Bool) (n : ℕ) where
       let stops = lowest-stops test 0 n in
       stops .missed i (omega arith) (omega (arith, ltb-false))
 
+  pub none-pass : ((i : ℕ) → i < n → test i ≡ false) → someBelow test n ≡ false
+  none-pass fail =
+      let stops = lowest-stops test 0 n in
+      elim (decLt (lowest test n) n) [
+        | yes found ↦ absurd (true≢false (sym (stops .hit (omega arith)) ∙ fail (lowest test n) found))
+        | no past ↦ le-ltb (lowest test n) n (omega arith)
+      ]
+
   pub some-below : (i : ℕ) → i < n → test i ≡ true → someBelow test n ≡ true
   some-below i below pass =
       let stops = lowest-stops test 0 n in

@@ -6,3 +6,8 @@ pub mod Results
 pub mod Reading
 pub mod Parts
 pub mod Areas
+pub mod Back
+pub mod MovedIn
+pub mod Saying
+pub mod Theorems
+pub mod Examples

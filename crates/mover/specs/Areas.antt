@@ -1,6 +1,6 @@
 -- A card's area in two memories of different forms: the words that both have.
 -- Assumes nothing: these are definitions.
-use Rattle.laws.specs.Prelude.{ℕ, _+_, _*_, _%_, _<_, _≡_, List, Bool, cond, not, eqb}
+use Rattle.laws.specs.Prelude.{ℕ, _+_, _*_, _%_, _<_, _≡_, List, Bool, true, false, cond, eqb}
 use Rattle.directory.specs.declared.Directory.{Directory}
 use Rattle.directory.specs.Directory.{isLive, nextLiveOf}
 use Rattle.area.specs.Prelude.{load, loadRun, deskSize, ownStamp, recordCount, listSize, storedPageSize, Release}
@@ -71,8 +71,10 @@ oldRecorded d m holder k =
 -- its stamp and done mark differ
 abbrev pub oldUnderWay : Directory → List ℕ → ℕ → ℕ → Bool
 oldUnderWay d m holder k =
-    not (eqb (wordIn oldForm (d .pages) m holder (recordIn oldForm k))
+    cond
+    (eqb (wordIn oldForm (d .pages) m holder (recordIn oldForm k))
     (wordIn oldForm (d .pages) m holder (recordDoneIn oldForm k)))
+    false true
 
 -- the own desk of a live card, or the desk that a dead card's record has on the next live card
 abbrev pub oldDesk : Directory → List ℕ → ℕ → List ℕ

@@ -5,3 +5,4 @@ pub mod Moving
 pub mod Move
 pub mod Areas
 pub mod Theorems
+pub mod Examples

@@ -3,7 +3,11 @@
 // and directory, and a refusal changes no word of what was lent.
 ghost use Rattle.laws.specs.Prelude.{_≡_};
 ghost use Rattle.answer.specs.Outcome.{answerOf};
+ghost use Rattle.laws.specs.Examples.{AllHold};
 ghost use Rattle.mover.specs.Move.{moveIn, moveBack};
+ghost use Rattle.mover.specs.Theorems.{MovedBackIsOld, HighWordsZero, SaysWhatOldSaid};
+ghost use Rattle.mover.specs.Theorems.{LowWordsKept, RefusedMoves, NewFormIsLayout};
+ghost use Rattle.mover.specs.Examples.{examples};
 
 mod fields;
 mod forms;
@@ -60,3 +64,43 @@ pub fn move_back(new: &[u32], directory: Directory, old: &mut [u32]) -> Reply
     fields::move_memory(new, old, to_old, header.cards, header.pages);
     Reply { directory, answer }
 }
+
+// ---- what is proved of it: each function does nothing when it is called, and is where the gate shows
+// a theorem
+
+// Going back after going in, into any memory of the old length, is accepted and returns every old
+// word, of dead cards too.
+pub fn moved_back_is_old()
+    ensures { λ _. ⌜ MovedBackIsOld ⌝ }
+{}
+
+// Going in, every high word is 0, of dead cards too.
+pub fn high_words_are_zero()
+    ensures { λ _. ⌜ HighWordsZero ⌝ }
+{}
+
+// A rack that was moved in says what the old one said: every word but the high ones, what its records
+// tell, and what fetches and desk questions answer.
+pub fn says_what_old_said()
+    ensures { λ _. ⌜ SaysWhatOldSaid ⌝ }
+{}
+
+// Going back, every word but the high ones is kept, of dead cards too.
+pub fn low_words_are_kept()
+    ensures { λ _. ⌜ LowWordsKept ⌝ }
+{}
+
+// A refused move keeps both memories and the directory, and has one of these numbers.
+pub fn refused_moves_change_nothing()
+    ensures { λ _. ⌜ RefusedMoves ⌝ }
+{}
+
+// The new form is the layout that the calls go by.
+pub fn new_form_is_layout()
+    ensures { λ _. ⌜ NewFormIsLayout ⌝ }
+{}
+
+// Worked examples of moves, computed from the definitions.
+pub fn examples_hold()
+    ensures { λ _. ⌜ AllHold examples ⌝ }
+{}

@@ -75,7 +75,7 @@ pub record JoinPassed (d : Directory) (m : List ℕ) (x : ℕ) : Type 0 where
   pub none-open : (c : ℕ) → c < d .cards → isOpen (d .live) (sizeOf d) m c ≡ false
 
 module _ (d : Directory) (m : List ℕ) where
-  runs-by : outsideLimits (length m) (d .cards) (d .pages) ≡ false → unfitRack d m ≡ false
+  pub runs-by : outsideLimits (length m) (d .cards) (d .pages) ≡ false → unfitRack d m ≡ false
       → awaitsRecovery (d .status) ≡ false
       → Runs d m
   runs-by limits fit idle =

@@ -2,8 +2,8 @@
 use Rattle.laws.proofs.Prelude.{ℕ, zero, suc, _+_, _*_, _≤_, _<_, _≡_, refl, sym, _∙_, _≢_, _⊎_, inl, inr, List, Bool}
 use Rattle.laws.proofs.Prelude.{true, false, cond, not, _&&_, _||_, true≢false, arith, ℕ-discrete, decLt, eq-eqb}
 use Rattle.laws.proofs.Prelude.{ne-eqb, le-ltb, lt-leb, length, ltb, eqb}
-use Rattle.laws.specs.Search.{lowest, someBelow, countBelow}
-use Rattle.laws.proofs.Search.{lowest-stops}
+use Rattle.laws.specs.Search.{someBelow, countBelow}
+use Rattle.laws.proofs.Search.{none-pass}
 use Rattle.directory.specs.declared.Directory.{Directory}
 use Rattle.directory.specs.declared.Status.{Status}
 use Rattle.directory.specs.Directory.{liveAt, isLive, primaryOf, secondaryOf, backupOf, awaitsCard}
@@ -19,14 +19,6 @@ use Rattle.protocol.proofs.invariant.Rack.{RunningRack, AwaitingRack, T
 use Rattle.protocol.proofs.checks.ByCall.{Fits}
 
 -- ---- numbers below a bound
-
-none-pass : (test : ℕ → Bool) (n : ℕ) → ((i : ℕ) → i < n → test i ≡ false) → someBelow test n ≡ false
-none-pass test n fail =
-    let stops = lowest-stops test 0 n in
-    elim (decLt (lowest test n) n) [
-      | yes found ↦ absurd (true≢false (sym (stops .hit (omega arith)) ∙ fail (lowest test n) found))
-      | no past ↦ le-ltb (lowest test n) n (omega arith)
-    ]
 
 -- one that passes is counted
 count-up : (test : ℕ → Bool) (x n : ℕ) → x < n → test x ≡ true → suc (countBelow test x) ≤ countBelow test n
