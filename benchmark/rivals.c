@@ -111,7 +111,7 @@ static size_t list_of(const struct release *release, uint32_t *list, uint32_t pr
 }
 
 static void rack_release(const struct release *release, uint32_t price) {
-    static uint32_t number;
+    static uint64_t number;
     static const uint32_t desk[RACK_DESK_WORDS];
     uint32_t list[RACK_LIST_WORDS];
     size_t words = list_of(release, list, price);

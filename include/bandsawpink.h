@@ -20,13 +20,23 @@
 ** may store them and load them again: both are plain words, and any words at all may be handed
 ** in. A call refuses what does not fit.
 **
-** The memory has an area of 676 + 64 * pages words for each card, ascending. In it stand:
+** The memory has an area of 694 + 64 * pages words for each card, ascending. The number of a
+** release has 64 bits and takes two words, the low one first; so do a stamp and a done mark, which
+** are such numbers. In an area stand:
 **
-**     0; 1 to 8            number (the card's stamp) and desk of its last closed release
-**     9; 10; 11; 12 to 19  a release is open (0 or 1); its steps made; its number; its desk
-**     20 to 163            for each card c, at 20 + 18 * c: stamp, done mark, even desk, odd desk
-**     164 to 675           the list of the open release, from its first word
-**     676 + 64 * p         page p: 32 tentative prices, then 32 committed
+**     0, 1; 2 to 9              number (the card's stamp) and desk of its last closed release
+**     10; 11; 12, 13; 14 to 21  a release is open (0 or 1); its steps made; its number; its desk
+**     22 to 181                 for card c, at 22 + 20 * c: stamp, done mark, even desk, odd desk
+**     182 to 693                the list of the open release, from its first word
+**     694 + 64 * p              page p: 32 tentative prices, then 32 committed
+**
+** THE OLD FORM OF THE MEMORY
+**
+** Before, a number had 32 bits and took one word, and an area had 676 + 64 * pages words: the same
+** in the same order, the open release from 9 on, the record of card c at 20 + 18 * c, the list at
+** 164 and page p at 676 + 64 * p. rack_move_in takes a rack from a memory of this old form to one
+** of the form above, rack_move_back takes it back; one directory goes with both. All other calls
+** take the form above.
 **
 ** WHAT THE CALLER MUST SEE TO
 **
@@ -39,7 +49,7 @@
 **
 ** Every call returns. A number of 0 says that it was accepted, and the value is what it gives.
 ** Any other number is a refusal, and the value is its place: 0 unless the list below names one. A
-** refusal changes no word of the memory, the directory, the list or the buffer. There are two
+** refusal changes no word of a memory, the directory, the list or the buffer. There are two
 ** exceptions: rack_format writes the empty directory, and the steps that rack_steps made before
 ** the refused one stand. Checks run in the order that each function names, and the first that
 ** fails is answered.
@@ -62,7 +72,13 @@
 **     answer = rack_fetch(memory, words, &directory, 1, page, RACK_PAGE_WORDS);
 **     if (answer.number != RACK_ACCEPTED) return refuse(answer);
 **
-** and page[2] is 250.
+** and page[2] is 250. A rack that was stored in the old form is moved once it is loaded:
+**
+**     uint32_t old_memory[RACK_OLD_MEMORY_WORDS(3, 4)];
+**     size_t old_words = RACK_OLD_MEMORY_WORDS(3, 4);
+**     load(old_memory, old_words, &directory);
+**     answer = rack_move_in(old_memory, old_words, &directory, memory, words);
+**     if (answer.number != RACK_ACCEPTED) return refuse(answer);
 */
 #ifndef BANDSAWPINK_H
 #define BANDSAWPINK_H
@@ -85,7 +101,10 @@ extern "C" {
 #define RACK_LIST_WORDS 512 /* the longest list of changes: a buffer of this length is enough */
 
 /* The memory of a rack, in words of 32 bits. A constant where both arguments are. */
-#define RACK_MEMORY_WORDS(cards, pages) ((size_t)(cards) * (676 + 64 * (size_t)(pages)))
+#define RACK_MEMORY_WORDS(cards, pages) ((size_t)(cards) * (694 + 64 * (size_t)(pages)))
+
+/* The same in the old form, which rack_move_in and rack_move_back take. */
+#define RACK_OLD_MEMORY_WORDS(cards, pages) ((size_t)(cards) * (676 + 64 * (size_t)(pages)))
 
 /*
 ** The directory: which cards are live, where the pages live, and whether the rack awaits a
@@ -156,12 +175,13 @@ RACK_ASSERT(sizeof(size_t) == 8);
 
 /*
 ** Refusals, by who caused them. The number 18, an unreadable line, belongs to the program
-** shelfrun.
+** shelfrun; none has the number 19.
 */
 #define RACK_ACCEPTED 0
 
 /* Whoever fitted the rack */
-#define RACK_LIMITS 1 /* cards or pages outside their limits, or a memory not of RACK_MEMORY_WORDS;
+#define RACK_LIMITS 1 /* cards or pages outside their limits, or a memory not of RACK_MEMORY_WORDS,
+                         or an old one not of RACK_OLD_MEMORY_WORDS;
                          rack_make_list: pages of unequal length, or not 32 words times 1 to 64 */
 #define RACK_UNFIT 2  /* memory and directory do not make a rack: fewer than two live cards; a page
                          whose homes are equal, or one of them not below the number of cards, or
@@ -174,7 +194,8 @@ RACK_ASSERT(sizeof(size_t) == 8);
 #define RACK_NO_CARD 3      /* no such card, or a dead one; rack_join, rack_desk: no such card */
 #define RACK_RELEASE_OPEN 4 /* a release is open on the card */
 #define RACK_NUMBER_USED 5  /* the number is at or below the card's stamp, as that of a release sent
-                               twice. Place: the stamp */
+                               twice; each number is at the stamp 18446744073709551615, the
+                               greatest. Place: the stamp */
 #define RACK_NUMBER_AHEAD 6 /* the number is above the card's stamp + 1 */
 #define RACK_FAULTY_LIST 7  /* the list breaks a rule (THE LIST OF CHANGES, below). Place: the
                                lowest that applies of the first word that breaks one, the length
@@ -196,7 +217,10 @@ RACK_ASSERT(sizeof(size_t) == 8);
 #define RACK_NONE_AWAITED 12     /* a recovery, and none is awaited */
 #define RACK_TWO_LIVE 13         /* a failure with two live cards */
 #define RACK_CARD_LIVE 14        /* a join of a live card */
-#define RACK_JOIN_WHILE_OPEN 15  /* a join while a release is open on a live card */
+#define RACK_JOIN_WHILE_OPEN 15  /* a join while a release is open on a live card; a move is refused
+                                    likewise */
+#define RACK_NUMBER_TOO_HIGH 20  /* rack_move_back: a stamp or a done mark on a live card is above
+                                    4294967295, for which the old form has no room */
 
 /*
 ** THE LIST OF CHANGES
@@ -240,7 +264,7 @@ rack_answer rack_format(uint32_t *memory, size_t words, uint32_t cards, uint32_t
 ** Gives 0. Refusals: 1, 2, 11, 3, 4, 5, 6, 7, 8.
 */
 rack_answer rack_open(uint32_t *memory, size_t words, const rack_directory *directory,
-                      uint32_t card, uint32_t number, const uint32_t desk[RACK_DESK_WORDS],
+                      uint32_t card, uint64_t number, const uint32_t desk[RACK_DESK_WORDS],
                       const uint32_t *list, size_t list_words);
 
 /*
@@ -306,6 +330,25 @@ rack_answer rack_join(uint32_t *memory, size_t words, rack_directory *directory,
 */
 rack_desk_answer rack_desk(const uint32_t *memory, size_t words, const rack_directory *directory,
                            uint32_t card);
+
+/*
+** Moves a rack from an old memory, of RACK_OLD_MEMORY_WORDS(cards, pages) words, into a memory of
+** RACK_MEMORY_WORDS(cards, pages), all of which it writes. The high word of each number is 0 there,
+** on dead cards too. The old memory is kept. Gives 0. Refusals: 1, 2, 11, 15; 1 is for the length
+** of either memory, 2 and 15 for what stands in the old one.
+*/
+rack_answer rack_move_in(const uint32_t *old_memory, size_t old_words,
+                         const rack_directory *directory, uint32_t *memory, size_t words);
+
+/*
+** Moves a rack back into an old memory, all of which it writes. Each number loses its high word. On
+** a live card that of its stamp, and those of the stamps and done marks of all eight records, must
+** be 0 (refusal 20); on a dead card, and in the number of a release, they may be any. After
+** rack_move_in it gives each word of the old memory again. The memory that is moved is kept. Gives
+** 0. Refusals: 1, 2, 11, 15, 20; 1 is for the length of either memory.
+*/
+rack_answer rack_move_back(const uint32_t *memory, size_t words, const rack_directory *directory,
+                           uint32_t *old_memory, size_t old_words);
 
 /*
 ** Makes the list of changes from the twins, the pages as they were fetched, to the working pages,

@@ -1,6 +1,6 @@
 /*
-** The exported functions called from C: each refusal of document 01 with its number and place, and that a refusal keeps
-** memory, directory and buffer. Ends with status 0 if all is as expected.
+** The exported functions called from C: each refusal of documents 01 and 02 with its number and place, and that a
+** refusal keeps memory, directory and buffer. Ends with status 0 if all is as expected.
 */
 #include <bandsawpink.h>
 #include <stdio.h>
@@ -8,16 +8,35 @@
 
 enum { CARDS = 3, PAGES = 4, PRICES = PAGES * RACK_PAGE_WORDS, WORDS = RACK_MEMORY_WORDS(CARDS, PAGES) };
 
-/* An area's length, and where the card's stamp, the mark of an open release, its steps and its list stand in it. */
+/*
+** An area's length, and where the card's stamp, the mark of an open release, its steps and number, the records of cards
+** and the list stand in it.
+*/
 enum {
     AREA = RACK_MEMORY_WORDS(1, PAGES),
     STAMP = 0,
-    OPEN = STAMP + 1 + RACK_DESK_WORDS,
+    OPEN = STAMP + 2 + RACK_DESK_WORDS,
     STEPS = OPEN + 1,
+    NUMBER = STEPS + 1,
+    RECORDS = NUMBER + 2 + RACK_DESK_WORDS,
+    RECORD_WORDS = 4 + 2 * RACK_DESK_WORDS,
     LIST = RACK_MEMORY_WORDS(1, 0) - RACK_LIST_WORDS
 };
 
+/* The same in the old form. */
+enum {
+    OLD_WORDS = RACK_OLD_MEMORY_WORDS(CARDS, PAGES),
+    OLD_AREA = RACK_OLD_MEMORY_WORDS(1, PAGES),
+    OLD_OPEN = STAMP + 1 + RACK_DESK_WORDS,
+    OLD_RECORDS = OLD_OPEN + 3 + RACK_DESK_WORDS,
+    OLD_RECORD_WORDS = 2 + 2 * RACK_DESK_WORDS,
+    OLD_PAGES = RACK_OLD_MEMORY_WORDS(1, 0),
+    OLD_LIST = OLD_PAGES - RACK_LIST_WORDS
+};
+
 static uint32_t memory[WORDS + 1], memory_before[WORDS + 1], large[RACK_MEMORY_WORDS(CARDS, RACK_MAX_PAGES)];
+static uint32_t old_memory[OLD_WORDS + 1], old_before[OLD_WORDS + 1];
+static uint32_t *const record = memory + 2 * AREA + RECORDS + RECORD_WORDS; /* that of card 1 on card 2, its backup */
 static rack_directory directory, directory_before;
 static const uint32_t desk[RACK_DESK_WORDS] = { 1, 2, 3, 4, 5, 6, 7, 8 };
 static const uint32_t list[] = { 0x10000001, 0x20020002, 250, 199, 0xF0000004 };
@@ -31,14 +50,16 @@ static int failed;
         } \
     } while (0)
 
-/* A call's number and place, and that it kept memory and directory. */
+/* A call's number and place, and that it kept both memories and the directory. */
 #define REFUSED(call, expected_number, expected_place) \
     do { \
         memcpy(memory_before, memory, sizeof memory); \
+        memcpy(old_before, old_memory, sizeof old_memory); \
         directory_before = directory; \
         rack_answer answer = (call); \
         EXPECT(answer.number == (expected_number) && answer.value == (expected_place)); \
         EXPECT(memcmp(memory, memory_before, sizeof memory) == 0); \
+        EXPECT(memcmp(old_memory, old_before, sizeof old_memory) == 0); \
         EXPECT(memcmp(&directory, &directory_before, sizeof directory) == 0); \
     } while (0)
 
@@ -77,7 +98,7 @@ static void formatting(void) {
     EXPECT(directory.cards == CARDS && directory.pages == PAGES && directory.awaited == RACK_RUNNING);
     EXPECT(directory.live[2] == 1 && directory.live[3] == 0);
     EXPECT(directory.primary[2] == 2 && directory.secondary[2] == 0 && directory.primary[4] == 0);
-    EXPECT(WORDS == 2796);
+    EXPECT(WORDS == 2850);
 }
 
 static void desk_calls(void) {
@@ -92,9 +113,6 @@ static void desk_calls(void) {
     memory[AREA + OPEN] = 2;
     REFUSED(rack_step(memory, WORDS, &directory, 1), RACK_UNFIT, 0);
     memory[AREA + OPEN] = 0;
-    memory[AREA + STAMP] = 4294967295;
-    REFUSED(rack_open(memory, WORDS, &directory, 1, 7, desk, list, 5), RACK_NUMBER_USED, 4294967295);
-    memory[AREA + STAMP] = 0;
     ACCEPTED(rack_open(memory, WORDS, &directory, 1, 1, desk, list, 5));
     REFUSED(rack_open(memory, WORDS, &directory, 1, 1, desk, list, 5), RACK_RELEASE_OPEN, 0);
     REFUSED(rack_open(memory, WORDS, &directory, 2, 1, desk, list, 5), RACK_WORD_IN_USE, 1);
@@ -298,6 +316,147 @@ static void card_calls(void) {
     EXPECT(found.number == RACK_ACCEPTED && found.value == 0 && memcmp(found.desk, zeros, sizeof zeros) == 0);
 }
 
+/* A rack whose card 1 has this last number, as its record on its backup has it, too. */
+static void format_with_last(uint64_t last) {
+    uint32_t *const numbers[] = { memory + AREA + STAMP, record, record + 2 };
+    format();
+    for (int at = 0; at < 3; at++) {
+        numbers[at][0] = (uint32_t)last;
+        numbers[at][1] = (uint32_t)(last >> 32);
+    }
+}
+
+static rack_answer open_numbered(uint64_t number) {
+    return rack_open(memory, WORDS, &directory, 1, number, desk, list, 5);
+}
+
+static rack_answer move_in(void) { return rack_move_in(old_memory, OLD_WORDS, &directory, memory, WORDS); }
+
+static rack_answer move_back(void) { return rack_move_back(memory, WORDS, &directory, old_memory, OLD_WORDS); }
+
+static void large_numbers(void) {
+    const uint32_t counted[] = { 0, 1, 4294967295, 0 }, closed[] = { 0, 1, 0, 1 };
+    format_with_last(4294967295);
+    ACCEPTED(move_back());
+    REFUSED(open_numbered(7), RACK_NUMBER_USED, 4294967295);
+    REFUSED(open_numbered(4294967295), RACK_NUMBER_USED, 4294967295);
+    REFUSED(open_numbered(4294967297), RACK_NUMBER_AHEAD, 0);
+    ACCEPTED(open_numbered(4294967296));
+    EXPECT(memory[AREA + NUMBER] == 0 && memory[AREA + NUMBER + 1] == 1);
+    ACCEPTED(rack_steps(memory, WORDS, &directory, 1, 13));
+    EXPECT(memcmp(record, counted, sizeof counted) == 0);
+    REFUSED(move_back(), RACK_JOIN_WHILE_OPEN, 0);
+    ACCEPTED(rack_steps(memory, WORDS, &directory, 1, 6));
+    EXPECT(memcmp(record, closed, sizeof closed) == 0);
+    EXPECT(memcmp(record + 4, desk, sizeof desk) == 0); /* the even desk */
+    EXPECT(memory[AREA + STAMP] == 0 && memory[AREA + STAMP + 1] == 1);
+    REFUSED(open_numbered(4294967296), RACK_NUMBER_USED, 4294967296);
+    REFUSED(move_back(), RACK_NUMBER_TOO_HIGH, 0);
+    ACCEPTED(rack_fail(memory, WORDS, &directory, 1));
+    rack_desk_answer found = rack_recover(memory, WORDS, &directory);
+    EXPECT(found.number == RACK_ACCEPTED && found.value == 4294967296 && memcmp(found.desk, desk, sizeof desk) == 0);
+    REFUSED(move_back(), RACK_NUMBER_TOO_HIGH, 0); /* for its records, which are on live cards */
+
+    const uint64_t numbers[] = { 0, 1, 4294967295, 4294967296, UINT64_MAX };
+    format_with_last(UINT64_MAX);
+    for (int at = 0; at < 5; at++) REFUSED(open_numbered(numbers[at]), RACK_NUMBER_USED, 18446744073709551615u);
+    format_with_last(UINT64_MAX - 1);
+    ACCEPTED(open_numbered(UINT64_MAX));
+}
+
+/* The old form of a rack on which card 1 released 250 and 199, at words 2 and 3 of page 1, with a desk of sevens. */
+static void release_in_old_form(void) {
+    uint32_t *own = old_memory + OLD_AREA, *backup = own + OLD_AREA;
+    uint32_t *old_record = backup + OLD_RECORDS + OLD_RECORD_WORDS;
+    memset(old_memory, 0, sizeof old_memory);
+    own[STAMP] = old_record[0] = old_record[1] = 1;
+    for (int word = 0; word < RACK_DESK_WORDS; word++)
+        own[STAMP + 1 + word] = old_record[2 + RACK_DESK_WORDS + word] = 7; /* the own desk, and the odd one */
+    for (int copy = 0; copy < 2; copy++) {
+        int at = OLD_PAGES + (2 + copy) * RACK_PAGE_WORDS + 2;
+        own[at] = backup[at] = 250;
+        own[at + 1] = backup[at + 1] = 199;
+    }
+}
+
+static void moves(void) {
+    static uint32_t released[OLD_WORDS + 1];
+    const uint32_t sevens[RACK_DESK_WORDS] = { 7, 7, 7, 7, 7, 7, 7, 7 };
+    EXPECT(OLD_WORDS == 2796);
+    format();
+    ACCEPTED(rack_open(memory, WORDS, &directory, 1, 1, sevens, list, 5));
+    ACCEPTED(rack_steps(memory, WORDS, &directory, 1, 19));
+    memcpy(memory_before, memory, sizeof memory);
+    directory_before = directory;
+    release_in_old_form();
+    memcpy(released, old_memory, sizeof released);
+    memset(memory, 0xA5, sizeof memory);
+    rack_answer moved = move_in();
+    EXPECT(moved.number == RACK_ACCEPTED && moved.value == 0);
+    EXPECT(memcmp(memory, memory_before, WORDS * sizeof *memory) == 0 && memory[WORDS] == 0xA5A5A5A5);
+    EXPECT(memcmp(old_memory, released, sizeof released) == 0);
+
+    memcpy(memory_before, memory, sizeof memory);
+    memset(old_memory, 0x5A, sizeof old_memory);
+    moved = move_back();
+    EXPECT(moved.number == RACK_ACCEPTED && moved.value == 0);
+    EXPECT(memcmp(old_memory, released, OLD_WORDS * sizeof *released) == 0 && old_memory[OLD_WORDS] == 0x5A5A5A5A);
+    EXPECT(memcmp(memory, memory_before, sizeof memory) == 0);
+    EXPECT(memcmp(&directory, &directory_before, sizeof directory) == 0);
+}
+
+static void refused_moves(void) {
+    format();
+    release_in_old_form();
+    const size_t lengths[][2] = { { 2796, 2849 }, { 2796, 2851 }, { 2795, 2850 }, { 2797, 2850 }, { 2850, 2796 } };
+    for (int at = 0; at < 5; at++) {
+        size_t old_words = lengths[at][0], words = lengths[at][1];
+        REFUSED(rack_move_in(old_memory, old_words, &directory, memory, words), RACK_LIMITS, 0);
+        REFUSED(rack_move_back(memory, words, &directory, old_memory, old_words), RACK_LIMITS, 0);
+    }
+    directory.pages = 65;
+    REFUSED(move_in(), RACK_LIMITS, 0);
+    REFUSED(move_back(), RACK_LIMITS, 0);
+
+    format();
+    old_memory[OLD_AREA + OLD_OPEN] = memory[AREA + OPEN] = 2;
+    REFUSED(move_in(), RACK_UNFIT, 0);
+    REFUSED(move_back(), RACK_UNFIT, 0);
+    old_memory[OLD_AREA + OLD_OPEN] = memory[AREA + OPEN] = 1;
+    old_memory[OLD_AREA + OLD_LIST] = memory[AREA + LIST] = 0xF0000000;
+    REFUSED(move_in(), RACK_JOIN_WHILE_OPEN, 0);
+    REFUSED(move_back(), RACK_JOIN_WHILE_OPEN, 0);
+    ACCEPTED(rack_fail(memory, WORDS, &directory, 1));
+    REFUSED(move_in(), RACK_RECOVERY_AWAITED, 0);
+    REFUSED(move_back(), RACK_RECOVERY_AWAITED, 0);
+}
+
+/* High words on the way back: each that is refused, and those that are dropped. */
+static void high_words(void) {
+    const uint32_t slot_7 = RECORDS + 7 * RECORD_WORDS; /* room for a record that a rack of 3 cards never reads */
+    const uint32_t refused[] = { STAMP + 1, RECORDS + 1, RECORDS + 3, slot_7 + 1, slot_7 + 3 };
+    for (int at = 0; at < 5; at++)
+        for (int card = 0; card < CARDS; card++) {
+            format();
+            memory[card * AREA + refused[at]] = 1;
+            REFUSED(move_back(), RACK_NUMBER_TOO_HIGH, 0);
+        }
+    format();
+    memory[AREA + NUMBER] = 6;
+    memory[AREA + NUMBER + 1] = 9; /* that of no open release */
+    ACCEPTED(move_back());
+    EXPECT(old_memory[OLD_AREA + OLD_OPEN + 2] == 6 && old_memory[OLD_AREA + OLD_OPEN + 3] == 0);
+
+    format_with_last(4294967295);
+    ACCEPTED(rack_fail(memory, WORDS, &directory, 1));
+    ACCEPTED(rack_recover(memory, WORDS, &directory));
+    memory[AREA + STAMP + 1] = memory[AREA + slot_7 + 1] = 1; /* those of a dead card */
+    ACCEPTED(move_back());
+    EXPECT(old_memory[OLD_AREA + STAMP] == 4294967295 && old_memory[OLD_AREA + STAMP + 1] == 0);
+    ACCEPTED(move_in());
+    EXPECT(memory[AREA + STAMP + 1] == 0 && memory[AREA + slot_7 + 1] == 0);
+}
+
 static void list_maker(void) {
     static uint32_t working[PRICES], twins[PRICES], buffer[6];
     working[34] = 250;
@@ -364,6 +523,10 @@ int main(void) {
     several_steps();
     all_pages();
     card_calls();
+    large_numbers();
+    moves();
+    refused_moves();
+    high_words();
     list_maker();
     any_words();
     return failed;

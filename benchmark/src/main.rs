@@ -5,6 +5,7 @@ mod measure;
 mod racks;
 mod work;
 
+use bandsawpink_sys::layout::old_memory_words;
 use bandsawpink_sys::rack_make_list;
 use bandsawpink_sys::refusals::ACCEPTED;
 use measure::{in_turn, Time};
@@ -26,8 +27,10 @@ fn main() {
     recoveries();
     lists();
     formattings();
+    moves();
     println!();
-    println!("The second implementation makes several steps one by one, each with its checks.");
+    println!("The second implementation makes several steps one by one, each with its checks. Its list maker has no");
+    println!("directory and its mover has it lent: both columns show the same function.");
     println!();
     println!("One step of a release of {PRICES} prices, the opening spread over its {STEPS} steps, by cards, pages");
     println!("and other open releases:");
@@ -135,6 +138,15 @@ fn list_made(name: &str, labels: impl Iterator<Item = usize>) {
     };
     let [proved, second] = in_turn([&mut proved, &mut second]);
     row(name, &[proved, second, second]);
+}
+
+/// A rack without prices: what the mover copies takes as long, whatever the words.
+fn moves() {
+    for (cards, pages) in SIZES {
+        let (rack, old) = (Rack::new(cards, pages, 0), vec![0; old_memory_words(cards, pages)]);
+        row(&format!("move in, {cards} × {pages}"), &compare(&rack, &MoveIn { old: old.clone() }));
+        row(&format!("move back, {cards} × {pages}"), &compare(&rack, &MoveBack { old }));
+    }
 }
 
 fn formattings() {

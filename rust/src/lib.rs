@@ -5,11 +5,12 @@
 
 mod refusal;
 
-pub use bandsawpink_sys::layout::{LIST_WORDS, PAGE_WORDS};
+pub use bandsawpink_sys::layout::{old_memory_words, LIST_WORDS, PAGE_WORDS};
+pub use bandsawpink_sys::Directory;
 pub use refusal::{Refusal, Stopped};
 
 use bandsawpink_sys::layout::{memory_words, DESK_WORDS, MAX_CARDS, MAX_PAGES};
-use bandsawpink_sys::{self as sys, Answer, DeskAnswer, Directory, RUNNING};
+use bandsawpink_sys::{self as sys, Answer, DeskAnswer, RUNNING};
 
 /// The prices of a page, in cents.
 pub type Page = [u32; PAGE_WORDS];
@@ -41,21 +42,78 @@ fn accepted_desk(answer: DeskAnswer) -> Result<Recovered, Refusal> {
     Refusal::of(answer.number, answer.value).map_or(Ok(found), Err)
 }
 
+/// A memory for a rack of this size.
+fn memory_for(cards: u32, pages: u32) -> Result<Vec<u32>, Refusal> {
+    // A memory of any length would be refused; none is allocated.
+    if cards as usize > MAX_CARDS || pages as usize > MAX_PAGES {
+        return Err(Refusal::Limits);
+    }
+    Ok(vec![0; memory_words(cards, pages)])
+}
+
 // Each call below lends slices that it owns or was lent, with their lengths, a directory of the
 // library's layout, and nothing twice if it is written: what the header asks of a caller.
 impl Rack {
     /// A newly formatted rack: all prices 0, all cards live.
     pub fn format(cards: u32, pages: u32) -> Result<Rack, Refusal> {
-        // A memory of any length would be refused; none is allocated.
-        if cards as usize > MAX_CARDS || pages as usize > MAX_PAGES {
-            return Err(Refusal::Limits);
-        }
-        let words = memory_words(cards, pages);
-        let mut memory = vec![0; words];
+        let mut memory = memory_for(cards, pages)?;
         let mut directory = Directory::EMPTY;
         // SAFETY: see above.
-        accepted(unsafe { sys::rack_format(memory.as_mut_ptr(), words, cards, pages, &mut directory) })?;
+        accepted(unsafe { sys::rack_format(memory.as_mut_ptr(), memory.len(), cards, pages, &mut directory) })?;
         Ok(Rack { memory, directory })
+    }
+
+    /// The rack of a memory in the old form, whose numbers have one word, and of its directory. Refused
+    /// if a recovery is awaited or a release open.
+    ///
+    /// ```
+    /// use bandsawpink::{old_memory_words, Directory, Rack, Refusal};
+    ///
+    /// // as they were stored: a rack of 3 cards and 4 pages, newly formatted
+    /// # let stored = Rack::format(3, 4)?.directory().clone().into_words();
+    /// let old = vec![0; old_memory_words(3, 4)];
+    /// let directory = Directory::from_words(stored);
+    ///
+    /// let mut rack = Rack::from_old(&old, directory)?;
+    /// rack.release(1, 1, &[7; 8], &[0x1000_0001, 0x2002_0001, 250, 0xF000_0003])?;
+    /// assert_eq!(rack.fetch(1)?[2], 250);
+    /// # Ok::<(), Refusal>(())
+    /// ```
+    pub fn from_old(old: &[u32], directory: Directory) -> Result<Rack, Refusal> {
+        let mut memory = memory_for(directory.cards, directory.pages)?;
+        let words = memory.len();
+        // SAFETY: see above.
+        accepted(unsafe { sys::rack_move_in(old.as_ptr(), old.len(), &directory, memory.as_mut_ptr(), words) })?;
+        Ok(Rack { memory, directory })
+    }
+
+    /// The memory in the old form, which goes with the same [directory](Rack::directory). Refused if a
+    /// recovery is awaited, a release open, or a stamp or done mark on a live card above 4294967295.
+    /// After [`from_old`](Rack::from_old) it is the old memory again.
+    ///
+    /// ```
+    /// use bandsawpink::{Rack, Refusal};
+    ///
+    /// let mut rack = Rack::format(3, 4)?;
+    /// rack.open(1, 1, &[7; 8], &[0x1000_0001, 0x2002_0001, 250, 0xF000_0003])?;
+    /// assert_eq!(rack.to_old(), Err(Refusal::JoinWhileOpen));
+    ///
+    /// rack.steps(1, 15)?;
+    /// let old = rack.to_old()?;
+    /// assert_eq!(Rack::from_old(&old, rack.directory().clone())?, rack);
+    /// # Ok::<(), Refusal>(())
+    /// ```
+    pub fn to_old(&self) -> Result<Vec<u32>, Refusal> {
+        let mut old = vec![0; old_memory_words(self.cards(), self.pages())];
+        let (memory, words, old_words) = (self.memory.as_ptr(), self.memory.len(), old.len());
+        // SAFETY: see above.
+        accepted(unsafe { sys::rack_move_back(memory, words, &self.directory, old.as_mut_ptr(), old_words) })
+            .map(|_| old)
+    }
+
+    /// Which cards are live, where the pages live, and whether a recovery is awaited.
+    pub fn directory(&self) -> &Directory {
+        &self.directory
     }
 
     pub fn cards(&self) -> u32 {
@@ -82,7 +140,7 @@ impl Rack {
     }
 
     /// Opens a release on a card. Its number is the one after the card's last.
-    pub fn open(&mut self, card: u32, number: u32, desk: &Desk, list: &[u32]) -> Result<(), Refusal> {
+    pub fn open(&mut self, card: u32, number: u64, desk: &Desk, list: &[u32]) -> Result<(), Refusal> {
         let words = self.memory.len();
         // SAFETY: see above.
         accepted(unsafe {
@@ -110,7 +168,7 @@ impl Rack {
     }
 
     /// Opens a release and makes its steps to the close; gives their number.
-    pub fn release(&mut self, card: u32, number: u32, desk: &Desk, list: &[u32]) -> Result<u32, Refusal> {
+    pub fn release(&mut self, card: u32, number: u64, desk: &Desk, list: &[u32]) -> Result<u32, Refusal> {
         self.open(card, number, desk, list)?;
         match self.steps(card, u32::MAX) {
             Ok(made) => Ok(made),

@@ -32,11 +32,14 @@ pub enum Refusal {
     NoneAwaited,
     TwoLive,
     CardLive,
+    /// A join, or a move to or from the old form, while a release is open.
     JoinWhileOpen,
     /// A step with no release open.
     NoneOpen,
     /// A buffer of the wrong length, or a list over 512 words.
     WrongBuffer,
+    /// A stamp or a done mark on a live card is above 4294967295, for which the old form has no room.
+    NumberTooHigh,
 }
 
 impl Refusal {
@@ -61,6 +64,7 @@ impl Refusal {
             refusals::JOIN_WHILE_OPEN => Refusal::JoinWhileOpen,
             refusals::NONE_OPEN => Refusal::NoneOpen,
             refusals::WRONG_BUFFER => Refusal::WrongBuffer,
+            refusals::NUMBER_TOO_HIGH => Refusal::NumberTooHigh,
             _ => unreachable!("no call answers the number {number}"),
         })
     }
@@ -85,6 +89,7 @@ impl Refusal {
             Refusal::JoinWhileOpen => refusals::JOIN_WHILE_OPEN,
             Refusal::NoneOpen => refusals::NONE_OPEN,
             Refusal::WrongBuffer => refusals::WRONG_BUFFER,
+            Refusal::NumberTooHigh => refusals::NUMBER_TOO_HIGH,
         }
     }
 
@@ -124,10 +129,15 @@ impl fmt::Display for Refusal {
             Refusal::NoneAwaited => write!(f, "no recovery is awaited"),
             Refusal::TwoLive => write!(f, "only two cards are live: none may fail"),
             Refusal::CardLive => write!(f, "the card is live already"),
-            Refusal::JoinWhileOpen => write!(f, "no card joins while a release is open"),
+            Refusal::JoinWhileOpen => {
+                write!(f, "no card joins, and no memory is moved, while a release is open")
+            }
             Refusal::NoneOpen => write!(f, "no release is open on the card"),
             Refusal::WrongBuffer => {
                 write!(f, "the buffer does not fit, or the list is over 512 words")
+            }
+            Refusal::NumberTooHigh => {
+                write!(f, "a stamp or done mark is above 4294967295: the old form has no room for it")
             }
         }
     }
@@ -165,7 +175,7 @@ mod tests {
     fn each_has_its_number_its_place_and_a_sentence_of_its_own() {
         assert_eq!(Refusal::of(0, 41), None);
         let mut sentences = HashSet::new();
-        for number in 1..=17 {
+        for number in (1..=17).chain([20]) {
             let refusal = Refusal::of(number, 41).expect("any number but 0 is a refusal");
             let names_a_place = matches!(number, 5 | 7 | 8 | 10);
             assert_eq!(refusal.number(), number);

@@ -1,7 +1,7 @@
 //! Each call through the static library: what is accepted, each refusal with its place, and that a
 //! refusal changes nothing.
 
-use bandsawpink::{make_list, Desk, Page, Rack, Recovered, Refusal, Stopped};
+use bandsawpink::{make_list, old_memory_words, Desk, Directory, Page, Rack, Recovered, Refusal, Stopped};
 
 const DESK: Desk = [1, 2, 3, 4, 5, 6, 7, 8];
 const LIST: [u32; 5] = [0x1000_0001, 0x2002_0002, 250, 199, 0xF000_0004];
@@ -154,9 +154,122 @@ fn refusals_of_the_rack() {
     assert_eq!(refused(&mut rack, |r| r.join(1)), Refusal::JoinWhileOpen);
 }
 
+/// Where the old form of a rack of 4 pages has the area of a card.
+fn old_area(card: usize) -> usize {
+    card * old_memory_words(1, 4)
+}
+
+/// Where the old form has the record of card 1 on card 2, its backup: stamp, done mark, two desks.
+fn old_record() -> usize {
+    old_area(2) + 20 + 18
+}
+
+/// A rack on which card 1 has this last number, made in the old form, whose words can be set.
+fn with_last(last: u32) -> Rack {
+    let rack = rack();
+    let mut old = rack.to_old().unwrap();
+    for at in [old_area(1), old_record(), old_record() + 1] {
+        old[at] = last;
+    }
+    Rack::from_old(&old, rack.directory().clone()).unwrap()
+}
+
+#[test]
+fn a_number_of_two_words() {
+    let mut rack = with_last(4_294_967_295);
+    let used = |stamp| Refusal::NumberUsed { stamp };
+    assert_eq!(refused(&mut rack, |r| r.open(1, 7, &DESK, &LIST)), used(4_294_967_295));
+    assert_eq!(refused(&mut rack, |r| r.open(1, 4_294_967_295, &DESK, &LIST)), used(4_294_967_295));
+    assert_eq!(refused(&mut rack, |r| r.open(1, 4_294_967_297, &DESK, &LIST)), Refusal::NumberAhead);
+    assert_eq!(refused(&mut rack, |r| r.open(1, u64::MAX, &DESK, &LIST)), Refusal::NumberAhead);
+    assert_eq!(rack.release(1, 4_294_967_296, &DESK, &LIST), Ok(19));
+    assert_eq!(refused(&mut rack, |r| r.open(1, 4_294_967_296, &DESK, &LIST)), used(4_294_967_296));
+    assert_eq!(refused(&mut rack, |r| r.to_old()), Refusal::NumberTooHigh);
+    assert_eq!(rack.release(1, 4_294_967_297, &DESK, &LIST), Ok(19));
+}
+
+#[test]
+fn a_card_fails_between_numbers_of_one_word_and_two() {
+    let rows = [
+        (12, Recovered { stamp: 4_294_967_295, desk: [0; 8] }, None),
+        (13, Recovered { stamp: 4_294_967_296, desk: DESK }, Some(Refusal::NumberTooHigh)),
+    ];
+    for (steps, found, refusal) in rows {
+        let mut rack = with_last(4_294_967_295);
+        rack.open(1, 4_294_967_296, &DESK, &LIST).unwrap();
+        rack.steps(1, steps).unwrap();
+        rack.fail(1).unwrap();
+        assert_eq!(rack.recover(), Ok(found));
+        assert_eq!(rack.to_old().err(), refusal);
+        rack.join(1).unwrap();
+        assert_eq!(rack.release(1, found.stamp + 1, &DESK, &LIST), Ok(19));
+    }
+}
+
+/// The old form of a rack on which card 1 released 250 and 199, with a desk of sevens.
+fn old_released() -> Vec<u32> {
+    let mut old = vec![0; old_memory_words(3, 4)];
+    let (own, record) = (old_area(1), old_record());
+    old[own] = 1;
+    old[own + 1..own + 9].fill(7);
+    old[record..record + 2].fill(1);
+    old[record + 10..record + 18].fill(7); // the odd desk
+    for copy in [old_area(1), old_area(1) + 32, old_area(2), old_area(2) + 32] {
+        let page_1 = copy + 676 + 64;
+        old[page_1 + 2..page_1 + 4].copy_from_slice(&[250, 199]);
+    }
+    old
+}
+
+#[test]
+fn an_old_memory_moves_in_and_back() {
+    let mut rack = rack();
+    rack.release(1, 1, &[7; 8], &LIST).unwrap();
+    let old = old_released();
+    assert_eq!(old.len(), 2796);
+    let moved = Rack::from_old(&old, rack.directory().clone()).unwrap();
+    assert!(moved == rack);
+    assert!(moved.to_old() == Ok(old));
+    assert_eq!(moved.fetch(1), Ok(page_1()));
+}
+
+#[test]
+fn refusals_of_a_move_in() {
+    let directory = rack().directory().clone();
+    let moved = |words: &[u32], directory: &Directory| Rack::from_old(words, directory.clone()).err();
+    let mut old = old_released();
+    assert_eq!(moved(&old[1..], &directory), Some(Refusal::Limits));
+    old.push(0);
+    assert_eq!(moved(&old, &directory), Some(Refusal::Limits));
+    old.pop();
+    for (cards, pages) in [(2, 4), (9, 4), (3, 0), (3, 65), (u32::MAX, u32::MAX), (4, 4)] {
+        let other = Directory { cards, pages, ..directory.clone() };
+        assert_eq!(moved(&old, &other), Some(Refusal::Limits));
+    }
+    let mut failed = rack();
+    failed.fail(1).unwrap();
+    assert_eq!(moved(&old, failed.directory()), Some(Refusal::RecoveryAwaited));
+    let (open, list) = (old_area(0) + 9, old_area(0) + 164);
+    (old[open], old[list]) = (1, 0xF000_0000);
+    assert_eq!(moved(&old, &directory), Some(Refusal::JoinWhileOpen));
+    old[open] = 2;
+    assert_eq!(moved(&old, &directory), Some(Refusal::Unfit));
+}
+
+#[test]
+fn refusals_of_a_move_back() {
+    let mut rack = opened(13);
+    assert_eq!(refused(&mut rack, |r| r.to_old()), Refusal::JoinWhileOpen);
+    rack.fail(1).unwrap();
+    assert_eq!(refused(&mut rack, |r| r.to_old()), Refusal::RecoveryAwaited);
+    rack.recover().unwrap();
+    assert!(rack.to_old().is_ok());
+}
+
 #[test]
 fn a_refusal_has_a_number_a_place_and_a_sentence() {
     let refusal = Refusal::NumberUsed { stamp: 7 };
     assert_eq!((refusal.number(), refusal.place()), (5, 7));
     assert_eq!(refusal.to_string(), "the release's number is used: the card's last is 7");
+    assert_eq!((Refusal::NumberTooHigh.number(), Refusal::NumberTooHigh.place()), (20, 0));
 }

@@ -3,15 +3,15 @@ use Rattle.laws.proofs.Prelude.{ℕ, _+_, _*_, _<_, _≤_, _≡_, refl, sym, ap
 use mathlib.Core.List.{append-assoc}
 use native.Mathlib.Nat.{mul-le-mul, mul-suc}
 use Rattle.memory.proofs.Index.{area-in}
-use Rattle.area.specs.Prelude.{AreaIn, load, loadRun, deskSize, recordCount, listSize, pageSize, storedPageSize}
+use Rattle.area.specs.Prelude.{load, loadRun, deskSize, recordCount, listSize, storedPageSize}
 use Rattle.area.proofs.Prelude.{getD-load-run, length-load-run, load-run-is}
-use Rattle.mover.specs.Forms.{newForm, areaSizeIn, recordSizeIn, recordDoneIn, ownDeskIn, openFlagIn, stepsMadeIn}
-use Rattle.mover.specs.Forms.{releaseNumberIn, releaseDeskIn, recordDesksIn, listStartIn, pageIn}
+use Rattle.mover.specs.Forms.{newForm, areaSizeIn, recordSizeIn, recordDoneIn, ownDeskIn}
+use Rattle.mover.specs.Forms.{releaseDeskIn, recordDesksIn, listStartIn, pageIn}
 use Rattle.mover.specs.Fields.{Field, number, words, areaFields, rackFields, fieldsSize, moved}
 use Rattle.mover.specs.Areas.{SameArea, HighWordsOf}
-use Rattle.mover.proofs.FieldWords.{size-append, area-fields, rack-fields, length-moved}
+use Rattle.mover.proofs.FieldWords.{size-append, rack-fields, length-moved}
 use Rattle.mover.proofs.Reading.{number-at, word-at, high-at}
-use Rattle.mover.proofs.Parts.{head, tail, ahead, rest, record-split, record-place, tail-split}
+use Rattle.mover.proofs.Parts.{ahead, rest, record-split, record-place, lists-split}
 
 module _ (from to cards pages : ℕ) (ws : List ℕ) (some : 1 ≤ to) (long : length ws ≡ cards * areaSizeIn from pages)
     (c : ℕ) (real : c < cards) where
@@ -73,10 +73,10 @@ module _ (from to cards pages : ℕ) (ws : List ℕ) (some : 1 ≤ to) (long : l
   desks-place form k = omega (arith, size-append form (ahead k) (number ∷ number ∷ []), record-place form k)
 
   -- words of the list and the pages
-  tail-word : (j : ℕ) → j < listSize + storedPageSize * pages → (o o′ : ℕ) → o ≡ listStartIn to + j
+  list-word : (j : ℕ) → j < listSize + storedPageSize * pages → (o o′ : ℕ) → o ≡ listStartIn to + j
       → o′ ≡ listStartIn from + j → load (areaSizeIn to pages) target c o ≡ load (areaSizeIn from pages) ws c o′
-  tail-word j within o o′ there here =
-      word-in (ahead recordCount) (listSize + storedPageSize * pages) [] (tail-split pages) j within o o′
+  list-word j within o o′ there here =
+      word-in (ahead recordCount) (listSize + storedPageSize * pages) [] (lists-split pages) j within o o′
       (omega (arith, there, record-place to recordCount)) (omega (arith, here, record-place from recordCount))
 
   -- ---- all of it
@@ -113,11 +113,11 @@ module _ (from to cards pages : ℕ) (ws : List ℕ) (some : 1 ≤ to) (long : l
             word-in (ahead k ++ number ∷ number ∷ []) (2 * deskSize) _ (desks-split k few) j within _ _
             (ap (λ i. i + j) (desks-place to k)) (ap (λ i. i + j) (desks-place from k)));
         list = run-at (listStartIn to) (listStartIn from) listSize (omega arith) (omega arith)
-            (λ j within. tail-word j (omega arith) _ _ refl refl);
+            (λ j within. list-word j (omega arith) _ _ refl refl);
         page = λ p few.
             run-at (pageIn to p) (pageIn from p) storedPageSize (omega arith) (omega arith)
             (λ j within.
-            tail-word (listSize + storedPageSize * p + j) (omega arith) _ _ (omega arith) (omega arith));
+            list-word (listSize + storedPageSize * p + j) (omega arith) _ _ (omega arith) (omega arith));
       }
 
 -- "Going in, every high word is 0"

@@ -1,5 +1,5 @@
 -- Moves one after the other are one move of the fields of both.
-use Rattle.laws.proofs.Prelude.{ℕ, zero, suc, _+_, _*_, _<_, _≤_, _≡_, refl, sym, ap, _∙_, List, [], _∷_, _++_, arith}
+use Rattle.laws.proofs.Prelude.{ℕ, zero, suc, _+_, _<_, _≤_, _≡_, refl, sym, ap, _∙_, List, [], _∷_, _++_, arith}
 use Rattle.laws.proofs.Prelude.{length, getD, take, drop, _-_}
 use native.Mathlib.Nat.{add-zero}
 use mathlib.Core.List.{append-nil}
@@ -60,6 +60,55 @@ module _ (forms : Forms) (fs gs : List Field) (at : Cursor) where
         drop-drop (fieldsSize (forms .from) fs) (at .from) source,
       )
 
+pub first-fits : (forms : Forms) (at : Cursor) (source target : ℕ) (fs gs : List Field)
+    → Room forms (fs ++ gs) at source target → Room forms fs at source target
+first-fits forms at source target fs gs room =
+    let sizes = size-append (forms .from) fs gs in
+    let sizes-2 = size-append (forms .to) fs gs in
+    (omega (arith, room .0), omega (arith, room .1))
+
+-- two moves, one after the other
+module _ (forms : Forms) (at : Cursor) (source target₀ : List ℕ) (fs gs : List Field) {at′ : Cursor} {target : List ℕ}
+    (room : Room forms (fs ++ gs) at (length source) (length target₀)) (first : at′ ≡ after forms fs at)
+    (made : target ≡ stored forms fs at source target₀) where
+  pub second-fits : Room forms gs at′ (length source) (length target)
+  second-fits =
+      let sizes = size-append (forms .from) fs gs in
+      let sizes-2 = size-append (forms .to) fs gs in
+      rw (first, made) (omega (arith, room .0), simp length-sets (omega (arith, room .1)))
+
+  pub both-moved : 1 ≤ forms .to → {at″ : Cursor} {target′ : List ℕ} → at″ ≡ after forms gs at′ → target′ ≡ stored forms gs at′ source target
+      → (at″ ≡ after forms (fs ++ gs) at) × (target′ ≡ stored forms (fs ++ gs) at source target₀)
+  both-moved some second next =
+      let sizes = size-append (forms .from) fs gs in (
+        second ∙ ap (after forms gs) first ∙ after-then forms fs gs at,
+        next ∙ (rw (first, made) (stored-then forms fs gs at source target₀ some (omega (arith, room .0)))),
+      )
+
+-- so many turns and one more fit, where more do
+turn-room : (forms : Forms) (start : Cursor) (source target n k : ℕ) (fs : List Field) → k < n
+    → Room forms (repeated n fs) start source target → Room forms (repeated k fs ++ fs) start source target
+turn-room forms start source target n k fs more room =
+    let split : n ≡ k + suc (n - suc k) = omega arith in
+    let whole = repeated k fs ++ (fs ++ repeated (n - suc k) fs) in
+    let room′ : Room forms whole start source target
+    = rw (← repeated-split (n - suc k) k fs, ← split) room in (
+      omega (
+        arith,
+        room′ .0,
+        size-append (forms .from) (repeated k fs) (fs ++ repeated (n - suc k) fs),
+        size-append (forms .from) fs (repeated (n - suc k) fs),
+        size-append (forms .from) (repeated k fs) fs,
+      ),
+      omega (
+        arith,
+        room′ .1,
+        size-append (forms .to) (repeated k fs) (fs ++ repeated (n - suc k) fs),
+        size-append (forms .to) fs (repeated (n - suc k) fs),
+        size-append (forms .to) (repeated k fs) fs,
+      ),
+    )
+
 -- ---- how far a move has come: these fields are moved, from the start on
 
 module _ (forms : Forms) (start : Cursor) (source target₀ : List ℕ) where
@@ -72,32 +121,6 @@ module _ (forms : Forms) (start : Cursor) (source target₀ : List ℕ) where
   moved-none = record { cursor = rw (add-zero, add-zero); words = refl }
 
 module _ {forms : Forms} {start : Cursor} {source target₀ : List ℕ} where
-  -- the fields behind the cursor fit, where all do
-  pub fields-fit : (fs gs hs : List Field) → Room forms (fs ++ (gs ++ hs)) start (length source) (length target₀)
-      → {at : Cursor} {target : List ℕ} → Moved forms start source target₀ fs at target → Room forms gs at (length source) (length target)
-  fields-fit fs gs hs room so-far =
-      let sizes = size-append (forms .from) fs (gs ++ hs) in
-      let sizes-2 = size-append (forms .to) fs (gs ++ hs) in
-      let more = size-append (forms .from) gs hs in
-      let more-2 = size-append (forms .to) gs hs in
-      rw (so-far .cursor, so-far .words)
-      (omega (arith, room .0), simp length-sets (omega (arith, room .1)))
-
-  -- and are moved next
-  pub moved-next : 1 ≤ forms .to → (fs gs hs : List Field)
-      → Room forms (fs ++ (gs ++ hs)) start (length source) (length target₀)
-      → {at at′ : Cursor} {target target′ : List ℕ} → Moved forms start source target₀ fs at target
-      → at′ ≡ after forms gs at
-      → target′ ≡ stored forms gs at source target → Moved forms start source target₀ (fs ++ gs) at′ target′
-  moved-next some fs gs hs room so-far further next =
-      let sizes = size-append (forms .from) fs (gs ++ hs) in
-      record {
-        cursor = further ∙ ap (after forms gs) (so-far .cursor) ∙ after-then forms fs gs start;
-        words = next
-            ∙ (rw (so-far .cursor, so-far .words)
-            (stored-then forms fs gs start source target₀ some (omega (arith, room .0))));
-      }
-
   pub moved-length : {fs : List Field} {at : Cursor} {target : List ℕ} → Moved forms start source target₀ fs at target
       → length target ≡ length target₀
   moved-length so-far = rw (so-far .words, length-sets)
@@ -109,9 +132,8 @@ module _ {forms : Forms} {start : Cursor} {source target₀ : List ℕ} where
       → {at : Cursor} {target : List ℕ} → Moved forms start source target₀ (repeated k fs) at target
       → Room forms fs at (length source) (length target)
   turn-fits n k fs more room so-far =
-      let split : n ≡ k + suc (n - suc k) = omega arith in
-      fields-fit (repeated k fs) fs (repeated (n - suc k) fs)
-      (rw (← repeated-split (n - suc k) k fs, ← split) room) so-far
+      second-fits forms start source target₀ (repeated k fs) fs
+      (turn-room forms start (length source) (length target₀) n k fs more room) (so-far .cursor) (so-far .words)
 
   pub moved-turn : 1 ≤ forms .to → (n k : ℕ) (fs : List Field) → k < n
       → Room forms (repeated n fs) start (length source) (length target₀)
@@ -120,10 +142,11 @@ module _ {forms : Forms} {start : Cursor} {source target₀ : List ℕ} where
       → target′ ≡ stored forms fs at source target
       → Moved forms start source target₀ (repeated (suc k) fs) at′ target′
   moved-turn some n k fs more room so-far further next =
-      let split : n ≡ k + suc (n - suc k) = omega arith in
-      rw (repeated-more k fs)
-      (moved-next some (repeated k fs) fs (repeated (n - suc k) fs)
-      (rw (← repeated-split (n - suc k) k fs, ← split) room) so-far further next)
+      let both =
+      both-moved forms start source target₀ (repeated k fs) fs
+      (turn-room forms start (length source) (length target₀) n k fs more room) (so-far .cursor) (so-far .words) some
+      further next in
+      rw (repeated-more k fs) (record { cursor = both .0; words = both .1 })
 
 -- ---- a memory moved whole
 

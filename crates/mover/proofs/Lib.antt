@@ -9,5 +9,7 @@ pub mod Areas
 pub mod Back
 pub mod MovedIn
 pub mod Saying
+pub mod Answering
+pub mod Returned
 pub mod Theorems
 pub mod Examples

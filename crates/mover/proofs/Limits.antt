@@ -33,8 +33,7 @@ module _ (h : Header) (old new : ℕ) (inside : outsideLimitsOf old new (h .card
 
   pub new-source : MemoryBy (placesIn newForm (h .pages)) h new
   new-source =
-      let within = new-within old new (h .cards) (h .pages) inside in
-      (
+      let within = new-within old new (h .cards) (h .pages) inside in (
         within .cards-most,
         within .pages-most,
         new-length old new (h .cards) (h .pages) inside,

@@ -1,13 +1,13 @@
 -- An accepted move in: what it has passed, and that its memory passes the same checks in the new form.
-use Rattle.laws.proofs.Prelude.{ℕ, _+_, _*_, _<_, _≡_, refl, sym, ap, _∙_, List, [], Bool, true, false, arith, length}
+use Rattle.laws.proofs.Prelude.{ℕ, _*_, _<_, _≡_, refl, sym, ap, _∙_, List, [], true, false, arith, length}
 use Rattle.laws.proofs.Bools.{neither}
 use Rattle.laws.specs.Search.{someBelow}
 use Rattle.laws.proofs.Search.{some-agree}
 use Rattle.answer.specs.Outcome.{given}
 use Rattle.directory.specs.declared.Directory.{Directory}
-use Rattle.area.specs.Prelude.{openList, stepsOf, isOpen, areaSize}
+use Rattle.area.specs.Prelude.{openList, stepsOf, isOpen}
 use Rattle.protocol.specs.Release.{sizeOf}
-use Rattle.protocol.specs.Checks.{outsideLimits, badCard, unfitRack, awaitsRecovery, badCardAt, unfitBy}
+use Rattle.protocol.specs.Checks.{outsideLimits, badCard, unfitRack, badCardAt, unfitBy}
 use Rattle.protocol.specs.Result.{accepted}
 use Rattle.protocol.proofs.checks.Outcome.{Passed}
 use Rattle.protocol.proofs.checks.ByCall.{Runs, runs-by}
@@ -15,7 +15,7 @@ use Rattle.rack.proofs.Results.{resultIs}
 use Rattle.mover.specs.Forms.{oldForm, newForm, areaSizeIn, placesIn}
 use Rattle.mover.specs.Fields.{rackFields}
 use Rattle.mover.specs.Areas.{SameArea, HighWordsOf}
-use Rattle.mover.specs.Move.{outsideLimitsOf, openAt, movedIn, moveInChecks, moveIn}
+use Rattle.mover.specs.Move.{openAt, movedIn, moveInChecks, moveIn}
 use Rattle.mover.proofs.FieldWords.{rack-fields, length-moved}
 use Rattle.mover.proofs.Limits.{old-length, new-length}
 use Rattle.mover.proofs.Results.{accepted-move}

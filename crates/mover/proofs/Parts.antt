@@ -1,45 +1,42 @@
 -- The parts of an area by its fields: each part, and where it starts in a form.
-use Rattle.laws.proofs.Prelude.{ℕ, suc, _+_, _-_, _*_, _<_, _≡_, refl, sym, ap, _∙_, List, [], _∷_, _++_, arith}
+use Rattle.laws.proofs.Prelude.{ℕ, suc, _+_, _-_, _*_, _<_, _≡_, refl, ap, _∙_, List, [], _∷_, _++_, arith}
 use mathlib.Core.List.{append-assoc}
 use native.Mathlib.Nat.{mul-comm}
 use Rattle.area.specs.Prelude.{deskSize, recordCount, listSize, storedPageSize}
-use Rattle.mover.specs.Forms.{recordIn, listStartIn, recordSizeIn}
-use Rattle.mover.specs.Fields.{Field, number, words, repeated, recordFields, areaFields, fieldsSize}
+use Rattle.mover.specs.Forms.{recordIn, recordSizeIn}
+use Rattle.mover.specs.Fields.{Field, number, words, repeated, recordFields, headFields, areaFields}
+use Rattle.mover.specs.Fields.{fieldsSize}
 use Rattle.mover.proofs.FieldWords.{size-append, size-repeated, repeated-split}
 
--- all before the records
-abbrev pub head : List Field
-head = number ∷ words (deskSize + 2) ∷ number ∷ words deskSize ∷ []
-
 -- list and pages
-abbrev pub tail : ℕ → List Field
-tail pages = words (listSize + storedPageSize * pages) ∷ []
+abbrev pub lists : ℕ → List Field
+lists pages = words (listSize + storedPageSize * pages) ∷ []
 
 -- all before the record of card k, and all behind it
 abbrev pub ahead : ℕ → List Field
-ahead k = head ++ repeated k recordFields
+ahead k = headFields ++ repeated k recordFields
 
 abbrev pub rest : ℕ → ℕ → List Field
-rest pages k = repeated (recordCount - suc k) recordFields ++ tail pages
+rest pages k = repeated (recordCount - suc k) recordFields ++ lists pages
 
 pub record-split : (pages k : ℕ) → k < recordCount
     → areaFields pages ≡ ahead k ++ (number ∷ number ∷ words (2 * deskSize) ∷ rest pages k)
 record-split pages k few =
     let count : recordCount ≡ k + suc (recordCount - suc k) = omega arith in
-    ap (λ n. head ++ (repeated n recordFields ++ tail pages)) count
-    ∙ ap (λ fs. head ++ (fs ++ tail pages)) (repeated-split (recordCount - suc k) k recordFields)
-    ∙ ap (λ fs. head ++ fs)
-    (append-assoc (repeated k recordFields) (recordFields ++ repeated (recordCount - suc k) recordFields) (tail pages))
+    ap (λ n. headFields ++ (repeated n recordFields ++ lists pages)) count
+    ∙ ap (λ fs. headFields ++ (fs ++ lists pages)) (repeated-split (recordCount - suc k) k recordFields)
+    ∙ ap (λ fs. headFields ++ fs)
+    (append-assoc (repeated k recordFields) (recordFields ++ repeated (recordCount - suc k) recordFields) (lists pages))
 
 pub record-place : (form k : ℕ) → fieldsSize form (ahead k) ≡ recordIn form k
 record-place form k =
     let turns : k * (form + (form + (2 * deskSize + 0))) ≡ recordSizeIn form * k =
     mul-comm k (form + (form + (2 * deskSize + 0)))
     ∙ ap (λ n. n * k) (the-size form) in
-    omega (arith, size-append form head (repeated k recordFields), size-repeated form k recordFields, turns)
+    omega (arith, size-append form headFields (repeated k recordFields), size-repeated form k recordFields, turns)
   where
     the-size : (form : ℕ) → form + (form + (2 * deskSize + 0)) ≡ recordSizeIn form
     the-size form = omega arith
 
-pub tail-split : (pages : ℕ) → areaFields pages ≡ ahead recordCount ++ tail pages
-tail-split pages = refl
+pub lists-split : (pages : ℕ) → areaFields pages ≡ ahead recordCount ++ lists pages
+lists-split pages = refl

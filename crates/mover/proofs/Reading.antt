@@ -1,8 +1,8 @@
 -- Words of a memory that was moved: each stands where its form says, and is what the source had there.
-use Rattle.laws.proofs.Prelude.{ℕ, suc, _+_, _-_, _*_, _<_, _≤_, _≡_, refl, sym, ap, _∙_, List, [], _∷_, _++_, arith}
+use Rattle.laws.proofs.Prelude.{ℕ, suc, _+_, _-_, _*_, _<_, _≤_, _≡_, sym, ap, _∙_, List, _∷_, _++_, arith}
 use Rattle.laws.proofs.Prelude.{length, getD, take, drop}
 use mathlib.Core.List.{append-assoc}
-use native.Mathlib.Nat.{add-zero, add-assoc, mul-le-mul}
+use native.Mathlib.Nat.{add-zero, mul-le-mul}
 use lib.ListN.{length-drop, List·getD-append}
 use lib.Seq.{getD-drop, getD-take, length-take-le}
 use Rattle.laws.proofs.Lists.{getD-right}

@@ -17,14 +17,16 @@ repeated (suc n) fs = fs ++ repeated n fs
 abbrev pub recordFields : List Field
 recordFields = number ∷ number ∷ words (2 * deskSize) ∷ []
 
+-- own stamp; own desk, release open, steps made; the open release's number; its desk
+abbrev pub headFields : List Field
+headFields = number ∷ words (deskSize + 2) ∷ number ∷ words deskSize ∷ []
+
+-- the records of eight cards; list and pages
+abbrev pub tailFields : ℕ → List Field
+tailFields pages = repeated recordCount recordFields ++ words (listSize + storedPageSize * pages) ∷ []
+
 abbrev pub areaFields : ℕ → List Field
-areaFields pages =
-    -- own stamp; own desk, release open, steps made
-    number ∷ words (deskSize + 2)
-    -- the open release's number; its desk
-    ∷ number ∷ words deskSize
-    -- the records of eight cards; list and pages
-    ∷ (repeated recordCount recordFields ++ words (listSize + storedPageSize * pages) ∷ [])
+areaFields pages = headFields ++ tailFields pages
 
 abbrev pub rackFields : ℕ → ℕ → List Field
 rackFields cards pages = repeated cards (areaFields pages)

@@ -35,10 +35,11 @@ outsideLimitsOf oldWords newWords cards pages =
 abbrev pub openAt : Places → List Bool → List ℕ → ℕ → Bool
 openAt at marks m c = liveAt marks c && eqb (load (at .size) m c (at .flag)) 1
 
--- 2, 11 and 15, read in the source, which has these places
-abbrev pub sourceChecks : Places → Directory → List ℕ → List Check
-sourceChecks at d source =
-    check (unfitBy d (badCardAt at (d .live) (d .pages) source)) unfit
+-- 1, 2, 11 and 15, the last three read in the source, which has these places
+abbrev pub moveChecks : Places → Directory → ℕ → ℕ → List ℕ → List Check
+moveChecks at d oldWords newWords source =
+    check (outsideLimitsOf oldWords newWords (d .cards) (d .pages)) limits
+    ∷ check (unfitBy d (badCardAt at (d .live) (d .pages) source)) unfit
     ∷ check (awaitsRecovery (d .status)) recoveryAwaited
     ∷ check (someBelow (openAt at (d .live) source) (d .cards)) joinWhileOpen
     ∷ []
@@ -66,9 +67,7 @@ tooHigh d m = someBelow (highCard (d .live) (sizeOf d) m) (d .cards)
 -- ---- both ways; `memory` of the result is the other memory
 
 abbrev pub moveInChecks : Directory → List ℕ → List ℕ → List Check
-moveInChecks d old new =
-    check (outsideLimitsOf (length old) (length new) (d .cards) (d .pages)) limits
-    ∷ sourceChecks (placesIn oldForm (d .pages)) d old
+moveInChecks d old new = moveChecks (placesIn oldForm (d .pages)) d (length old) (length new) old
 
 unfoldable pub moveIn : Directory → List ℕ → List ℕ → Result
 moveIn d old new =
@@ -77,8 +76,7 @@ moveIn d old new =
 
 abbrev pub moveBackChecks : Directory → List ℕ → List ℕ → List Check
 moveBackChecks d new old =
-    check (outsideLimitsOf (length old) (length new) (d .cards) (d .pages)) limits
-    ∷ (sourceChecks (placesIn newForm (d .pages)) d new ++ check (tooHigh d new) numberTooHigh ∷ [])
+    moveChecks (placesIn newForm (d .pages)) d (length old) (length new) new ++ check (tooHigh d new) numberTooHigh ∷ []
 
 unfoldable pub moveBack : Directory → List ℕ → List ℕ → Result
 moveBack d new old =

@@ -12,7 +12,7 @@ use Rattle.area.specs.Prelude.{recordDone, recordDesk, recordCount, listStart, 
 use Rattle.area.specs.Prelude.{ownRelease, openRelease, isOpen, recordedRelease, underWay}
 use Rattle.protocol.specs.Release.{sizeOf}
 use Rattle.protocol.specs.Checks.{outsideLimits, unfitRack}
-use Rattle.protocol.specs.Result.{Result, accepted}
+use Rattle.protocol.specs.Result.{accepted}
 use Rattle.protocol.specs.Demand1.{Unchanged}
 use Rattle.protocol.specs.Calls.{fetch, deskQuestion}
 use Rattle.mover.specs.Forms.{oldForm, newForm, ownDeskIn, openFlagIn, stepsMadeIn, releaseNumberIn, releaseDeskIn}

@@ -1,10 +1,10 @@
 // Fields moved from one memory into another: numbers, of which the low word is kept, and words that are
 // the same in each form.
-ghost use Rattle.laws.specs.Prelude.{_≡_, List, [], _∷_, _+_, _-_, _*_, _≤_, length};
+ghost use Rattle.laws.specs.Prelude.{_≡_, [], _∷_, _+_, _-_, _*_, _≤_, length};
 ghost use lib.Seq.{sets};
 ghost use Rattle.area.specs.Prelude.{zeros, recordCount};
-ghost use Rattle.mover.specs.Fields.{number, words, recordFields, areaFields, rackFields};
-ghost use Rattle.mover.specs.Fields.{repeated, fieldsSize, moved};
+ghost use Rattle.mover.specs.Fields.{number, words, repeated, recordFields, headFields};
+ghost use Rattle.mover.specs.Fields.{tailFields, areaFields, rackFields, fieldsSize, moved};
 ghost use Rattle.mover.specs.Moving.{Widths, Room, after, stored};
 use area::layout;
 
@@ -108,8 +108,31 @@ fn move_records(source: &[u32], target: &mut [u32], forms: Forms, start: Cursor)
     at
 }
 
-// Own stamp, own desk, release open, steps made; the open release's number and desk; the records of
-// eight cards; list and pages.
+// Own stamp, own desk, release open, steps made; the open release's number and desk.
+fn move_head(source: &[u32], target: &mut [u32], forms: Forms, at: Cursor) -> Cursor
+    requires { ⌜ Widths forms ⌝ }
+    requires { ⌜ Room forms headFields at (length (now source)) (length (now target)) ⌝ }
+    ensures cursor { λ r. ⌜ r ≡ after forms headFields at ⌝ }
+    ensures words { λ _. ⌜ now (target .exit)
+        ≡ stored forms headFields at (now (source .entry)) (now (target .entry)) ⌝ }
+{
+    let number = move_numbered(source, target, forms, at, layout::DESK_SIZE + 2);
+    move_numbered(source, target, forms, number, layout::DESK_SIZE)
+}
+
+// The records of eight cards; list and pages.
+fn move_tail(source: &[u32], target: &mut [u32], forms: Forms, at: Cursor, pages: u32) -> Cursor
+    requires { ⌜ Widths forms × (pages ≤ 64) ⌝ }
+    requires { ⌜ Room forms (tailFields pages) at (length (now source)) (length (now target)) ⌝ }
+    ensures cursor { λ r. ⌜ r ≡ after forms (tailFields pages) at ⌝ }
+    ensures words { λ _. ⌜ now (target .exit)
+        ≡ stored forms (tailFields pages) at (now (source .entry)) (now (target .entry)) ⌝ }
+{
+    let list = move_records(source, target, forms, at);
+    let rest = layout::LIST_SIZE + layout::STORED_PAGE_SIZE * pages as usize;
+    move_words(source, target, forms, list, rest)
+}
+
 fn move_area(source: &[u32], target: &mut [u32], forms: Forms, at: Cursor, pages: u32) -> Cursor
     requires { ⌜ Widths forms × (pages ≤ 64) ⌝ }
     requires { ⌜ Room forms (areaFields pages) at (length (now source)) (length (now target)) ⌝ }
@@ -117,11 +140,8 @@ fn move_area(source: &[u32], target: &mut [u32], forms: Forms, at: Cursor, pages
     ensures words { λ _. ⌜ now (target .exit)
         ≡ stored forms (areaFields pages) at (now (source .entry)) (now (target .entry)) ⌝ }
 {
-    let number = move_numbered(source, target, forms, at, layout::DESK_SIZE + 2);
-    let records = move_numbered(source, target, forms, number, layout::DESK_SIZE);
-    let list = move_records(source, target, forms, records);
-    let rest = layout::LIST_SIZE + layout::STORED_PAGE_SIZE * pages as usize;
-    move_words(source, target, forms, list, rest)
+    let records = move_head(source, target, forms, at);
+    move_tail(source, target, forms, records, pages)
 }
 
 // The whole memory of a rack, into one of the other form.

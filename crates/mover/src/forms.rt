@@ -11,7 +11,7 @@ pub const NEW: usize = layout::NUMBER_SIZE;
 // What a form tells of a card's area. `area::layout` has the table of the new form; specs/Forms.antt
 // has this one whole.
 pub fn places_in(form: usize, pages: u32) -> Places
-    requires { ⌜ (form ≤ 2) × (pages ≤ 64) ⌝ }
+    requires { ⌜ form ≤ 2 ⌝ }
     ensures { λ r. ⌜ r ≡ placesIn form pages ⌝ }
 {
     let flag = form + layout::DESK_SIZE;

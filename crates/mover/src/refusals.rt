@@ -1,10 +1,10 @@
 // What moves refuse: 1, then 2, 11 and 15 read in the form that is moved from, and on the way back 20.
-ghost use Rattle.laws.specs.Prelude.{_≡_, _<_, length};
+ghost use Rattle.laws.specs.Prelude.{_≡_, _<_, false, length};
 ghost use Rattle.laws.specs.Search.{someBelow};
 ghost use Rattle.directory.specs.Directory.{directoryBy, FullHomes};
 ghost use Rattle.area.specs.Prelude.{AreaIn, MemoryBy};
 ghost use Rattle.protocol.specs.Checks.{firstRefusal};
-ghost use Rattle.mover.specs.Move.{outsideLimitsOf, openAt, sourceChecks, moveInChecks};
+ghost use Rattle.mover.specs.Move.{outsideLimitsOf, openAt, moveChecks, moveInChecks};
 ghost use Rattle.mover.specs.Move.{moveBackChecks};
 use crate::forms;
 use crate::high;
@@ -52,22 +52,29 @@ fn any_open(memory: &[u32], at: Places, header: Header) -> bool
     false
 }
 
-// 2, 11 and 15, of a source that has these places.
-fn source_refusal(
+// 1, 2, 11 and 15; `old` and `new` are the lengths of the two memories, of which the source, with these
+// places, is one.
+fn move_refusal(
     source: &[u32],
     at: Places,
+    old: usize,
+    new: usize,
     header: Header,
     primary: &[u32],
     secondary: &[u32],
 ) -> Outcome
-    requires { ⌜ MemoryBy at header (length (now source)) ⌝ }
     requires { ⌜ FullHomes (now primary) (now secondary) ⌝ }
+    requires { ⌜ (outsideLimitsOf old new (header .cards) (header .pages) ≡ false
+        → MemoryBy at header (length (now source))) ⌝ }
     ensures { λ r. ⌜ r
         ≡ firstRefusal
-        (sourceChecks at (directoryBy header (now (primary .entry)) (now (secondary .entry)))
+        (moveChecks at (directoryBy header (now (primary .entry)) (now (secondary .entry))) old new
         (now (source .entry)))
         0 ⌝ }
 {
+    if outside_limits(old, new, header.cards, header.pages) {
+        return answer::refused_at(answer::LIMITS, 0);
+    }
     if checks::unfit_at(source, at, header, primary, secondary) {
         return answer::refused_at(answer::UNFIT, 0);
     }
@@ -92,13 +99,11 @@ pub fn move_in<'a>(
         (now (old .entry)) (now (new .entry)))
         0 ⌝ }
 {
-    if outside_limits(old.len(), new.len(), header.cards, header.pages) {
-        return answer::refused_at(answer::LIMITS, 0);
-    }
     let at = forms::places_in(forms::OLD, header.pages);
-    source_refusal(old, at, header, primary, secondary)
+    move_refusal(old, at, old.len(), new.len(), header, primary, secondary)
 }
 
+// 20 comes last.
 pub fn move_back<'a>(
     new: &[u32],
     old: &[u32],
@@ -113,11 +118,8 @@ pub fn move_back<'a>(
         (now (new .entry)) (now (old .entry)))
         0 ⌝ }
 {
-    if outside_limits(old.len(), new.len(), header.cards, header.pages) {
-        return answer::refused_at(answer::LIMITS, 0);
-    }
     let at = forms::places_in(forms::NEW, header.pages);
-    let first = source_refusal(new, at, header, primary, secondary);
+    let first = move_refusal(new, at, old.len(), new.len(), header, primary, secondary);
     if first.number != 0 {
         return first;
     }

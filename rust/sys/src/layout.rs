@@ -17,5 +17,15 @@ pub const DIRECTORY_WORDS: usize = 139;
 
 /// The memory of a rack, in words of 32 bits.
 pub const fn memory_words(cards: u32, pages: u32) -> usize {
-    cards as usize * (676 + 2 * PAGE_WORDS * pages as usize)
+    areas_words(cards, pages, 694)
+}
+
+/// The memory of a rack in the old form, whose numbers have one word.
+pub const fn old_memory_words(cards: u32, pages: u32) -> usize {
+    areas_words(cards, pages, 676)
+}
+
+/// An area for each card: words before its pages, and two copies of each page.
+const fn areas_words(cards: u32, pages: u32, before_pages: usize) -> usize {
+    cards as usize * (before_pages + 2 * PAGE_WORDS * pages as usize)
 }

@@ -10,6 +10,7 @@ use std::mem::{offset_of, size_of, transmute};
 /// The awaited card of a rack that awaits none.
 pub const RUNNING: u32 = u32::MAX;
 
+/// Which cards are live, where the pages live, and whether the rack awaits a recovery.
 #[repr(C)]
 #[derive(Clone, Debug, PartialEq, Eq)]
 pub struct Directory {
@@ -100,7 +101,7 @@ extern "C" {
         words: usize,
         directory: *const Directory,
         card: u32,
-        number: u32,
+        number: u64,
         desk: *const [u32; DESK_WORDS],
         list: *const u32,
         list_words: usize,
@@ -132,6 +133,20 @@ extern "C" {
     pub fn rack_recover(memory: *mut u32, words: usize, directory: *mut Directory) -> DeskAnswer;
     pub fn rack_join(memory: *mut u32, words: usize, directory: *mut Directory, card: u32) -> Answer;
     pub fn rack_desk(memory: *const u32, words: usize, directory: *const Directory, card: u32) -> DeskAnswer;
+    pub fn rack_move_in(
+        old_memory: *const u32,
+        old_words: usize,
+        directory: *const Directory,
+        memory: *mut u32,
+        words: usize,
+    ) -> Answer;
+    pub fn rack_move_back(
+        memory: *const u32,
+        words: usize,
+        directory: *const Directory,
+        old_memory: *mut u32,
+        old_words: usize,
+    ) -> Answer;
     pub fn rack_make_list(
         working: *const u32,
         working_words: usize,

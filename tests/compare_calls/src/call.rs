@@ -3,7 +3,7 @@
 use second::layout::{Desk, Number};
 use second::Answer;
 
-/// A call with its arguments. A buffer is given by what stands in it before.
+/// A call with its arguments. A buffer is given by what stands in it before; that of a move back is an old memory.
 #[derive(Clone, Debug)]
 pub enum Call {
     Format { cards: u32, pages: u32 },
@@ -16,12 +16,21 @@ pub enum Call {
     Recover,
     Join { card: u32 },
     AskDesk { card: u32 },
+    MoveIn { old: Vec<u32> },
+    MoveBack { buffer: Vec<u32> },
 }
 
 impl Call {
     /// The memory is lent to be read.
     pub fn keeps_memory(&self) -> bool {
-        matches!(self, Call::Fetch { .. } | Call::FetchAll { .. } | Call::Fail { .. } | Call::AskDesk { .. })
+        matches!(
+            self,
+            Call::Fetch { .. }
+                | Call::FetchAll { .. }
+                | Call::Fail { .. }
+                | Call::AskDesk { .. }
+                | Call::MoveBack { .. }
+        )
     }
 
     /// The directory is lent to be read.
@@ -36,7 +45,7 @@ impl Call {
 }
 
 /// What a call answers: the answer, and beside it a page, a desk, the steps made, all pages with a mark for each that
-/// was shown, or nothing.
+/// was shown, an old memory, or nothing.
 #[derive(Clone, PartialEq, Eq, Debug)]
 pub struct Reply {
     pub answer: Answer,

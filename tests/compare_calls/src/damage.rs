@@ -1,43 +1,58 @@
 //! Single calls on damaged memories and directories: random words anywhere, lists without an end word, steps past the
 //! last, records that no call left, releases that overlap, memories of another length.
 
-use crate::call::Call;
+use crate::call::{Call, Reply};
 use crate::library::words_of;
-use crate::lists;
 use crate::racks::{bounded_pages, Racks};
 use crate::seen::Seen;
+use crate::{lists, numbers};
 use random::Random;
 use second::layout::{
-    area_words, memory_words, number_at, own_stamp, put_number, record_at, EVEN_DESK, LIST, LIST_WORDS, NUMBER, OPEN,
-    OWN_STAMP, PAGES, PAGE_WORDS, RECORD_WORDS, RELEASE, STEPS,
+    area_words, done_mark_at, memory_words, number_at, own_stamp, put_number, record_at, stamp_at, EVEN_DESK, LIST,
+    LIST_WORDS, NUMBER, NUMBER_WORDS, OPEN, OWN_STAMP, PAGES, PAGE_WORDS, RECORD_WORDS, RELEASE, STEPS,
 };
 use second::{Directory, Status};
 
 /// The damaged rack of this number, and a few calls on it.
 pub fn compare(random: &mut Random, at: u64, seen: &mut Seen) -> Result<u64, String> {
-    let (cards, pages) = match at % 40 {
-        0 => (8, 64),
-        1 => (3, 1),
-        2..=5 => (random.within(3, 8), random.within(16, 64)),
-        _ => (random.within(3, 8), random.within(1, 4)),
-    };
+    let (cards, pages) = size(random, at);
     let (memory, directory) = reached(random, cards, pages);
     let (memory, directory) = damaged(random, memory, directory);
     let mut racks = Racks::new(&memory, &words_of(&directory));
     let calls = random.within(1, 6);
     for _ in 0..calls {
-        let mark = random.odd_word();
-        racks.disguise_mark(random.below(8) as usize, mark);
         let call = any_call(random, &racks);
-        seen.count(&racks.call(&call)?);
+        make(random, &mut racks, &call, seen)?;
     }
     Ok(calls.into())
 }
 
+/// Makes a call and counts it; before, a live mark may get another word.
+pub fn make(random: &mut Random, racks: &mut Racks, call: &Call, seen: &mut Seen) -> Result<Reply, String> {
+    let mark = random.odd_word();
+    racks.disguise_mark(random.below(8) as usize, mark);
+    let reply = racks.call(call)?;
+    seen.count(call, &reply);
+    Ok(reply)
+}
+
+/// The cards and pages of the rack of this number.
+pub fn size(random: &mut Random, at: u64) -> (u32, u32) {
+    match at % 40 {
+        0 => (8, 64),
+        1 => (3, 1),
+        2..=5 => (random.within(3, 8), random.within(16, 64)),
+        _ => (random.within(3, 8), random.within(1, 4)),
+    }
+}
+
 /// A rack that calls have led to, with releases open, cards dead or awaited.
-fn reached(random: &mut Random, cards: u32, pages: u32) -> (Vec<u32>, Directory) {
+pub fn reached(random: &mut Random, cards: u32, pages: u32) -> (Vec<u32>, Directory) {
     let mut memory = vec![0; memory_words(cards, pages).expect("within the limits")];
     let (mut directory, _) = second::format_rack(&mut memory, cards, pages);
+    if random.one_in(4) {
+        put_numbers(random, &mut memory, &directory);
+    }
     for _ in 0..random.below(14) {
         let card = random.below(cards);
         let after = match random.below(7) {
@@ -69,15 +84,16 @@ fn with_dead_cards(random: &mut Random, memory: &mut [u32], mut directory: Direc
     directory
 }
 
-fn damaged(random: &mut Random, mut memory: Vec<u32>, mut directory: Directory) -> (Vec<u32>, Directory) {
+pub fn damaged(random: &mut Random, mut memory: Vec<u32>, mut directory: Directory) -> (Vec<u32>, Directory) {
     for _ in 0..random.below(4) {
-        match random.below(10) {
+        match random.below(11) {
             0 => damage_directory(random, &mut directory),
             1 => overlap(random, &mut memory, &directory),
             2 if random.one_in(6) => memory.resize(random.below(6_000) as usize, 1),
             3 | 4 => damage_area(random, &mut memory, &directory),
             5 | 6 => put_release(random, &mut memory, &directory),
             7 | 8 => damage_record(random, &mut memory, &directory),
+            9 => put_numbers(random, &mut memory, &directory),
             _ if memory.is_empty() => {}
             _ => {
                 let at = random.below(memory.len() as u32) as usize;
@@ -90,6 +106,19 @@ fn damaged(random: &mut Random, mut memory: Vec<u32>, mut directory: Directory) 
 
 fn area_of(directory: &Directory) -> usize {
     area_words(bounded_pages(directory))
+}
+
+/// A few numbers at the edges of one word and of two: own stamps, releases' numbers, and stamps and done marks in any of
+/// the eight records, also past the number of cards.
+pub fn put_numbers(random: &mut Random, memory: &mut [u32], directory: &Directory) {
+    for _ in 0..random.within(1, 3) {
+        let (card, record) = (random.below(directory.cards.clamp(1, 8)), random.below(8));
+        let offset = random.of(&[OWN_STAMP, NUMBER, stamp_at(record), done_mark_at(record)]);
+        let at = card as usize * area_of(directory) + offset;
+        if let Some(words) = memory.get_mut(at..at + NUMBER_WORDS) {
+            put_number(words, 0, numbers::at_edge(random));
+        }
+    }
 }
 
 /// A word that the checks look at, that a list is read from, or of a page.
@@ -211,7 +240,7 @@ fn any_call(random: &mut Random, racks: &Racks) -> Call {
 fn opening(random: &mut Random, racks: &Racks, card: u32) -> Call {
     let stamp = racks.stamp(card);
     let number = match random.one_in(4) {
-        true => random.of(&[0, 1, stamp, stamp.wrapping_add(2), u32::MAX]),
+        true => numbers::not_after(random, stamp),
         false => stamp.wrapping_add(1),
     };
     Call::Open { card, number, desk: random.array(), list: any_list(random, &racks.directory) }

@@ -101,8 +101,25 @@ impl Rack {
                 Call::Recover => sys::rack_recover(at, len, d).into(),
                 Call::Join { card } => sys::rack_join(at, len, d, *card).into(),
                 Call::AskDesk { card } => sys::rack_desk(at, len, d, *card).into(),
+                Call::MoveIn { old } => self.move_in(old),
+                Call::MoveBack { buffer } => self.move_back(buffer),
             }
         }
+    }
+
+    fn move_in(&self, old: &[u32]) -> Reply {
+        let old = Guarded::read_only(old, self.memory.flush());
+        let (at, len, d) = (self.memory.first(), self.memory.len(), self.directory.first().cast());
+        // SAFETY: as in `make`.
+        unsafe { sys::rack_move_in(old.first(), old.len(), d, at, len) }.into()
+    }
+
+    fn move_back(&self, buffer: &[u32]) -> Reply {
+        let buffer = Guarded::new(buffer, self.memory.flush());
+        let (at, len, d) = (self.memory.first(), self.memory.len(), self.directory.first().cast());
+        // SAFETY: as in `make`.
+        let given = unsafe { sys::rack_move_back(at, len, d, buffer.first(), buffer.len()) };
+        reply(given.number, given.value, &buffer)
     }
 }
 

@@ -8,6 +8,8 @@ mod damage;
 mod guard;
 mod library;
 mod lists;
+mod moves;
+mod numbers;
 mod play;
 mod racks;
 mod seen;
@@ -53,25 +55,30 @@ fn main() -> ExitCode {
     }
 }
 
-/// Half of the calls in lists on formatted racks, a third on damaged ones, the rest of the list maker; the sweep comes
-/// on top.
+/// Half of the calls in lists on formatted racks, a third on damaged ones, the rest of the list maker; the moves, a
+/// sixth as many, and the sweep come on top.
 fn compare(options: &Options) -> Result<String, String> {
-    let mut seen = Seen::default();
+    let mut seen = Seen::new();
     let mut random = Random::new(options.seed);
     let played = play_all(&mut random, options.calls / 2, &mut seen)?;
-    let damaged = damage_all(&mut random, options.calls / 3, &mut seen)?;
+    let damaged = compare_all(options.calls / 3, |at| {
+        damage::compare(&mut random, at, &mut seen).map_err(|error| format!("damaged rack {at}: {error}"))
+    })?;
+    let moved = compare_all(options.calls / 6, |at| {
+        moves::compare(&mut random, at, &mut seen).map_err(|error| format!("moved rack {at}: {error}"))
+    })?;
     let made = options.calls / 6;
     for _ in 0..made {
         lists::compare_makers(&mut random)?;
     }
-    if let Some(number) = seen.missing() {
-        return Err(format!("no call was refused with {number}"));
+    if let Some((kind, number)) = seen.missing() {
+        return Err(format!("none of the {kind} was answered with {number}"));
     }
     let swept = sweep::compare()?;
     Ok(format!(
-        "{swept} swept and {played} played with the book, {damaged} on damaged racks, {made} lists made, each flush \
-         left and flush right: all equal (seed {})\n\
-         compare_calls: calls by refusal (0: accepted): {seen}",
+        "{swept} swept and {played} played with the book, {damaged} on damaged racks, {moved} moves, {made} lists made, \
+         each flush left and flush right: all equal (seed {})\n\
+         compare_calls: {seen}",
         options.seed
     ))
 }
@@ -101,13 +108,14 @@ fn play_all(random: &mut Random, calls: u64, seen: &mut Seen) -> Result<u64, Str
     Ok(played)
 }
 
-fn damage_all(random: &mut Random, calls: u64, seen: &mut Seen) -> Result<u64, String> {
-    let mut damaged = 0;
+/// Compares racks, by number, that each take some calls, until there are so many calls. Gives how many.
+fn compare_all(calls: u64, mut compare: impl FnMut(u64) -> Result<u64, String>) -> Result<u64, String> {
+    let mut made = 0;
     for at in 0.. {
-        if damaged >= calls {
+        if made >= calls {
             break;
         }
-        damaged += damage::compare(random, at, seen).map_err(|error| format!("damaged rack {at}: {error}"))?;
+        made += compare(at)?;
     }
-    Ok(damaged)
+    Ok(made)
 }

@@ -2,12 +2,12 @@
 //! beside both.
 
 use crate::call::Call;
-use crate::lists;
 use crate::seen::Seen;
 use crate::with_book::WithBook;
+use crate::{lists, numbers};
 use random::Random;
 use second::layout::area_words;
-use second::Status;
+use second::{old_layout, Status};
 
 pub struct Play {
     both: WithBook,
@@ -20,7 +20,10 @@ impl Play {
         let area = area_words(pages);
         let memory = random.words(cards as usize * area);
         let directory = random.array();
-        let both = WithBook::formatted(&memory, &directory, cards, pages)?;
+        let mut both = WithBook::formatted(&memory, &directory, cards, pages)?;
+        if random.one_in(2) {
+            (0..cards).for_each(|card| both.set_last(card, numbers::at_edge(&mut random), random.array()));
+        }
         Ok(Self { both, area, random })
     }
 
@@ -32,18 +35,36 @@ impl Play {
                 self.both.racks.disguise_mark(self.random.below(8) as usize, mark);
             }
             let call = self.choose();
-            let reply = self.both.call(&call).map_err(|error| format!("call {at}: {error}"))?;
-            seen.count(&reply);
+            self.make(&call, seen).map_err(|error| format!("call {at}: {error}"))?;
         }
         Ok(())
+    }
+
+    /// Makes a call. What is moved back moves in again, into a memory of any words, and the play goes on with it.
+    fn make(&mut self, call: &Call, seen: &mut Seen) -> Result<(), String> {
+        let reply = self.both.call(call)?;
+        seen.count(call, &reply);
+        if !matches!(call, Call::MoveBack { .. }) || !reply.accepted() {
+            return Ok(());
+        }
+        let words = self.random.words(self.area * self.both.racks.directory.cards as usize);
+        self.both.racks.change(|memory| memory.copy_from_slice(&words));
+        let call = Call::MoveIn { old: reply.beside };
+        let reply = self.both.call(&call)?;
+        seen.count(&call, &reply);
+        match reply.accepted() {
+            true => Ok(()),
+            false => Err(format!("what was moved back does not move in: {reply:?}")),
+        }
     }
 
     /// "A card's area may hold anything at each call."
     fn scramble(&mut self) {
         for &card in &self.both.offline {
             for _ in 0..self.random.below(4) {
-                let offset = self.random.below(self.area as u32) as usize;
-                self.both.racks.store(card as usize * self.area + offset, self.random.odd_word());
+                let at = card as usize * self.area + self.random.below(self.area as u32) as usize;
+                let word = self.random.odd_word();
+                self.both.racks.change(|memory| memory[at] = word);
             }
         }
     }
@@ -58,7 +79,7 @@ impl Play {
             true => self.random.odd_word(),
             false => self.random.below(directory.cards),
         };
-        match self.random.below(40) {
+        match self.random.below(42) {
             0..=7 => self.opening(card),
             8..=24 => Call::Step { card },
             25..=27 => Call::Steps { card, count: self.random.of(&[0, 1, 2, 7, 12, 20, 700, u32::MAX]) },
@@ -68,6 +89,7 @@ impl Play {
             34 => Call::Recover,
             35..=36 => Call::Join { card: self.both.offline.first().copied().unwrap_or(card) },
             37 => Call::Join { card },
+            38 | 39 => self.move_back(),
             _ => Call::AskDesk { card },
         }
     }
@@ -87,13 +109,18 @@ impl Play {
         Call::FetchAll { buffer: vec![7; room as usize] }
     }
 
+    fn move_back(&mut self) -> Call {
+        let words = self.both.racks.directory.cards as usize * old_layout::area_words(self.both.racks.directory.pages);
+        Call::MoveBack { buffer: self.random.words(words) }
+    }
+
     /// Mostly the next number, and short lists, so that releases come to their close; now and then as long a list as
     /// fits.
     fn opening(&mut self, card: u32) -> Call {
         let pages = self.both.racks.directory.pages;
         let last = self.both.book.last(card).0;
         let number = match self.random.one_in(8) {
-            true => self.random.of(&[0, last, last.wrapping_add(2), u32::MAX]),
+            true => numbers::not_after(&mut self.random, last),
             false => last.wrapping_add(1),
         };
         let rarity = self.random.of(&[20, 60, 200, 200]) * pages;

@@ -3,8 +3,9 @@
 use crate::call::{Call, Reply};
 use crate::guard::Flush;
 use crate::library::{directory_of, words_of, Rack, Words, FIRST_MARK};
-use second::layout::{own_stamp, Number};
-use second::{Answer, Directory};
+use second::layout::{own_stamp, Desk, Number};
+use second::{by_reference, Answer, Directory};
+use std::fmt::Debug;
 
 /// Racks that must stay equal: two of the proved library's, one flush left and one flush right, and the second
 /// implementation's.
@@ -32,10 +33,10 @@ impl Racks {
         own_stamp(&self.twin, bounded_pages(&self.directory), card).unwrap_or(0)
     }
 
-    /// Sets a word of every memory.
-    pub fn store(&mut self, at: usize, word: u32) {
-        self.proved.iter_mut().for_each(|rack| rack.memory[at] = word);
-        self.twin[at] = word;
+    /// Makes the same change in every memory.
+    pub fn change(&mut self, change: impl Fn(&mut [u32])) {
+        self.proved.iter_mut().for_each(|rack| change(&mut rack.memory));
+        change(&mut self.twin);
     }
 
     /// Gives a live mark another word: the directory is the same.
@@ -50,7 +51,7 @@ impl Racks {
     /// Makes the call of all and compares all that they hand back.
     pub fn call(&mut self, call: &Call) -> Result<Reply, String> {
         let (after, expected) = make_second(&mut self.twin, self.directory, call);
-        let differ = |what: String| format!("{call:?}: {what}; second implementation {expected:?}");
+        let differ = |what: String| format!("{}: {what}; second implementation {}", brief(call), brief(&expected));
         if call.changes_directory(&expected) {
             self.words = words_of(&after);
         } else if after != self.directory {
@@ -58,8 +59,11 @@ impl Racks {
         }
         for rack in &mut self.proved {
             let reply = rack.make(call);
-            if reply != expected {
-                return Err(differ(format!("the answers differ: {reply:?}")));
+            if reply.answer != expected.answer {
+                return Err(differ(format!("the answers differ: {}", brief(&reply))));
+            }
+            if let Some(at) = first_difference(&reply.beside, &expected.beside) {
+                return Err(differ(format!("word {at} beside the answers differs: {}", brief(&reply))));
             }
             if let Some(at) = first_difference(&rack.directory, &self.words) {
                 return Err(differ(format!("word {at} of the directory differs")));
@@ -78,6 +82,16 @@ pub fn bounded_pages(directory: &Directory) -> u32 {
     directory.pages % 4096
 }
 
+/// To be read by people: a list of changes is whole, a memory is not.
+fn brief(shown: &impl Debug) -> String {
+    let mut text = format!("{shown:?}");
+    if text.len() > 8_000 {
+        text.truncate(8_000);
+        text += "...";
+    }
+    text
+}
+
 fn first_difference(words: &[u32], expected: &[u32]) -> Option<usize> {
     match words == expected {
         true => None,
@@ -87,6 +101,8 @@ fn first_difference(words: &[u32], expected: &[u32]) -> Option<usize> {
 
 fn make_second(memory: &mut [u32], directory: Directory, call: &Call) -> (Directory, Reply) {
     let plain = |(directory, answer)| (directory, Reply { answer, beside: Vec::new() });
+    let with_desk =
+        |(directory, answer, desk): (Directory, Answer, Desk)| (directory, Reply { answer, beside: desk.into() });
     match call {
         Call::Format { cards, pages } => plain(second::format_rack(memory, *cards, *pages)),
         Call::Open { card, number, desk, list } => {
@@ -100,9 +116,7 @@ fn make_second(memory: &mut [u32], directory: Directory, call: &Call) -> (Direct
             (directory, Reply { answer, beside: vec![made] })
         }
         Call::Fetch { page, buffer } => {
-            let mut beside = buffer.clone();
-            let (directory, answer) = second::fetch_page(memory, directory, *page, &mut beside);
-            (directory, Reply { answer, beside })
+            with_buffer(buffer, |words| second::fetch_page(memory, directory, *page, words))
         }
         Call::FetchAll { buffer } => {
             let mut words = buffer.clone();
@@ -111,14 +125,19 @@ fn make_second(memory: &mut [u32], directory: Directory, call: &Call) -> (Direct
             (directory, Reply { answer, beside: words })
         }
         Call::Fail { card } => plain(second::fail_card(memory, directory, *card)),
-        Call::Recover => {
-            let (directory, answer, desk) = second::recover(memory, directory);
-            (directory, Reply { answer, beside: desk.into() })
-        }
+        Call::Recover => with_desk(second::recover(memory, directory)),
         Call::Join { card } => plain(second::join_card(memory, directory, *card)),
-        Call::AskDesk { card } => {
-            let (directory, answer, desk) = second::ask_desk(memory, directory, *card);
-            (directory, Reply { answer, beside: desk.into() })
+        Call::AskDesk { card } => with_desk(second::ask_desk(memory, directory, *card)),
+        Call::MoveIn { old } => plain((directory, by_reference::move_in(old, &directory, memory))),
+        Call::MoveBack { buffer } => {
+            with_buffer(buffer, |words| (directory, by_reference::move_back(memory, &directory, words)))
         }
     }
+}
+
+/// A call that writes a buffer, which stands beside its answer.
+fn with_buffer(before: &[u32], call: impl FnOnce(&mut [u32]) -> (Directory, Answer)) -> (Directory, Reply) {
+    let mut beside = before.to_vec();
+    let (directory, answer) = call(&mut beside);
+    (directory, Reply { answer, beside })
 }

@@ -1,10 +1,12 @@
 //! Every card fails at every step of one release, and of two that are open on different cards, on racks of 3 to 8
-//! cards; then the others are asked, the card joins, and the next one fails.
+//! cards; then the others are asked, the card joins, and the next one fails. On two pages also with numbers that go
+//! past 2^32, and with the last ones below 2^64.
 
 use crate::call::{Call, Reply};
+use crate::numbers::TWO_WORDS;
 use crate::with_book::WithBook;
 use bandsawpink_sys::layout::DIRECTORY_WORDS;
-use second::layout::memory_words;
+use second::layout::{low_word, memory_words, Number};
 use std::cell::Cell;
 
 /// A rack on which releases are open. The first has two prices and 19 steps, the other one price and 15 steps.
@@ -26,11 +28,11 @@ const OTHER_STEPS: u32 = 15;
 pub fn compare() -> Result<u64, String> {
     let calls = Cell::new(0);
     for cards in 3..=8 {
-        for pages in [1, 2, 64] {
+        for (pages, last) in [(1, 0), (2, 0), (64, 0), (2, TWO_WORDS - 2), (2, Number::MAX - 3)] {
             for (first, other) in [(1, 2), (cards - 1, 0)] {
-                Swept::new(cards, pages, first, other, &calls)
+                Swept::new(cards, pages, [first, other], last, &calls)
                     .and_then(Swept::fail_everywhere)
-                    .map_err(|error| format!("sweep, {cards} cards, {pages} pages: {error}"))?;
+                    .map_err(|error| format!("sweep, {cards} cards, {pages} pages, numbers after {last}: {error}"))?;
             }
         }
     }
@@ -38,10 +40,20 @@ pub fn compare() -> Result<u64, String> {
 }
 
 impl<'a> Swept<'a> {
-    /// Both cards have made a release before, so that their stamps and desks are not those of a formatted rack.
-    fn new(cards: u32, pages: u32, first: u32, other: u32, calls: &'a Cell<u64>) -> Result<Self, String> {
+    /// Both cards have made a release after the last number, so that their stamps and desks are not those of a formatted
+    /// rack. The release that is swept has the second number after it, the one after a recovery at most the third.
+    fn new(
+        cards: u32,
+        pages: u32,
+        [first, other]: [u32; 2],
+        last: Number,
+        calls: &'a Cell<u64>,
+    ) -> Result<Self, String> {
         let memory = vec![9; memory_words(cards, pages).expect("within the limits")];
-        let both = WithBook::formatted(&memory, &[7; DIRECTORY_WORDS], cards, pages)?;
+        let mut both = WithBook::formatted(&memory, &[7; DIRECTORY_WORDS], cards, pages)?;
+        if last > 0 {
+            [first, other].into_iter().for_each(|card| both.set_last(card, last, [card; 8]));
+        }
         let mut swept = Self { both, cards, pages, first, other, calls };
         swept.open(first)?;
         swept.open(other)?;
@@ -69,7 +81,7 @@ impl<'a> Swept<'a> {
     /// The next release of a card: page 0 word 2 and the last page's last word, or page 0 word 4.
     fn open(&mut self, card: u32) -> Result<(), String> {
         let number = self.both.book.last(card).0 + 1;
-        let price = 100 * number + card;
+        let price = low_word(number).wrapping_mul(100).wrapping_add(card);
         let list = match (card == self.first, self.pages) {
             (true, 1) => vec![0x1000_0000, 0x2002_0001, price, 0x201F_0001, price, 0xF000_0005],
             (true, pages) => {

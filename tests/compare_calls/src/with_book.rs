@@ -4,6 +4,9 @@ use crate::call::{Call, Reply};
 use crate::library::Words;
 use crate::racks::Racks;
 use second::book::{self, Book};
+use second::layout::{
+    area_mut, desk_of_number_at, done_mark_at, put_desk, put_number, stamp_at, Desk, Number, OWN_DESK, OWN_STAMP,
+};
 use second::Answer;
 
 #[derive(Clone)]
@@ -25,6 +28,25 @@ impl WithBook {
         }
     }
 
+    /// Gives a card of a newly formatted rack a last release, of no price: in its area, in its record on its backup, and in
+    /// the book, where it takes 11 steps.
+    pub fn set_last(&mut self, card: u32, number: Number, desk: Desk) {
+        let (pages, backup) = (self.racks.directory.pages, (card + 1) % self.racks.directory.cards);
+        self.racks.change(|memory| {
+            let own = area_mut(memory, pages, card);
+            put_number(own, OWN_STAMP, number);
+            put_desk(own, OWN_DESK, &desk);
+            let other = area_mut(memory, pages, backup);
+            put_number(other, stamp_at(card), number);
+            put_number(other, done_mark_at(card), number);
+            put_desk(other, desk_of_number_at(card, number), &desk);
+        });
+        self.book.feed(&book::Call::Open { card, number, desk, list: vec![0xF000_0000] }, true);
+        for _ in 0..11 {
+            self.book.feed(&book::Call::Step { card }, true);
+        }
+    }
+
     /// Makes the call of all, and holds the book beside.
     pub fn call(&mut self, call: &Call) -> Result<Reply, String> {
         let reply = self.racks.call(call)?;
@@ -43,7 +65,7 @@ impl WithBook {
             Call::AskDesk { card } if !self.book.is_open(*card) => self.book.last(*card).1.to_vec(),
             _ => return Ok(()),
         };
-        let stamp = Answer::Given(u64::from(self.book.last(self.book.failed()).0));
+        let stamp = Answer::Given(self.book.last(self.book.failed()).0);
         match reply.beside == expected && (!matches!(call, Call::Recover) || reply.answer == stamp) {
             true => Ok(()),
             false => Err(format!("{reply:?}, the book has {expected:?}, {stamp:?}")),
@@ -79,6 +101,8 @@ impl WithBook {
             }
             Call::Recover => book::Call::Recover,
             Call::Fetch { .. } | Call::FetchAll { .. } | Call::AskDesk { .. } | Call::Format { .. } => return,
+            // a rack that is moved is the same rack
+            Call::MoveIn { .. } | Call::MoveBack { .. } => return,
         };
         self.book.feed(&noted, accepted);
     }

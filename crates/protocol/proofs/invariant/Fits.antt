@@ -1,6 +1,6 @@
 -- A rack that agrees with its book passes checks 1 and 2.
-use Rattle.laws.proofs.Prelude.{ℕ, zero, suc, _+_, _*_, _≤_, _<_, _≡_, refl, sym, _∙_, _≢_, _⊎_, inl, inr, List, Bool}
-use Rattle.laws.proofs.Prelude.{true, false, cond, not, _&&_, _||_, true≢false, arith, ℕ-discrete, decLt, eq-eqb}
+use Rattle.laws.proofs.Prelude.{ℕ, zero, suc, _+_, _*_, _≤_, _<_, _≡_, refl, sym, _≢_, _⊎_, inl, inr, List, Bool}
+use Rattle.laws.proofs.Prelude.{true, false, cond, not, _&&_, _||_, arith, ℕ-discrete, decLt, eq-eqb}
 use Rattle.laws.proofs.Prelude.{ne-eqb, le-ltb, lt-leb, length, ltb, eqb}
 use Rattle.laws.specs.Search.{someBelow, countBelow}
 use Rattle.laws.proofs.Search.{none-pass}

@@ -25,9 +25,11 @@ move-area-requires c κs =
     let l = c .before .before .loop in
     let start = c .before .before .before .before .before in
     let a = start .args in
-    let pre = start .pre in
-    (pre .0, turn-fits (a .cards) (l .card) (areaFields (a .pages)) (c .before .loop-test .taken)
-    (omega (arith, pre .1 .0), omega (arith, pre .1 .1)) (l .inv .1))
+    let pre = start .pre in (
+      pre .0,
+      turn-fits (a .cards) (l .card) (areaFields (a .pages)) (c .before .loop-test .taken)
+          (omega (arith, pre .1 .0), omega (arith, pre .1 .1)) (l .inv .1),
+    )
 
 loop-again : tie.Need-loop-again Inv-loop μ-loop
 loop-again c =

@@ -12,11 +12,6 @@ use Rattle.mover.proofs.refusals.outside_limits.Tie as tie
 returns : tie.Need-returns
 returns c = rw (sym (c .before .outside-limits .ensures) ∙ c .if1 .taken)
 
-places-in-requires : tie.Need-places-in-requires
-places-in-requires c κs =
-    let within = within-limits _ _ _ (sym (c .before .outside-limits .ensures) ∙ c .if1 .left) in
-    (omega arith, within .pages-most)
-
 mul-result : tie.Need-mul-result
 mul-result c =
     let placed = c .before in
@@ -35,4 +30,4 @@ returns-2 c =
 pub outside-limits-spec : {M : Type 1} → statement M
 outside-limits-spec =
     tie.close
-    (tie.spec (λ c κs. search needs) returns places-in-requires mul-result returns-2)
+    (tie.spec (λ c κs. search needs) returns (λ c κs. search needs) mul-result returns-2)
