@@ -20,7 +20,7 @@ int main(void) {
 
     rack_fail(memory, words, &directory, CARD); /* between two stores, once the release counts */
     rack_desk_answer found = rack_recover(memory, words, &directory);
-    printf("card %d: release %u of desk %u\n", CARD, (unsigned)found.value, found.desk[0]);
+    printf("card %d: release %llu of desk %u\n", CARD, (unsigned long long)found.value, found.desk[0]);
     rack_answer shown = rack_fetch(memory, words, &directory, PAGE, page, RACK_PAGE_WORDS);
     if (shown.number != RACK_ACCEPTED) return (int)shown.number;
     for (uint32_t word = 0; word < RACK_PAGE_WORDS; word++)
