@@ -8,7 +8,6 @@ pub use Rattle.area.specs.Layout.{recordAt, recordStamp, recordDone, rec
 pub use Rattle.area.specs.Layout.{committed, pagesStart, pageSize, storedPageSize, pageAt, tentativeHalf}
 pub use Rattle.area.specs.Layout.{committedHalf, areaSize}
 pub use Rattle.area.specs.RackMemory.{MemoryOf}
-pub use Rattle.area.specs.Places.{placesOf, PlacesIn, MemoryBy}
 unfoldable pub use Rattle.area.specs.Numbers.{numberWords, numberAt}
 pub use Rattle.area.specs.Numbers.{loadNumber, storeNumber}
 unfoldable pub use Rattle.area.specs.Releases.{ownRelease, openRelease, openList, stepsOf, isOpen}

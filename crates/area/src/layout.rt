@@ -3,7 +3,6 @@
 ghost use Rattle.laws.specs.Prelude.{_≡_, _<_, _≤_};
 ghost use Rattle.area.specs.Layout.{areaSize, deskInRecord, recordAt, recordStamp, recordDone};
 ghost use Rattle.area.specs.Layout.{recordDesk, pageAt};
-ghost use Rattle.area.specs.Places.{placesOf};
 
 // Words of a release's number, of a stamp and of a done mark.
 pub const NUMBER_SIZE: usize = 2;
@@ -48,30 +47,6 @@ pub const STORED_PAGE_SIZE: usize = 2 * PAGE_SIZE;
 pub const TENTATIVE_HALF: usize = 0;
 
 pub const COMMITTED_HALF: usize = TENTATIVE_HALF + PAGE_SIZE;
-
-// Where an area has the words that tell whether a release is open on its card and can go on. The
-// forms of a memory differ in it.
-pub struct Places {
-    // The words of the whole area.
-    pub size: usize,
-    // Whether a release is open; its steps made; its list.
-    pub flag: usize,
-    pub steps: usize,
-    pub list: usize,
-}
-
-// In this form.
-pub fn places_of(pages: u32) -> Places
-    requires { ⌜ pages ≤ 64 ⌝ }
-    ensures { λ r. ⌜ r ≡ placesOf pages ⌝ }
-{
-    Places {
-        size: area_size(pages),
-        flag: OPEN_FLAG,
-        steps: STEPS_MADE,
-        list: LIST_START,
-    }
-}
 
 // The number of words of one area.
 pub fn area_size(pages: u32) -> usize

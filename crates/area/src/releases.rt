@@ -1,6 +1,6 @@
 // What a card's area says of the release that is open on the card.
-ghost use Rattle.laws.specs.Prelude.{_≡_, _+_, _<_, _≤_, length};
-ghost use Rattle.memory.specs.Words.{AreaIn, loadRun};
+ghost use Rattle.laws.specs.Prelude.{_≡_, _<_, _≤_, length};
+ghost use Rattle.memory.specs.Words.{AreaIn};
 ghost use Rattle.area.specs.Layout.{listSize, pagesStart, areaSize};
 ghost use Rattle.area.specs.RackMemory.{MemoryOf};
 ghost use Rattle.area.specs.Releases.{openList, stepsOf, isOpen};
@@ -39,22 +39,13 @@ pub fn steps_made(memory: &[u32], size: usize, card: usize) -> u32
     memory::load_word(memory, size, card, layout::STEPS_MADE)
 }
 
-// The room for a list, from a place of the card's area on.
-pub fn list_at(memory: &[u32], size: usize, card: usize, place: usize) -> &[u32]
-    requires { ⌜ (place + listSize ≤ size) × AreaIn (length (now memory)) size card ⌝ }
-    ensures { λ r. ⌜ now r ≡ loadRun size (now (memory .entry)) card place listSize ⌝ }
-    ensures { λ r. ⌜ length (now r) ≡ listSize ⌝ }
-{
-    let from = card * size + place;
-    let end = from + layout::LIST_SIZE;
-    &memory[from..end]
-}
-
 // Its list.
 pub fn open_list(memory: &[u32], size: usize, card: usize) -> &[u32]
     requires { ⌜ (pagesStart ≤ size) × AreaIn (length (now memory)) size card ⌝ }
     ensures { λ r. ⌜ now r ≡ openList size (now (memory .entry)) card ⌝ }
     ensures { λ r. ⌜ length (now r) ≡ listSize ⌝ }
 {
-    list_at(memory, size, card, layout::LIST_START)
+    let from = card * size + layout::LIST_START;
+    let end = from + layout::LIST_SIZE;
+    &memory[from..end]
 }

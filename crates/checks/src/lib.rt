@@ -5,13 +5,13 @@
 ghost use Rattle.laws.specs.Prelude.{_≡_, _*_, _<_, _≤_, [], _∷_, not, _||_, length, leb};
 ghost use Rattle.laws.specs.Search.{someBelow, countBelow};
 ghost use Rattle.directory.specs.Directory.{liveAt, directoryBy, FullHomes, awaitsCard};
-ghost use Rattle.area.specs.Prelude.{AreaIn, MemoryOf, PlacesIn, MemoryBy};
+ghost use Rattle.area.specs.Prelude.{areaSize, AreaIn, MemoryOf};
 ghost use Rattle.protocol.specs.Checks.{outsideLimits, badHome, badPage, badStatus, badRelease};
-ghost use Rattle.protocol.specs.Checks.{badCardAt, unfitBy, unfitRack, check, firstRefusal, fittingChecks};
-ghost use Rattle.protocol.specs.Checks.{awaitsRecovery, runningChecks, cardChecks, liveCardChecks};
+ghost use Rattle.protocol.specs.Checks.{badCard, unfitDirectory, unfitRack, check, firstRefusal};
+ghost use Rattle.protocol.specs.Checks.{fittingChecks, awaitsRecovery, runningChecks, cardChecks};
+ghost use Rattle.protocol.specs.Checks.{liveCardChecks};
 ghost use Rattle.checks.specs.Homes.{misplaced, misplacedPage};
 use answer::Outcome;
-use area::layout::Places;
 use diff::Verdict;
 use directory::Header;
 use directory::Status;
@@ -182,7 +182,7 @@ fn bad_status(header: Header) -> bool
     }
 }
 
-fn bad_release(verdict: Verdict, steps: u32) -> bool
+pub fn bad_release(verdict: Verdict, steps: u32) -> bool
     ensures { λ r. ⌜ r ≡ badRelease verdict steps ⌝ }
 {
     match verdict {
@@ -191,29 +191,30 @@ fn bad_release(verdict: Verdict, steps: u32) -> bool
     }
 }
 
-fn bad_card(memory: &[u32], at: Places, pages: u32, live: &[bool], card: usize) -> bool
-    requires { ⌜ PlacesIn at × AreaIn (length (now memory)) (at .size) card ⌝ }
+fn bad_card(memory: &[u32], pages: u32, live: &[bool], card: usize) -> bool
+    requires { ⌜ (pages ≤ 64) × AreaIn (length (now memory)) (areaSize pages) card ⌝ }
     requires { ⌜ card < length (now live) ⌝ }
-    ensures { λ r. ⌜ r ≡ badCardAt at (now (live .entry)) pages (now (memory .entry)) card ⌝ }
+    ensures { λ r. ⌜ r ≡ badCard (now (live .entry)) pages (now (memory .entry)) card ⌝ }
 {
     if live[card] {
-        let flag = memory::load_word(memory, at.size, card, at.flag);
-        if 1 < flag {
+        let size = area::layout::area_size(pages);
+        let open = memory::load_word(memory, size, card, area::layout::OPEN_FLAG);
+        if 1 < open {
             return true;
         }
-        if flag == 1 {
-            let steps = memory::load_word(memory, at.size, card, at.steps);
-            let list = area::releases::list_at(memory, at.size, card, at.list);
+        if open == 1 {
+            let steps = area::releases::steps_made(memory, size, card);
+            let list = area::releases::open_list(memory, size, card);
             return bad_release(reader::read(list, pages), steps);
         }
     }
     false
 }
 
-fn bad_cards(memory: &[u32], at: Places, header: Header) -> bool
-    requires { ⌜ MemoryBy at header (length (now memory)) ⌝ }
+fn bad_cards(memory: &[u32], header: Header) -> bool
+    requires { ⌜ MemoryOf header (length (now memory)) ⌝ }
     ensures { λ r. ⌜ r
-        ≡ someBelow (badCardAt at (header .live) (header .pages) (now (memory .entry)))
+        ≡ someBelow (badCard (header .live) (header .pages) (now (memory .entry)))
         (header .cards) ⌝ }
 {
     let live = header.live;
@@ -221,7 +222,7 @@ fn bad_cards(memory: &[u32], at: Places, header: Header) -> bool
     let end = header.cards as usize;
     let mut card: usize = 0;
     while card < end {
-        if bad_card(memory, at, pages, &live, card) {
+        if bad_card(memory, pages, &live, card) {
             return true;
         }
         card += 1;
@@ -229,19 +230,12 @@ fn bad_cards(memory: &[u32], at: Places, header: Header) -> bool
     false
 }
 
-// 2, of a rack within its limits, whose areas have these places.
-pub fn unfit_at(
-    memory: &[u32],
-    at: Places,
-    header: Header,
-    primary: &[u32],
-    secondary: &[u32],
-) -> bool
-    requires { ⌜ MemoryBy at header (length (now memory)) ⌝ }
+// 2, of a directory alone.
+pub fn unfit_directory(header: Header, primary: &[u32], secondary: &[u32]) -> bool
+    requires { ⌜ (header .cards ≤ 8) × (header .pages ≤ 64) ⌝ }
     requires { ⌜ FullHomes (now primary) (now secondary) ⌝ }
     ensures { λ r. ⌜ r
-        ≡ unfitBy (directoryBy header (now (primary .entry)) (now (secondary .entry)))
-        (badCardAt at (header .live) (header .pages) (now (memory .entry))) ⌝ }
+        ≡ unfitDirectory (directoryBy header (now (primary .entry)) (now (secondary .entry))) ⌝ }
 {
     let count = count_live(header);
     if count < 2 {
@@ -250,12 +244,10 @@ pub fn unfit_at(
     if bad_homes(header, primary, secondary, count) {
         return true;
     }
-    if bad_status(header) {
-        return true;
-    }
-    bad_cards(memory, at, header)
+    bad_status(header)
 }
 
+// 2, of a rack within its limits.
 fn unfit_rack(memory: &[u32], header: Header, primary: &[u32], secondary: &[u32]) -> bool
     requires { ⌜ MemoryOf header (length (now memory)) ⌝ }
     requires { ⌜ FullHomes (now primary) (now secondary) ⌝ }
@@ -263,8 +255,10 @@ fn unfit_rack(memory: &[u32], header: Header, primary: &[u32], secondary: &[u32]
         ≡ unfitRack (directoryBy header (now (primary .entry)) (now (secondary .entry)))
         (now (memory .entry)) ⌝ }
 {
-    let at = area::layout::places_of(header.pages);
-    unfit_at(memory, at, header, primary, secondary)
+    if unfit_directory(header, primary, secondary) {
+        return true;
+    }
+    bad_cards(memory, header)
 }
 
 // ---- the checks in order

@@ -2,10 +2,10 @@
 use Rattle.laws.proofs.Prelude.{ℕ, _*_, _≡_, sym, _∙_, ap, false, eqb-true, not-false, arith, eqb}
 use Rattle.laws.proofs.Bools.{neither}
 use Rattle.directory.specs.declared.Header.{Header}
-use Rattle.area.specs.Prelude.{areaSize, MemoryOf, MemoryBy}
+use Rattle.area.specs.Prelude.{areaSize, MemoryOf}
 use Rattle.protocol.specs.Checks.{outsideLimits}
 use Rattle.protocol.proofs.checks.Limits.{Within, within-limits}
-use Rattle.mover.specs.Forms.{oldForm, newForm, areaSizeIn, placesIn}
+use Rattle.mover.specs.Forms.{oldForm, newForm, areaSizeIn, placesIn, MemoryBy}
 use Rattle.mover.specs.Move.{outsideLimitsOf}
 
 -- the new form is that of the layout

@@ -7,7 +7,7 @@ use Rattle.answer.specs.Outcome.{given}
 use Rattle.directory.specs.declared.Directory.{Directory}
 use Rattle.area.specs.Prelude.{openList, stepsOf, isOpen}
 use Rattle.protocol.specs.Release.{sizeOf}
-use Rattle.protocol.specs.Checks.{outsideLimits, badCard, unfitRack, badCardAt, unfitBy}
+use Rattle.protocol.specs.Checks.{outsideLimits, badCard, unfitRack, unfitBy}
 use Rattle.protocol.specs.Result.{accepted}
 use Rattle.protocol.proofs.checks.Outcome.{Passed}
 use Rattle.protocol.proofs.checks.ByCall.{Runs, runs-by}
@@ -15,7 +15,7 @@ use Rattle.rack.proofs.Results.{resultIs}
 use Rattle.mover.specs.Forms.{oldForm, newForm, areaSizeIn, placesIn}
 use Rattle.mover.specs.Fields.{rackFields}
 use Rattle.mover.specs.Areas.{SameArea, HighWordsOf}
-use Rattle.mover.specs.Move.{openAt, movedIn, moveInChecks, moveIn}
+use Rattle.mover.specs.Move.{badCardAt, openAt, movedIn, moveInChecks, moveIn}
 use Rattle.mover.proofs.FieldWords.{rack-fields, length-moved}
 use Rattle.mover.proofs.Limits.{old-length, new-length}
 use Rattle.mover.proofs.Results.{accepted-move}

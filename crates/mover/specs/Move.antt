@@ -7,11 +7,11 @@ use Rattle.answer.specs.declared.Outcome.{Outcome}
 use Rattle.answer.specs.Outcome.{limits, unfit, recoveryAwaited, joinWhileOpen, numberTooHigh}
 use Rattle.directory.specs.declared.Directory.{Directory}
 use Rattle.directory.specs.Directory.{liveAt}
-use Rattle.area.specs.declared.layout.Places.{Places}
-use Rattle.area.specs.Prelude.{load, loadNumber, ownStamp, recordStamp, recordDone, recordCount}
+use Rattle.area.specs.Prelude.{load, loadRun, listSize, loadNumber, ownStamp, recordStamp, recordDone, recordCount}
 use Rattle.protocol.specs.Release.{sizeOf}
-use Rattle.protocol.specs.Checks.{Check, check, firstRefusal, outsideLimits, badCardAt, unfitBy, awaitsRecovery}
+use Rattle.protocol.specs.Checks.{Check, check, firstRefusal, outsideLimits, badOpen, unfitBy, awaitsRecovery}
 use Rattle.protocol.specs.Result.{Result, resultOf}
+use Rattle.mover.specs.declared.forms.Places.{Places}
 use Rattle.mover.specs.Forms.{oldForm, newForm, areaSizeIn, placesIn}
 use Rattle.mover.specs.Fields.{rackFields, moved}
 
@@ -31,7 +31,14 @@ abbrev pub outsideLimitsOf : ℕ → ℕ → ℕ → ℕ → Bool
 outsideLimitsOf oldWords newWords cards pages =
     outsideLimits newWords cards pages || not (eqb oldWords (cards * areaSizeIn oldForm pages))
 
--- a release is open on a live card, whose area has these places
+-- 2, of a live card whose area has these places
+abbrev pub badCardAt : Places → List Bool → ℕ → List ℕ → ℕ → Bool
+badCardAt at marks pages m c =
+    liveAt marks c
+    && badOpen pages (load (at .size) m c (at .flag)) (load (at .size) m c (at .steps))
+    (loadRun (at .size) m c (at .list) listSize)
+
+-- a release is open on it
 abbrev pub openAt : Places → List Bool → List ℕ → ℕ → Bool
 openAt at marks m c = liveAt marks c && eqb (load (at .size) m c (at .flag)) 1
 

@@ -2,14 +2,22 @@
 ghost use Rattle.laws.specs.Prelude.{_≡_, _≤_};
 ghost use Rattle.mover.specs.Forms.{placesIn};
 use area::layout;
-use area::layout::Places;
 
 pub const OLD: usize = 1;
 
 pub const NEW: usize = layout::NUMBER_SIZE;
 
-// What a form tells of a card's area. `area::layout` has the table of the new form; specs/Forms.antt
-// has this one whole.
+// Where an area of a form has the words that tell whether a release is open on its card and can go on.
+// `area::layout` has the table of the new form; specs/Forms.antt has that of both.
+pub struct Places {
+    // The words of the whole area.
+    pub size: usize,
+    // Whether a release is open; its steps made; its list.
+    pub flag: usize,
+    pub steps: usize,
+    pub list: usize,
+}
+
 pub fn places_in(form: usize, pages: u32) -> Places
     requires { ⌜ form ≤ 2 ⌝ }
     ensures { λ r. ⌜ r ≡ placesIn form pages ⌝ }

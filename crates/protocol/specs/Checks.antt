@@ -9,8 +9,7 @@ use Rattle.directory.specs.declared.Directory.{Directory}
 use Rattle.directory.specs.declared.Status.{Status}
 use Rattle.directory.specs.declared.Status.the-variants.{Running, Awaiting}
 use Rattle.directory.specs.Directory.{liveAt, isLive, primaryOf, secondaryOf, awaitsCard}
-use Rattle.area.specs.declared.layout.Places.{Places}
-use Rattle.area.specs.Prelude.{load, loadRun, areaSize, openFlag, listSize, openList, stepsOf}
+use Rattle.area.specs.Prelude.{load, areaSize, openFlag, openList, stepsOf}
 use Rattle.diff.specs.declared.Verdict.{Verdict}
 use Rattle.diff.specs.declared.Verdict.the-variants.{Good, Faulty}
 use Rattle.diff.specs.Reading.{readDiff}
@@ -78,18 +77,15 @@ badCard marks pages m c =
     && badOpen pages (load (areaSize pages) m c openFlag) (stepsOf (areaSize pages) m c)
     (openList (areaSize pages) m c)
 
--- the same, by the places where an area has these words
-abbrev pub badCardAt : Places → List Bool → ℕ → List ℕ → ℕ → Bool
-badCardAt at marks pages m c =
-    liveAt marks c
-    && badOpen pages (load (at .size) m c (at .flag)) (load (at .size) m c (at .steps))
-    (loadRun (at .size) m c (at .list) listSize)
-
--- a bad page, status or card; which cards are bad is told by a test
-abbrev pub unfitBy : Directory → (ℕ → Bool) → Bool
-unfitBy d bad =
+-- of a directory alone
+abbrev pub unfitDirectory : Directory → Bool
+unfitDirectory d =
     fewLive (d .live) (d .cards)
-    || (someBelow (badPage d) (d .pages) || (badStatus (d .cards) (d .live) (d .status) || someBelow bad (d .cards)))
+    || (someBelow (badPage d) (d .pages) || badStatus (d .cards) (d .live) (d .status))
+
+-- an unfit directory, or a bad card; which cards are bad is told by a test
+abbrev pub unfitBy : Directory → (ℕ → Bool) → Bool
+unfitBy d bad = unfitDirectory d || someBelow bad (d .cards)
 
 unfoldable pub unfitRack : Directory → List ℕ → Bool
 unfitRack d m = unfitBy d (badCard (d .live) (d .pages) m)

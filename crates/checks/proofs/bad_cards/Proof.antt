@@ -6,15 +6,15 @@ use borrow.Author.Needs.{needs}
 use lib.ListN.{length}
 use Rattle.laws.proofs.Search.{Passed, passed-none, passed-more, some-found, none-found}
 use Rattle.memory.proofs.Index.{area-in}
-use Rattle.protocol.specs.Checks.{badCardAt}
+use Rattle.protocol.specs.Checks.{badCard}
 use Rattle.checks.proofs.bad_cards.Statement.{statement}
 use Rattle.checks.proofs.bad_cards.Tie as tie
 
 abbrev Inv-loop : tie.InvT-loop
-Inv-loop memory at live pages end card₀ card = Passed (badCardAt at live pages memory) end card
+Inv-loop memory live pages end card₀ card = Passed (badCard live pages memory) end card
 
 abbrev μ-loop : tie.MeasureT-loop
-μ-loop memory at live pages end card₀ card = end - card
+μ-loop memory live pages end card₀ card = end - card
 
 bad-card-requires : tie.Need-bad-card-requires Inv-loop μ-loop
 bad-card-requires c κs =
@@ -22,7 +22,7 @@ bad-card-requires c κs =
     let marks : length (start .args .header .live) ≡ 8 = search needs in
     let pre = start .pre in
     let below : c .before .before .loop .card < start .args .header .cards = omega arith in
-    ((pre .3, area-in _ below (pre .2)), omega (arith, pre .0))
+    ((pre .1, area-in _ below (pre .2)), omega (arith, pre .0))
 
 returns : tie.Need-returns Inv-loop μ-loop
 returns c =
