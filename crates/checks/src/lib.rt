@@ -7,9 +7,8 @@ ghost use Rattle.laws.specs.Search.{someBelow, countBelow};
 ghost use Rattle.directory.specs.Directory.{liveAt, directoryBy, FullHomes, awaitsCard};
 ghost use Rattle.area.specs.Prelude.{areaSize, AreaIn, MemoryOf};
 ghost use Rattle.protocol.specs.Checks.{outsideLimits, badHome, badPage, badStatus, badRelease};
-ghost use Rattle.protocol.specs.Checks.{badCard, unfitDirectory, unfitRack, check, firstRefusal};
-ghost use Rattle.protocol.specs.Checks.{fittingChecks, awaitsRecovery, runningChecks, cardChecks};
-ghost use Rattle.protocol.specs.Checks.{liveCardChecks};
+ghost use Rattle.protocol.specs.Checks.{badCard, unfitRack, check, firstRefusal, fittingChecks};
+ghost use Rattle.protocol.specs.Checks.{awaitsRecovery, runningChecks, cardChecks, liveCardChecks};
 ghost use Rattle.checks.specs.Homes.{misplaced, misplacedPage};
 use answer::Outcome;
 use diff::Verdict;
@@ -82,7 +81,7 @@ fn bad_home(header: Header, home: u32) -> bool
     !awaits(status, home)
 }
 
-fn bad_page(header: Header, primary: &[u32], secondary: &[u32], page: u32) -> bool
+pub fn bad_page(header: Header, primary: &[u32], secondary: &[u32], page: u32) -> bool
     requires { ⌜ (page < length (now primary)) × (page < length (now secondary)) ⌝ }
     ensures { λ r. ⌜ r
         ≡ badPage (directoryBy header (now (primary .entry)) (now (secondary .entry))) page ⌝ }
@@ -167,7 +166,7 @@ fn bad_homes(header: Header, primary: &[u32], secondary: &[u32], count: u32) -> 
     bad_pages(header, primary, secondary)
 }
 
-fn bad_status(header: Header) -> bool
+pub fn bad_status(header: Header) -> bool
     ensures { λ r. ⌜ r ≡ badStatus (header .cards) (header .live) (header .status) ⌝ }
 {
     let status = header.status;
@@ -230,23 +229,6 @@ fn bad_cards(memory: &[u32], header: Header) -> bool
     false
 }
 
-// 2, of a directory alone.
-pub fn unfit_directory(header: Header, primary: &[u32], secondary: &[u32]) -> bool
-    requires { ⌜ (header .cards ≤ 8) × (header .pages ≤ 64) ⌝ }
-    requires { ⌜ FullHomes (now primary) (now secondary) ⌝ }
-    ensures { λ r. ⌜ r
-        ≡ unfitDirectory (directoryBy header (now (primary .entry)) (now (secondary .entry))) ⌝ }
-{
-    let count = count_live(header);
-    if count < 2 {
-        return true;
-    }
-    if bad_homes(header, primary, secondary, count) {
-        return true;
-    }
-    bad_status(header)
-}
-
 // 2, of a rack within its limits.
 fn unfit_rack(memory: &[u32], header: Header, primary: &[u32], secondary: &[u32]) -> bool
     requires { ⌜ MemoryOf header (length (now memory)) ⌝ }
@@ -255,7 +237,14 @@ fn unfit_rack(memory: &[u32], header: Header, primary: &[u32], secondary: &[u32]
         ≡ unfitRack (directoryBy header (now (primary .entry)) (now (secondary .entry)))
         (now (memory .entry)) ⌝ }
 {
-    if unfit_directory(header, primary, secondary) {
+    let count = count_live(header);
+    if count < 2 {
+        return true;
+    }
+    if bad_homes(header, primary, secondary, count) {
+        return true;
+    }
+    if bad_status(header) {
         return true;
     }
     bad_cards(memory, header)

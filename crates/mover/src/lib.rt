@@ -13,6 +13,7 @@ mod fields;
 mod forms;
 mod high;
 mod refusals;
+mod unfit;
 
 use directory::Directory;
 use fields::Forms;

@@ -3,15 +3,15 @@ ghost use Rattle.laws.specs.Prelude.{_≡_, _<_, false, length};
 ghost use Rattle.laws.specs.Search.{someBelow};
 ghost use Rattle.directory.specs.Directory.{directoryBy, FullHomes};
 ghost use Rattle.area.specs.Prelude.{AreaIn};
-ghost use Rattle.protocol.specs.Checks.{unfitBy, firstRefusal};
-ghost use Rattle.mover.specs.Forms.{PlacesIn, MemoryBy};
-ghost use Rattle.mover.specs.Move.{outsideLimitsOf, badCardAt, openAt, moveChecks};
-ghost use Rattle.mover.specs.Move.{moveInChecks, moveBackChecks};
+ghost use Rattle.protocol.specs.Checks.{firstRefusal};
+ghost use Rattle.mover.specs.Forms.{MemoryBy};
+ghost use Rattle.mover.specs.Move.{outsideLimitsOf, openAt, moveChecks, moveInChecks};
+ghost use Rattle.mover.specs.Move.{moveBackChecks};
 use crate::forms;
 use crate::forms::Places;
 use crate::high;
+use crate::unfit;
 use answer::Outcome;
-use area::layout;
 use directory::Header;
 
 // 1: cards or pages outside their limits, or either memory not of its length.
@@ -54,61 +54,6 @@ fn any_open(memory: &[u32], at: Places, header: Header) -> bool
     false
 }
 
-// 2, of a card whose area has these places. `checks` has the same for the new form alone, which every
-// call goes by: with places that are known when it is compiled it is faster.
-fn bad_card(memory: &[u32], at: Places, pages: u32, live: &[bool], card: usize) -> bool
-    requires { ⌜ PlacesIn at × AreaIn (length (now memory)) (at .size) card ⌝ }
-    requires { ⌜ card < length (now live) ⌝ }
-    ensures { λ r. ⌜ r ≡ badCardAt at (now (live .entry)) pages (now (memory .entry)) card ⌝ }
-{
-    if live[card] {
-        let flag = memory::load_word(memory, at.size, card, at.flag);
-        if 1 < flag {
-            return true;
-        }
-        if flag == 1 {
-            let steps = memory::load_word(memory, at.size, card, at.steps);
-            let start = card * at.size + at.list;
-            let end = start + layout::LIST_SIZE;
-            return checks::bad_release(reader::read(&memory[start..end], pages), steps);
-        }
-    }
-    false
-}
-
-fn bad_cards(memory: &[u32], at: Places, header: Header) -> bool
-    requires { ⌜ MemoryBy at header (length (now memory)) ⌝ }
-    ensures { λ r. ⌜ r
-        ≡ someBelow (badCardAt at (header .live) (header .pages) (now (memory .entry)))
-        (header .cards) ⌝ }
-{
-    let live = header.live;
-    let pages = header.pages;
-    let end = header.cards as usize;
-    let mut card: usize = 0;
-    while card < end {
-        if bad_card(memory, at, pages, &live, card) {
-            return true;
-        }
-        card += 1;
-    }
-    false
-}
-
-// 2, of a memory within its limits that has these places.
-fn unfit_at(memory: &[u32], at: Places, header: Header, primary: &[u32], secondary: &[u32]) -> bool
-    requires { ⌜ MemoryBy at header (length (now memory)) ⌝ }
-    requires { ⌜ FullHomes (now primary) (now secondary) ⌝ }
-    ensures { λ r. ⌜ r
-        ≡ unfitBy (directoryBy header (now (primary .entry)) (now (secondary .entry)))
-        (badCardAt at (header .live) (header .pages) (now (memory .entry))) ⌝ }
-{
-    if checks::unfit_directory(header, primary, secondary) {
-        return true;
-    }
-    bad_cards(memory, at, header)
-}
-
 // 1, 2, 11 and 15; `old` and `new` are the lengths of the two memories, of which the source, with these
 // places, is one.
 fn move_refusal(
@@ -132,7 +77,7 @@ fn move_refusal(
     if outside_limits(old, new, header.cards, header.pages) {
         return answer::refused_at(answer::LIMITS, 0);
     }
-    if unfit_at(source, at, header, primary, secondary) {
+    if unfit::unfit_at(source, at, header, primary, secondary) {
         return answer::refused_at(answer::UNFIT, 0);
     }
     let status = header.status;

@@ -77,15 +77,11 @@ badCard marks pages m c =
     && badOpen pages (load (areaSize pages) m c openFlag) (stepsOf (areaSize pages) m c)
     (openList (areaSize pages) m c)
 
--- of a directory alone
-abbrev pub unfitDirectory : Directory → Bool
-unfitDirectory d =
-    fewLive (d .live) (d .cards)
-    || (someBelow (badPage d) (d .pages) || badStatus (d .cards) (d .live) (d .status))
-
--- an unfit directory, or a bad card; which cards are bad is told by a test
+-- a bad page, status or card; which cards are bad is told by a test
 abbrev pub unfitBy : Directory → (ℕ → Bool) → Bool
-unfitBy d bad = unfitDirectory d || someBelow bad (d .cards)
+unfitBy d bad =
+    fewLive (d .live) (d .cards)
+    || (someBelow (badPage d) (d .pages) || (badStatus (d .cards) (d .live) (d .status) || someBelow bad (d .cards)))
 
 unfoldable pub unfitRack : Directory → List ℕ → Bool
 unfitRack d m = unfitBy d (badCard (d .live) (d .pages) m)

@@ -8,7 +8,7 @@ use Rattle.directory.specs.Directory.{liveAt, primaryOf, secondaryOf, nextLiveO
 use Rattle.directory.proofs.Live.{next-live-below}
 use Rattle.area.specs.Prelude.{load, areaSize, openFlag, isOpen}
 use Rattle.protocol.specs.Release.{sizeOf}
-use Rattle.protocol.specs.Checks.{badCard, unfitDirectory, unfitRack, awaitsRecovery}
+use Rattle.protocol.specs.Checks.{fewLive, badPage, badStatus, badCard, unfitRack, awaitsRecovery}
 use Rattle.protocol.specs.Recovery.{awaitedCard}
 use Rattle.protocol.proofs.checks.ByCall.{Fits}
 use Rattle.protocol.proofs.checks.ValidDirectory.{valid-directory}
@@ -42,7 +42,9 @@ open-good marks pages m c passed opened =
 pub valid-rack : {d : Directory} {m : List ℕ} → Fits d m → ValidRack d m
 unfolding unfitRack
 valid-rack {d} {m} fits =
-    let cards = neither (unfitDirectory d) _ (fits .fit) .1 in
+    let live = neither (fewLive (d .live) (d .cards)) _ (fits .fit) in
+    let pages = neither (someBelow (badPage d) (d .pages)) _ (live .1) in
+    let cards = neither (badStatus (d .cards) (d .live) (d .status)) _ (pages .1) in
     let keeps = valid-directory d m (fits .fit) in
     record {
       within = within-limits _ _ _ (fits .limits);
@@ -52,7 +54,7 @@ valid-rack {d} {m} fits =
       next-below = λ c. next-live-below (d .live) (d .cards) c (keeps .up) (keeps .up-below) (keeps .up-live);
       awaited = λ awaits. keeps .awaited awaits .0;
       good = λ c below.
-          open-good (d .live) (d .pages) m c (none-below (badCard (d .live) (d .pages) m) _ cards c below);
+          open-good (d .live) (d .pages) m c (none-below (badCard (d .live) (d .pages) m) _ (cards .1) c below);
     }
 
 module _ (d : Directory) (m : List ℕ) where

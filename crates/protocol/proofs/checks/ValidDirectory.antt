@@ -8,8 +8,7 @@ use Rattle.directory.specs.declared.Directory.{Directory}
 use Rattle.directory.specs.declared.Status.{Status}
 use Rattle.directory.specs.declared.Status.the-variants.{Running, Awaiting}
 use Rattle.directory.specs.Directory.{liveAt, isLive, primaryOf, secondaryOf}
-use Rattle.protocol.specs.Checks.{fewLive, badHome, badPage, badStatus, unfitDirectory, unfitRack}
-use Rattle.protocol.specs.Checks.{awaitsRecovery}
+use Rattle.protocol.specs.Checks.{fewLive, badHome, badPage, badStatus, unfitRack, awaitsRecovery}
 use Rattle.protocol.specs.Recovery.{awaitedCard}
 
 pub record ValidDirectory (d : Directory) : Type 0 where
@@ -50,9 +49,9 @@ awaited-in cards marks (Awaiting f) passed awaits =
 pub valid-directory : (d : Directory) (m : List ℕ) → unfitRack d m ≡ false → ValidDirectory d
 unfolding unfitRack
 valid-directory d m fit =
-    let directory = neither (unfitDirectory d) _ fit .0 in
-    let live = neither (fewLive (d .live) (d .cards)) _ directory in
+    let live = neither (fewLive (d .live) (d .cards)) _ fit in
     let pages = neither (someBelow (badPage d) (d .pages)) _ (live .1) in
+    let cards = neither (badStatus (d .cards) (d .live) (d .status)) _ (pages .1) in
     let homes : (p : ℕ) → p < d .pages → (primaryOf d p < d .cards) × (secondaryOf d p < d .cards)
     = λ p below. homes-in d p (none-below (badPage d) _ (pages .0) p below)
     in
@@ -63,5 +62,5 @@ valid-directory d m fit =
       up = lowest (isLive d) (d .cards);
       up-below = found;
       up-live = lowest-stops (isLive d) 0 (d .cards) .hit (omega arith);
-      awaited = awaited-in (d .cards) (d .live) (d .status) (pages .1);
+      awaited = awaited-in (d .cards) (d .live) (d .status) (cards .0);
     }

@@ -7,8 +7,8 @@ use lib.ListN.{length}
 use Rattle.laws.proofs.Search.{Passed, passed-none, passed-more, some-found, none-found}
 use Rattle.memory.proofs.Index.{area-in}
 use Rattle.mover.specs.Move.{badCardAt}
-use Rattle.mover.proofs.refusals.bad_cards.Statement.{statement}
-use Rattle.mover.proofs.refusals.bad_cards.Tie as tie
+use Rattle.mover.proofs.unfit.bad_cards.Statement.{statement}
+use Rattle.mover.proofs.unfit.bad_cards.Tie as tie
 
 abbrev Inv-loop : tie.InvT-loop
 Inv-loop memory at live pages end card₀ card = Passed (badCardAt at live pages memory) end card

@@ -5,8 +5,8 @@ use native.Mathlib.Omega.{arith}
 use borrow.Author.Needs.{needs}
 use borrow.Author.Tests.{eq-eqb, ne-eqb, lt-ltb, le-ltb}
 use Rattle.area.specs.Prelude.{loadRun, listSize}
-use Rattle.mover.proofs.refusals.bad_card.Statement.{statement}
-use Rattle.mover.proofs.refusals.bad_card.Tie as tie
+use Rattle.mover.proofs.unfit.bad_card.Statement.{statement}
+use Rattle.mover.proofs.unfit.bad_card.Tie as tie
 
 returns : tie.Need-returns
 returns c =
