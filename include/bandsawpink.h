@@ -32,11 +32,15 @@
 **
 ** THE OLD FORM OF THE MEMORY
 **
-** Before, a number had 32 bits and took one word, and an area had 676 + 64 * pages words: the same
-** in the same order, the open release from 9 on, the record of card c at 20 + 18 * c, the list at
-** 164 and page p at 676 + 64 * p. rack_move_in takes a rack from a memory of this old form to one
-** of the form above, rack_move_back takes it back; one directory goes with both. All other calls
-** take the form above.
+** A library before this one had numbers of 32 bits, in one word each, and areas of 676 + 64 * pages
+** words: the same in the same order, the open release from 9 on, the record of card c at
+** 20 + 18 * c, the list at 164 and page p at 676 + 64 * p. rack_move_in takes a rack from a memory
+** of this old form to one of the form above, rack_move_back takes it back; one directory goes with
+** both. A move is from one memory into another, never in place.
+**
+** All other calls take the form above. A rack of the old form that awaits a recovery, or on which a
+** release is open, is not moved (refusals 11 and 15): the library that left it recovers it, or
+** closes the release, and it is moved then.
 **
 ** WHAT THE CALLER MUST SEE TO
 **
@@ -194,8 +198,8 @@ RACK_ASSERT(sizeof(size_t) == 8);
 #define RACK_NO_CARD 3      /* no such card, or a dead one; rack_join, rack_desk: no such card */
 #define RACK_RELEASE_OPEN 4 /* a release is open on the card */
 #define RACK_NUMBER_USED 5  /* the number is at or below the card's stamp, as that of a release sent
-                               twice; each number is at the stamp 18446744073709551615, the
-                               greatest. Place: the stamp */
+                               twice; at the stamp 18446744073709551615, the greatest, every number
+                               is. Place: the stamp */
 #define RACK_NUMBER_AHEAD 6 /* the number is above the card's stamp + 1 */
 #define RACK_FAULTY_LIST 7  /* the list breaks a rule (THE LIST OF CHANGES, below). Place: the
                                lowest that applies of the first word that breaks one, the length
@@ -219,7 +223,7 @@ RACK_ASSERT(sizeof(size_t) == 8);
 #define RACK_CARD_LIVE 14        /* a join of a live card */
 #define RACK_JOIN_WHILE_OPEN 15  /* a join while a release is open on a live card; a move is refused
                                     likewise */
-#define RACK_NUMBER_TOO_HIGH 20  /* rack_move_back: a stamp or a done mark on a live card is above
+#define RACK_STAMP_TOO_HIGH 20   /* rack_move_back: a stamp or a done mark on a live card is above
                                     4294967295, for which the old form has no room */
 
 /*
@@ -334,8 +338,8 @@ rack_desk_answer rack_desk(const uint32_t *memory, size_t words, const rack_dire
 /*
 ** Moves a rack from an old memory, of RACK_OLD_MEMORY_WORDS(cards, pages) words, into a memory of
 ** RACK_MEMORY_WORDS(cards, pages), all of which it writes. The high word of each number is 0 there,
-** on dead cards too. The old memory is kept. Gives 0. Refusals: 1, 2, 11, 15; 1 is for the length
-** of either memory, 2 and 15 for what stands in the old one.
+** on dead cards too. The old memory is kept. Gives 0. Refusals: 1, 2, 11, 15; of these, 1 looks at
+** the length of both memories, and 2 and 15 read the one that is moved.
 */
 rack_answer rack_move_in(const uint32_t *old_memory, size_t old_words,
                          const rack_directory *directory, uint32_t *memory, size_t words);
@@ -345,7 +349,8 @@ rack_answer rack_move_in(const uint32_t *old_memory, size_t old_words,
 ** a live card that of its stamp, and those of the stamps and done marks of all eight records, must
 ** be 0 (refusal 20); on a dead card, and in the number of a release, they may be any. After
 ** rack_move_in it gives each word of the old memory again. The memory that is moved is kept. Gives
-** 0. Refusals: 1, 2, 11, 15, 20; 1 is for the length of either memory.
+** 0. Refusals: 1, 2, 11, 15, 20; of these, 1 looks at the length of both memories, and 2, 15 and 20
+** read the one that is moved.
 */
 rack_answer rack_move_back(const uint32_t *memory, size_t words, const rack_directory *directory,
                            uint32_t *old_memory, size_t old_words);

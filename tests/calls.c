@@ -351,11 +351,11 @@ static void large_numbers(void) {
     EXPECT(memcmp(record + 4, desk, sizeof desk) == 0); /* the even desk */
     EXPECT(memory[AREA + STAMP] == 0 && memory[AREA + STAMP + 1] == 1);
     REFUSED(open_numbered(4294967296), RACK_NUMBER_USED, 4294967296);
-    REFUSED(move_back(), RACK_NUMBER_TOO_HIGH, 0);
+    REFUSED(move_back(), RACK_STAMP_TOO_HIGH, 0);
     ACCEPTED(rack_fail(memory, WORDS, &directory, 1));
     rack_desk_answer found = rack_recover(memory, WORDS, &directory);
     EXPECT(found.number == RACK_ACCEPTED && found.value == 4294967296 && memcmp(found.desk, desk, sizeof desk) == 0);
-    REFUSED(move_back(), RACK_NUMBER_TOO_HIGH, 0); /* for its records, which are on live cards */
+    REFUSED(move_back(), RACK_STAMP_TOO_HIGH, 0); /* for its records, which are on live cards */
 
     const uint64_t numbers[] = { 0, 1, 4294967295, 4294967296, UINT64_MAX };
     format_with_last(UINT64_MAX);
@@ -439,7 +439,7 @@ static void high_words(void) {
         for (int card = 0; card < CARDS; card++) {
             format();
             memory[card * AREA + refused[at]] = 1;
-            REFUSED(move_back(), RACK_NUMBER_TOO_HIGH, 0);
+            REFUSED(move_back(), RACK_STAMP_TOO_HIGH, 0);
         }
     format();
     memory[AREA + NUMBER] = 6;

@@ -64,7 +64,9 @@ impl Rack {
     }
 
     /// The rack of a memory in the old form, whose numbers have one word, and of its directory. Refused
-    /// if a recovery is awaited or a release open.
+    /// if cards or pages are outside their limits, if the memory is not of [`old_memory_words`], if
+    /// memory and directory do not make a rack, if a recovery is awaited or a release open: the library
+    /// that left such a rack recovers it, or closes the release, before it is moved.
     ///
     /// ```
     /// use bandsawpink::{old_memory_words, Directory, Rack, Refusal};

@@ -39,7 +39,7 @@ pub enum Refusal {
     /// A buffer of the wrong length, or a list over 512 words.
     WrongBuffer,
     /// A stamp or a done mark on a live card is above 4294967295, for which the old form has no room.
-    NumberTooHigh,
+    StampTooHigh,
 }
 
 impl Refusal {
@@ -64,7 +64,7 @@ impl Refusal {
             refusals::JOIN_WHILE_OPEN => Refusal::JoinWhileOpen,
             refusals::NONE_OPEN => Refusal::NoneOpen,
             refusals::WRONG_BUFFER => Refusal::WrongBuffer,
-            refusals::NUMBER_TOO_HIGH => Refusal::NumberTooHigh,
+            refusals::STAMP_TOO_HIGH => Refusal::StampTooHigh,
             _ => unreachable!("no call answers the number {number}"),
         })
     }
@@ -89,7 +89,7 @@ impl Refusal {
             Refusal::JoinWhileOpen => refusals::JOIN_WHILE_OPEN,
             Refusal::NoneOpen => refusals::NONE_OPEN,
             Refusal::WrongBuffer => refusals::WRONG_BUFFER,
-            Refusal::NumberTooHigh => refusals::NUMBER_TOO_HIGH,
+            Refusal::StampTooHigh => refusals::STAMP_TOO_HIGH,
         }
     }
 
@@ -136,7 +136,7 @@ impl fmt::Display for Refusal {
             Refusal::WrongBuffer => {
                 write!(f, "the buffer does not fit, or the list is over 512 words")
             }
-            Refusal::NumberTooHigh => {
+            Refusal::StampTooHigh => {
                 write!(f, "a stamp or done mark is above 4294967295: the old form has no room for it")
             }
         }

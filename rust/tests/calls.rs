@@ -184,7 +184,7 @@ fn a_number_of_two_words() {
     assert_eq!(refused(&mut rack, |r| r.open(1, u64::MAX, &DESK, &LIST)), Refusal::NumberAhead);
     assert_eq!(rack.release(1, 4_294_967_296, &DESK, &LIST), Ok(19));
     assert_eq!(refused(&mut rack, |r| r.open(1, 4_294_967_296, &DESK, &LIST)), used(4_294_967_296));
-    assert_eq!(refused(&mut rack, |r| r.to_old()), Refusal::NumberTooHigh);
+    assert_eq!(refused(&mut rack, |r| r.to_old()), Refusal::StampTooHigh);
     assert_eq!(rack.release(1, 4_294_967_297, &DESK, &LIST), Ok(19));
 }
 
@@ -192,7 +192,7 @@ fn a_number_of_two_words() {
 fn a_card_fails_between_numbers_of_one_word_and_two() {
     let rows = [
         (12, Recovered { stamp: 4_294_967_295, desk: [0; 8] }, None),
-        (13, Recovered { stamp: 4_294_967_296, desk: DESK }, Some(Refusal::NumberTooHigh)),
+        (13, Recovered { stamp: 4_294_967_296, desk: DESK }, Some(Refusal::StampTooHigh)),
     ];
     for (steps, found, refusal) in rows {
         let mut rack = with_last(4_294_967_295);
@@ -271,5 +271,5 @@ fn a_refusal_has_a_number_a_place_and_a_sentence() {
     let refusal = Refusal::NumberUsed { stamp: 7 };
     assert_eq!((refusal.number(), refusal.place()), (5, 7));
     assert_eq!(refusal.to_string(), "the release's number is used: the card's last is 7");
-    assert_eq!((Refusal::NumberTooHigh.number(), Refusal::NumberTooHigh.place()), (20, 0));
+    assert_eq!((Refusal::StampTooHigh.number(), Refusal::StampTooHigh.place()), (20, 0));
 }

@@ -26,4 +26,4 @@ pub const NONE_AWAITED: u32 = 12;
 pub const TWO_LIVE: u32 = 13;
 pub const CARD_LIVE: u32 = 14;
 pub const JOIN_WHILE_OPEN: u32 = 15;
-pub const NUMBER_TOO_HIGH: u32 = 20;
+pub const STAMP_TOO_HIGH: u32 = 20;

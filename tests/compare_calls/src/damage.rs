@@ -108,8 +108,8 @@ fn area_of(directory: &Directory) -> usize {
     area_words(bounded_pages(directory))
 }
 
-/// A few numbers at the edges of one word and of two: own stamps, releases' numbers, and stamps and done marks in any of
-/// the eight records, also past the number of cards.
+/// A few numbers at the edges of one word and of two: own stamps, releases' numbers, and stamps and done marks in any
+/// of the eight records, also past the number of cards.
 pub fn put_numbers(random: &mut Random, memory: &mut [u32], directory: &Directory) {
     for _ in 0..random.within(1, 3) {
         let (card, record) = (random.below(directory.cards.clamp(1, 8)), random.below(8));

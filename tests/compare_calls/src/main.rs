@@ -76,8 +76,8 @@ fn compare(options: &Options) -> Result<String, String> {
     }
     let swept = sweep::compare()?;
     Ok(format!(
-        "{swept} swept and {played} played with the book, {damaged} on damaged racks, {moved} moves, {made} lists made, \
-         each flush left and flush right: all equal (seed {})\n\
+        "{swept} swept and {played} played with the book, {damaged} on damaged racks, {moved} moves, {made} lists \
+         made, each flush left and flush right: all equal (seed {})\n\
          compare_calls: {seen}",
         options.seed
     ))

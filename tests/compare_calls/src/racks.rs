@@ -92,10 +92,11 @@ fn brief(shown: &impl Debug) -> String {
     text
 }
 
+/// The first word that differs, or that only one of both has.
 fn first_difference(words: &[u32], expected: &[u32]) -> Option<usize> {
     match words == expected {
         true => None,
-        false => (0..words.len()).find(|&at| words[at] != expected[at]),
+        false => (0..words.len().max(expected.len())).find(|&at| words.get(at) != expected.get(at)),
     }
 }
 

@@ -15,7 +15,7 @@ struct Kind {
     holds: fn(&Call) -> bool,
     /// The numbers that must be among the answers.
     needed: Vec<u32>,
-    answers: [u64; NUMBER_TOO_HIGH as usize + 1],
+    answers: [u64; STAMP_TOO_HIGH as usize + 1],
 }
 
 impl Kind {
@@ -35,7 +35,7 @@ impl Seen {
     pub fn new() -> Self {
         let of_opening = [ACCEPTED, NUMBER_USED, NUMBER_AHEAD];
         let of_move_in = [ACCEPTED, LIMITS, UNFIT, RECOVERY_AWAITED, JOIN_WHILE_OPEN];
-        let of_move_back = of_move_in.into_iter().chain([NUMBER_TOO_HIGH]);
+        let of_move_back = of_move_in.into_iter().chain([STAMP_TOO_HIGH]);
         Self(vec![
             Kind::new("calls", LIMITS..=WRONG_BUFFER, |call| {
                 !matches!(call, Call::MoveIn { .. } | Call::MoveBack { .. })

@@ -40,8 +40,9 @@ pub fn compare() -> Result<u64, String> {
 }
 
 impl<'a> Swept<'a> {
-    /// Both cards have made a release after the last number, so that their stamps and desks are not those of a formatted
-    /// rack. The release that is swept has the second number after it, the one after a recovery at most the third.
+    /// Both cards have made a release after the last number, so that their stamps and desks are not those of a
+    /// formatted rack. The release that is swept has the second number after it, the one after a recovery at most the
+    /// third.
     fn new(
         cards: u32,
         pages: u32,

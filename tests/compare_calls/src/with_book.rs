@@ -28,8 +28,8 @@ impl WithBook {
         }
     }
 
-    /// Gives a card of a newly formatted rack a last release, of no price: in its area, in its record on its backup, and in
-    /// the book, where it takes 11 steps.
+    /// Gives a card of a newly formatted rack a last release, of no price: in its area, in its record on its backup,
+    /// and in the book, where it takes 11 steps.
     pub fn set_last(&mut self, card: u32, number: Number, desk: Desk) {
         let (pages, backup) = (self.racks.directory.pages, (card + 1) % self.racks.directory.cards);
         self.racks.change(|memory| {

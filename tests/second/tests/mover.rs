@@ -240,12 +240,6 @@ fn await_card_1(rack: &mut Rack) {
     rack.directory.status = Status::Awaiting(1);
 }
 
-fn open_on_2(rack: &mut Rack, list: &[u32], steps: u32) {
-    rack.set(2, OPEN, 1);
-    rack.set(2, STEPS, steps);
-    rack.set_list(2, list);
-}
-
 fn make_high(rack: &mut Rack) {
     rack.set_stamp(0, 4_294_967_296);
 }
@@ -261,7 +255,7 @@ fn refusal_1_by_limits() {
 #[test]
 fn refusal_1_by_lengths() {
     let mut rack = released_rack();
-    open_on_2(&mut rack, &[0], 0);
+    rack.set_open(2, &[0], 0);
     make_high(&mut rack);
     await_card_1(&mut rack);
     let old = in_old_form(&rack.memory, &rack.directory);
@@ -288,13 +282,12 @@ fn refusal_2() {
     both_refuse(2, |rack| rack.directory.secondary[0] = rack.directory.primary[0]);
     both_refuse(2, |rack| rack.directory.live[1] = false);
     both_refuse(2, |rack| rack.directory.status = Status::Awaiting(1));
-    both_refuse(2, |rack| open_on_2(rack, &[0], 0));
-    both_refuse(2, |rack| open_on_2(rack, &list_of(&[(4, 0, 1)]), 0));
-    both_refuse(2, |rack| open_on_2(rack, &two_prices(), 19));
+    both_refuse(2, |rack| rack.set_open(2, &[0], 0));
+    both_refuse(2, |rack| rack.set_open(2, &list_of(&[(4, 0, 1)]), 0));
+    both_refuse(2, |rack| rack.set_open(2, &two_prices(), 19));
     both_refuse(2, |rack| {
-        open_on_2(rack, &two_prices(), 19);
-        rack.set(0, OPEN, 1);
-        rack.set_list(0, &[0xF000_0000]);
+        rack.set_open(2, &two_prices(), 19);
+        rack.set_open(0, &[0xF000_0000], 0);
         make_high(rack);
         await_card_1(rack);
     });
@@ -323,7 +316,7 @@ fn refusal_11() {
         await_card_1(rack);
     });
     both_refuse(11, |rack| {
-        open_on_2(rack, &two_prices(), 18);
+        rack.set_open(2, &two_prices(), 18);
         make_high(rack);
         await_card_1(rack);
     });
@@ -333,15 +326,15 @@ fn refusal_11() {
 #[test]
 fn refusal_15() {
     for steps in [0, 12, 13, 18] {
-        both_refuse(15, |rack| open_on_2(rack, &two_prices(), steps));
+        both_refuse(15, |rack| rack.set_open(2, &two_prices(), steps));
     }
     both_refuse(15, |rack| {
-        open_on_2(rack, &[0xF000_0000], 10);
+        rack.set_open(2, &[0xF000_0000], 10);
         make_high(rack);
     });
     let mut rack = released_rack();
     assert_eq!((rack.fail(2), rack.recover().0), (OK, OK));
-    open_on_2(&mut rack, &two_prices(), 5);
+    rack.set_open(2, &two_prices(), 5);
     let (answer, old) = moved_back(&rack.memory, &rack.directory);
     assert_eq!((answer, moved_in(&old, &rack.directory)), (OK, (OK, rack.memory)));
 }

@@ -4,7 +4,7 @@
 mod common;
 
 use common::{list_of, refused, refused_at, Rack, OK};
-use second::layout::{memory_words, Number, LIST_WORDS, OPEN, STEPS};
+use second::layout::{memory_words, Number, LIST_WORDS, OPEN};
 use second::*;
 
 const NO_DESK: [u32; 8] = [0; 8];
@@ -60,10 +60,10 @@ fn refusal_2() {
     // and with more steps than it has.
     all_refuse(2, |rack| rack.set(3, OPEN, 1));
     let endless: [u32; LIST_WORDS] = std::array::from_fn(|word| 0x1000_0000 + word as u32);
-    all_refuse(2, |rack| open_on_3(rack, &endless, 0));
-    all_refuse(2, |rack| open_on_3(rack, &list_of(&[(3, 1, 5)]), 0));
-    all_refuse(2, |rack| open_on_3(rack, &[0xF000_0000], 11));
-    all_refuse(2, |rack| open_on_3(rack, &list_of(&[(0, 1, 5)]), 15));
+    all_refuse(2, |rack| rack.set_open(3, &endless, 0));
+    all_refuse(2, |rack| rack.set_open(3, &list_of(&[(3, 1, 5)]), 0));
+    all_refuse(2, |rack| rack.set_open(3, &[0xF000_0000], 11));
+    all_refuse(2, |rack| rack.set_open(3, &list_of(&[(0, 1, 5)]), 15));
     // One live card, with its pages' other homes on the awaited one.
     all_refuse(2, |rack| {
         rack.directory.live = [true, false, false, false, true, true, true, true];
@@ -79,17 +79,11 @@ fn refusal_2() {
     });
 }
 
-fn open_on_3(rack: &mut Rack, list: &[u32], steps: u32) {
-    rack.set(3, OPEN, 1);
-    rack.set(3, STEPS, steps);
-    rack.set_list(3, list);
-}
-
 #[test]
 fn what_is_not_refused_by_2() {
     let mut rack = Rack::new(4, 3);
     // The last step is still to come; words after the end word do not matter.
-    open_on_3(&mut rack, &[0xF000_0000, 0, 1, 2], 10);
+    rack.set_open(3, &[0xF000_0000, 0, 1, 2], 10);
     assert_eq!(rack.clone().step(3), OK);
     assert_eq!(rack.ask(0), (OK, NO_DESK));
     // A dead card's area, homes without order, marks and homes past the rack.

@@ -7,8 +7,8 @@ pub mod racks;
 
 use random::Random;
 use second::layout::{
-    area_at, done_mark_at, memory_words, number_at, put_desk, put_number, stamp_at, Desk, Number, LIST, OWN_STAMP,
-    PAGE_WORDS,
+    area_at, done_mark_at, memory_words, number_at, put_desk, put_number, stamp_at, Desk, Number, LIST, OPEN,
+    OWN_STAMP, PAGE_WORDS, STEPS,
 };
 use second::*;
 
@@ -55,6 +55,14 @@ impl Rack {
     pub fn set_list(&mut self, card: u32, list: &[u32]) {
         let at = self.at(card, LIST);
         self.memory[at..at + list.len()].copy_from_slice(list);
+    }
+
+    /// Has a release open on a card, with this list and so many steps made; its number and
+    /// its desk stay as they are.
+    pub fn set_open(&mut self, card: u32, list: &[u32], steps: u32) {
+        self.set(card, OPEN, 1);
+        self.set(card, STEPS, steps);
+        self.set_list(card, list);
     }
 
     pub fn stamp(&self, card: u32) -> Number {
