@@ -110,5 +110,5 @@ abbrev pub unreadable : ℕ
 unreadable = 18
 
 -- Document 02, request 5: moving back with a stamp or done mark above 4294967295 on a live card's area.
-abbrev pub numberTooHigh : ℕ
-numberTooHigh = 20
+abbrev pub stampTooHigh : ℕ
+stampTooHigh = 20

@@ -40,7 +40,7 @@ pub const WRONG_BUFFER: u32 = 17;
 pub const UNREADABLE: u32 = 18;
 
 // Document 02.
-pub const NUMBER_TOO_HIGH: u32 = 20;
+pub const STAMP_TOO_HIGH: u32 = 20;
 
 // What a call came to, in document 01's numbers.
 pub struct Outcome {

@@ -1,6 +1,6 @@
 -- Where things stand in a card's area (document 01, "Cards, pages, memory", the table of words). Each row starts where
 -- the row before it ends, so that a size is written once. src/layout.rt has the same table. Numbers take two words since
--- document 02, request 5; `old` (crate mover) has the table of before.
+-- document 02, request 5; `mover`, specs/Forms.antt, has the table of before.
 -- Assumes nothing: these are definitions.
 use Rattle.laws.specs.Prelude.{ℕ, _+_, _*_, _%_}
 

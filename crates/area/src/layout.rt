@@ -1,5 +1,5 @@
-// Where things stand in a card's area: document 01's table of words, each row from the row before
-// it. specs/Layout.antt has the same table.
+// Where things stand in a card's area: document 01's table of words, with numbers of two words, each
+// row from the row before it. specs/Layout.antt has the same table.
 ghost use Rattle.laws.specs.Prelude.{_≡_, _<_, _≤_};
 ghost use Rattle.area.specs.Layout.{areaSize, deskInRecord, recordAt, recordStamp, recordDone};
 ghost use Rattle.area.specs.Layout.{recordDesk, pageAt};

@@ -8,7 +8,7 @@ use Rattle.area.proofs.Prelude.{getD-load-run, length-load-run, load-run-is}
 use Rattle.mover.specs.Forms.{newForm, areaSizeIn, recordSizeIn, recordDoneIn, ownDeskIn}
 use Rattle.mover.specs.Forms.{releaseDeskIn, recordDesksIn, listStartIn, pageIn}
 use Rattle.mover.specs.Fields.{Field, number, words, areaFields, rackFields, fieldsSize, moved}
-use Rattle.mover.specs.Areas.{SameArea, HighWordsOf}
+use Rattle.mover.specs.Areas.{SameArea, NoHighWords}
 use Rattle.mover.proofs.FieldWords.{size-append, rack-fields, length-moved}
 use Rattle.mover.proofs.Reading.{number-at, word-at, high-at}
 use Rattle.mover.proofs.Parts.{ahead, rest, record-split, record-place, lists-split}
@@ -123,12 +123,13 @@ module _ (from to cards pages : ℕ) (ws : List ℕ) (some : 1 ≤ to) (long : l
 -- "Going in, every high word is 0"
 module _ (from cards pages : ℕ) (ws : List ℕ) (long : length ws ≡ cards * areaSizeIn from pages) (c : ℕ)
     (real : c < cards) where
-  high-in : (pre post : List Field) → areaFields pages ≡ pre ++ (number ∷ post) → (o : ℕ) → o ≡ fieldsSize newForm pre + 1
+  high-in : (pre post : List Field) → areaFields pages ≡ pre ++ (number ∷ post) → (o : ℕ)
+      → o ≡ fieldsSize newForm pre + 1
       → load (areaSizeIn newForm pages) (moved from newForm (rackFields cards pages) ws) c o ≡ 0
   high-in pre post split =
       high-at from newForm cards pages ws (omega arith) long c real pre (number ∷ post) split refl post refl
 
-  pub high-words : HighWordsOf pages (moved from newForm (rackFields cards pages) ws) c 0
+  pub high-words : NoHighWords pages (moved from newForm (rackFields cards pages) ws) c
   high-words =
       record {
         own-stamp = high-in [] _ refl _ refl;

@@ -21,16 +21,18 @@ use Rattle.protocol.specs.Recovery.{recoveredMemory, awaitedCard}
 use Rattle.protocol.specs.Examples.Racks.{smallMemory}
 use Rattle.mover.specs.Fields.{repeated, moved}
 use Rattle.mover.specs.Move.{highRecord, highArea, moveIn, moveBack}
-use Rattle.mover.specs.Examples.{atHighest, opened, stepped, closed, recovered, cleared, clearedBack, examples}
+use Rattle.mover.specs.Examples.{usedIn, atHighest, opened, stepped, closed, recovered, cleared, clearedBack}
+use Rattle.mover.specs.Examples.{examples}
 
 pub examples-hold : AllHold examples
 unfolding sameWords failuresFrom Claims numberWords numberAt lowestFrom countBelow inTurn load store loadRun overwrite
     storeRun clearRun copyRun zeros formattedDirectory tableFrom nextLive pricesOf pricesFrom names readFrom wordStep
     checkDiff ownRelease openRelease openList stepsOf isOpen releaseWrites makeWrite close stepMemory recordedRelease
     underWay settledRecord writeRecord writeOwnRecord firstRefusal outsideLimits fewLive badHome badPage badStatus
-    badRelease badCard unfitRack awaitsRecovery shareWord sharesWith openMemory opening step failure stepTimes runToClose
+    badRelease badCard unfitRack awaitsRecovery shareWord sharesWith openMemory opening step failure stepTimes
+    runToClose
     closeReleases restoreHome restorePage restorePages lostHome keptHome newHome copyToNewHome copyToNewHomes moveHome
     recoveredDirectory writeFailed writeRecords failedRelease restoredMemory recoveredMemory awaitedCard recovery
-    smallMemory repeated moved highRecord highArea moveIn moveBack atHighest opened stepped closed recovered cleared
+    smallMemory repeated moved highRecord highArea moveIn moveBack usedIn atHighest opened stepped closed recovered cleared
     clearedBack
 examples-hold = all-hold examples refl tt

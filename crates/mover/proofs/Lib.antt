@@ -11,5 +11,6 @@ pub mod MovedIn
 pub mod Saying
 pub mod Answering
 pub mod Returned
+pub mod KeptNumbers
 pub mod Theorems
 pub mod Examples

@@ -14,7 +14,7 @@ use Rattle.protocol.proofs.checks.ByCall.{Runs, runs-by}
 use Rattle.rack.proofs.Results.{resultIs}
 use Rattle.mover.specs.Forms.{oldForm, newForm, areaSizeIn, placesIn}
 use Rattle.mover.specs.Fields.{rackFields}
-use Rattle.mover.specs.Areas.{SameArea, HighWordsOf}
+use Rattle.mover.specs.Areas.{SameArea, NoHighWords}
 use Rattle.mover.specs.Move.{badCardAt, openAt, movedIn, moveInChecks, moveIn}
 use Rattle.mover.proofs.FieldWords.{rack-fields, length-moved}
 use Rattle.mover.proofs.Limits.{old-length, new-length}
@@ -48,7 +48,7 @@ module _ (d : Directory) (old new : List ℕ) (ok : accepted (moveIn d old new .
   pub area-same : (c : ℕ) → c < d .cards → SameArea oldForm newForm (d .pages) old m c
   area-same = same-area oldForm newForm (d .cards) (d .pages) old (omega arith) old-words
 
-  pub area-high : (c : ℕ) → c < d .cards → HighWordsOf (d .pages) m c 0
+  pub area-high : (c : ℕ) → c < d .cards → NoHighWords (d .pages) m c
   area-high = high-words oldForm (d .cards) (d .pages) old old-words
 
   -- ---- checks 1, 2, 11 and 15 in the new form

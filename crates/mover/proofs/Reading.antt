@@ -9,7 +9,8 @@ use Rattle.laws.proofs.Lists.{getD-right}
 use Rattle.area.specs.Prelude.{load, zeros}
 use Rattle.mover.specs.Forms.{areaSizeIn}
 use Rattle.mover.specs.Fields.{Field, number, words, repeated, areaFields, rackFields, fieldsSize, moved}
-use Rattle.mover.proofs.FieldWords.{size-append, size-repeated, area-fields, repeated-split, moved-append, length-moved}
+use Rattle.mover.proofs.FieldWords.{size-append, size-repeated, area-fields, repeated-split, moved-append}
+use Rattle.mover.proofs.FieldWords.{length-moved}
 
 module _ (from to cards pages : ℕ) (ws : List ℕ) (some : 1 ≤ to) (long : length ws ≡ cards * areaSizeIn from pages)
     (c : ℕ) (real : c < cards) where

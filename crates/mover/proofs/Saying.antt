@@ -3,15 +3,15 @@ use Rattle.laws.proofs.Prelude.{ℕ, _+_, _*_, _%_, _<_, _≤_, _≡_, sym, ap,
 use Rattle.laws.proofs.Prelude.{arith, length, getD}
 use Rattle.directory.specs.declared.Directory.{Directory}
 use Rattle.memory.proofs.Index.{area-in}
-use Rattle.area.specs.Prelude.{AreaIn, load, loadRun, numberAt, loadNumber, deskSize, recordCount, ownRelease, openRelease}
-use Rattle.area.specs.Prelude.{recordedRelease, underWay, recordStamp, recordDone, recordDesk}
+use Rattle.area.specs.Prelude.{AreaIn, load, loadRun, numberAt, loadNumber, deskSize, recordCount, ownRelease}
+use Rattle.area.specs.Prelude.{openRelease, recordedRelease, underWay, recordStamp, recordDone, recordDesk, ownStamp}
+use Rattle.area.specs.Prelude.{releaseNumber}
 use Rattle.area.proofs.Prelude.{getD-load-run, length-load-run, load-run-is}
-use Rattle.area.specs.Prelude.{ownStamp, releaseNumber}
 use Rattle.protocol.specs.Release.{sizeOf}
 use Rattle.protocol.specs.Result.{accepted}
 use Rattle.protocol.proofs.checks.Limits.{within-limits}
 use Rattle.mover.specs.Forms.{oldForm, newForm, areaSizeIn, recordIn, recordDoneIn, recordDesksIn}
-use Rattle.mover.specs.Areas.{SameArea, HighWordsOf, oldOwn, oldOpen, oldRecorded, oldUnderWay}
+use Rattle.mover.specs.Areas.{SameArea, NoHighWords, oldOwn, oldOpen, oldRecorded, oldUnderWay}
 use Rattle.mover.specs.Move.{movedIn, moveIn}
 use Rattle.mover.proofs.MovedIn.{old-words, inside, area-same, area-high}
 
@@ -49,7 +49,7 @@ module _ (d : Directory) (old new : List ℕ) (ok : accepted (moveIn d old new .
     abbrev same : SameArea oldForm newForm (d .pages) old m c
     same = area-same d old new ok c real
 
-    abbrev high : HighWordsOf (d .pages) m c 0
+    abbrev high : NoHighWords (d .pages) m c
     high = area-high d old new ok c real
 
     pub own-stamp-same : loadNumber (sizeOf d) m c ownStamp ≡ load size old c ownStamp
@@ -79,7 +79,8 @@ module _ (d : Directory) (old new : List ℕ) (ok : accepted (moveIn d old new .
           area-in _ real (within-limits _ _ _ (inside d old new ok) .whole) in
           let there : AreaIn (length old) size c = area-in _ real (old-words d old new ok) in
           ap (λ o. loadRun (sizeOf d) m c o deskSize) (at number)
-          ∙ part-same (sizeOf d) size m old c (recordDesksIn newForm k) (recordDesksIn oldForm k) (2 * deskSize) here there
+          ∙ part-same (sizeOf d) size m old c (recordDesksIn newForm k) (recordDesksIn oldForm k) (2 * deskSize) here
+          there
           (omega arith) (omega arith) (same .record-desks k few) (deskSize * (number % 2)) deskSize (omega arith)
         where
           at : (number : ℕ) → recordDesk k number ≡ recordDesksIn newForm k + deskSize * (number % 2)

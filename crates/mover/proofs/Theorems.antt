@@ -7,7 +7,7 @@ use Rattle.mover.specs.Forms.{oldForm, newForm}
 use Rattle.mover.specs.Areas.{SameArea}
 use Rattle.mover.specs.Move.{movedBack, moveIn, moveBack, moveInChecks, moveBackChecks}
 use Rattle.mover.specs.Theorems.{MovedBackIsOld, HighWordsZero, SaysWhatOldSaid, LowWordsKept, RefusedMoves}
-use Rattle.mover.specs.Theorems.{NewFormIsLayout}
+use Rattle.mover.specs.Theorems.{NumbersKept, NewFormIsLayout}
 use Rattle.mover.proofs.Limits.{new-length}
 use Rattle.mover.proofs.Results.{accepted-move}
 use Rattle.mover.proofs.Areas.{same-area}
@@ -15,6 +15,7 @@ use Rattle.mover.proofs.MovedIn.{leaves, area-same, area-high, inside, 
 use Rattle.mover.proofs.Saying.{own-same, open-same, recorded-same, under-way-same}
 use Rattle.mover.proofs.Answering.{fetched-same, asked-same}
 use Rattle.mover.proofs.Returned.{returned}
+use Rattle.mover.proofs.KeptNumbers.{same-numbers}
 
 -- ---- there and back
 
@@ -62,6 +63,16 @@ kept-back d new old ok c real =
 
 pub low-words-kept : LowWordsKept
 low-words-kept = record { kept = kept-back }
+
+pub numbers-kept : NumbersKept
+unfolding moveBack
+numbers-kept =
+    record {
+      kept = λ d new old ok c real live.
+          let took = accepted-move (moveBackChecks d new old) d (movedBack d new) old refl ok in
+          same-numbers d new (moveBack d new old .memory) (took .0 .1 .1 .1 .1 .0) c real live
+          (kept-back d new old ok c real);
+    }
 
 -- ---- refusals
 

@@ -3,8 +3,8 @@
 use Rattle.laws.specs.Prelude.{ℕ, _+_, _*_, _%_, _<_, _≡_, List, Bool, true, false, cond, eqb}
 use Rattle.directory.specs.declared.Directory.{Directory}
 use Rattle.directory.specs.Directory.{isLive, nextLiveOf}
-use Rattle.area.specs.Prelude.{load, loadRun, deskSize, ownStamp, recordCount, listSize, storedPageSize, Release}
-use Rattle.area.specs.Prelude.{releaseOf}
+use Rattle.area.specs.Prelude.{load, loadRun, loadNumber, deskSize, ownStamp, recordCount, recordStamp, recordDone}
+use Rattle.area.specs.Prelude.{listSize, storedPageSize, areaSize, Release, releaseOf}
 use Rattle.mover.specs.Forms.{oldForm, newForm, ownDeskIn, openFlagIn, stepsMadeIn, releaseNumberIn, releaseDeskIn}
 use Rattle.mover.specs.Forms.{recordIn, recordDoneIn, recordDesksIn, listStartIn, pageIn, areaSizeIn}
 
@@ -40,12 +40,22 @@ pub record SameArea (from to pages : ℕ) (source target : List ℕ) (c : ℕ) :
       (p : ℕ) → p < pages
       → wordsIn to pages target c (pageIn to p) storedPageSize ≡ wordsIn from pages source c (pageIn from p) storedPageSize
 
--- the high words of an area in the new form
-pub record HighWordsOf (pages : ℕ) (m : List ℕ) (c value : ℕ) : Type 0 where
-  pub own-stamp : wordIn newForm pages m c (ownStamp + 1) ≡ value
-  pub release-number : wordIn newForm pages m c (releaseNumberIn newForm + 1) ≡ value
-  pub record-stamp : (k : ℕ) → k < recordCount → wordIn newForm pages m c (recordIn newForm k + 1) ≡ value
-  pub record-done : (k : ℕ) → k < recordCount → wordIn newForm pages m c (recordDoneIn newForm k + 1) ≡ value
+-- the high words of an area in the new form are 0
+pub record NoHighWords (pages : ℕ) (m : List ℕ) (c : ℕ) : Type 0 where
+  pub own-stamp : wordIn newForm pages m c (ownStamp + 1) ≡ 0
+  pub release-number : wordIn newForm pages m c (releaseNumberIn newForm + 1) ≡ 0
+  pub record-stamp : (k : ℕ) → k < recordCount → wordIn newForm pages m c (recordIn newForm k + 1) ≡ 0
+  pub record-done : (k : ℕ) → k < recordCount → wordIn newForm pages m c (recordDoneIn newForm k + 1) ≡ 0
+
+-- the numbers of an area that refusal 20 looks at have in the old form, in one word, what they have in the new
+pub record SameNumbers (pages : ℕ) (new old : List ℕ) (c : ℕ) : Type 0 where
+  pub own-stamp : wordIn oldForm pages old c ownStamp ≡ loadNumber (areaSize pages) new c ownStamp
+  pub record-stamp :
+      (k : ℕ) → k < recordCount
+      → wordIn oldForm pages old c (recordIn oldForm k) ≡ loadNumber (areaSize pages) new c (recordStamp k)
+  pub record-done :
+      (k : ℕ) → k < recordCount
+      → wordIn oldForm pages old c (recordDoneIn oldForm k) ≡ loadNumber (areaSize pages) new c (recordDone k)
 
 -- ---- what an area of the old form says, in which a number is one word (document 01)
 

@@ -39,12 +39,27 @@ onePrice = 0x10000000 ∷ 0x20040001 ∷ 7 ∷ 0xF0000003 ∷ []
 abbrev pub comesIn : Directory → List ℕ → List ℕ
 comesIn d old = outcomeOf (moveIn d old (replicate 2274 7))
 
+-- each area's words are their offsets, but for the mark of an open release, which is 0: what has been released before is
+-- left in stamps, desks, records, list and pages
+abbrev pub usedArea : List ℕ
+usedArea = numbersFrom 0 9 ++ 0 ∷ numbersFrom 10 730
+
+abbrev pub oldUsed : List ℕ
+oldUsed = usedArea ++ usedArea ++ usedArea
+
 -- a memory of the new form, with words of a card set
 abbrev pub newWith : ℕ → ℕ → List ℕ → List ℕ
 newWith card offset vs = storeRun 758 smallMemory card offset vs
 
 abbrev pub comesBack : Directory → List ℕ → List ℕ
 comesBack d new = outcomeOf (moveBack d new (replicate 2220 7))
+
+-- the memory that was used, moved in; and one of its areas
+unfoldable pub usedIn : List ℕ
+usedIn = moveIn smallRack oldUsed (replicate 2274 7) .memory
+
+abbrev pub movedArea : List ℕ
+movedArea = moved oldForm newForm (areaFields 1) usedArea
 
 -- ---- a rack whose card 1 has closed release 4294967295, and releases words 4 and 5 of page 0 as the next
 
@@ -111,6 +126,10 @@ examples =
     ∷ computed (moveBack twoCards (zeros 2274) (replicate 2220 7) .memory) (zeros 2220)
     ∷ computed (moveIn awaitingCard2 (zeros 2220) (replicate 2274 7) .memory) (replicate 2274 7)
     ∷ computed (moveBack awaitingCard2 (zeros 2274) (replicate 2220 7) .memory) (replicate 2220 7)
+    -- A memory that was used is moved in area by area, and comes back as it was.
+    ∷ computed (comesIn smallRack oldUsed ++ usedIn)
+    (0 ∷ 0 ∷ movedArea ++ movedArea ++ movedArea)
+    ∷ computed (comesBack smallRack usedIn ++ moveBack smallRack usedIn (replicate 2220 7) .memory) (0 ∷ 0 ∷ oldUsed)
     -- Either memory of another length is refused with 1, both ways, also before a rack that does not fit.
     ∷ computed
     (outcomeOf (moveIn smallRack (zeros 2219) (zeros 2274)) ++ outcomeOf (moveIn smallRack (zeros 2221) (zeros 2274))
@@ -147,8 +166,8 @@ examples =
     (comesBack awaitingCard2 (newWith 1 0 (0 ∷ 1 ∷ [])) ++ comesBack (withHomes smallRack 0 1 1) (newWith 1 0 (0 ∷ 1 ∷ []))
     ++ comesBack smallRack (storeRun 758 (storeRun 758 (newWith 1 0 (0 ∷ 1 ∷ [])) 1 10 (1 ∷ [])) 1 182 onePrice))
     (11 ∷ 0 ∷ 2 ∷ 0 ∷ 15 ∷ 0 ∷ [])
-    -- "At stamp 4294967295, number 4294967296 is taken; after step 13 the record reads 0 1 4294967295 0, after the close
-    -- 0 1 0 1 and own 0 1"; then a move back is refused with 20.
+    -- At stamp 4294967295, number 4294967296 is taken; after step 13 the record reads 0 1 4294967295 0, after the close
+    -- 0 1 0 1 and the own stamp 0 1; then a move back is refused with 20.
     ∷ computed
     (outcomeOf opened ++ wordsAt 758 (stepped 12 opened .memory) 2 42 4 ++ wordsAt 758 (stepped 13 opened .memory) 2 42 4
     ++ wordsAt 758 (closed .memory) 2 42 4 ++ wordsAt 758 (closed .memory) 1 0 2

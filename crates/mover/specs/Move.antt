@@ -4,7 +4,7 @@
 use Rattle.laws.specs.Prelude.{ℕ, _*_, List, [], _∷_, _++_, Bool, not, _&&_, _||_, length, ltb, eqb}
 use Rattle.laws.specs.Search.{someBelow}
 use Rattle.answer.specs.declared.Outcome.{Outcome}
-use Rattle.answer.specs.Outcome.{limits, unfit, recoveryAwaited, joinWhileOpen, numberTooHigh}
+use Rattle.answer.specs.Outcome.{limits, unfit, recoveryAwaited, joinWhileOpen, stampTooHigh}
 use Rattle.directory.specs.declared.Directory.{Directory}
 use Rattle.directory.specs.Directory.{liveAt}
 use Rattle.area.specs.Prelude.{load, loadRun, listSize, loadNumber, ownStamp, recordStamp, recordDone, recordCount}
@@ -71,21 +71,22 @@ highCard marks size m c = liveAt marks c && highArea size m c
 abbrev pub tooHigh : Directory → List ℕ → Bool
 tooHigh d m = someBelow (highCard (d .live) (sizeOf d) m) (d .cards)
 
--- ---- both ways; `memory` of the result is the other memory
+-- ---- both ways
+
+-- what a move comes to, by the outcome of its checks: the words that are moved stand in the other memory, or it is kept
+abbrev pub movedBy : Outcome → Directory → List ℕ → List ℕ → Result
+movedBy o d words other =
+    resultOf o (record { outcome = o; directory = d; memory = words; words = [] }) d other []
 
 abbrev pub moveInChecks : Directory → List ℕ → List ℕ → List Check
 moveInChecks d old new = moveChecks (placesIn oldForm (d .pages)) d (length old) (length new) old
 
 unfoldable pub moveIn : Directory → List ℕ → List ℕ → Result
-moveIn d old new =
-    let o : Outcome = firstRefusal (moveInChecks d old new) 0 in
-    resultOf o (record { outcome = o; directory = d; memory = movedIn d old; words = [] }) d new []
+moveIn d old new = movedBy (firstRefusal (moveInChecks d old new) 0) d (movedIn d old) new
 
 abbrev pub moveBackChecks : Directory → List ℕ → List ℕ → List Check
 moveBackChecks d new old =
-    moveChecks (placesIn newForm (d .pages)) d (length old) (length new) new ++ check (tooHigh d new) numberTooHigh ∷ []
+    moveChecks (placesIn newForm (d .pages)) d (length old) (length new) new ++ check (tooHigh d new) stampTooHigh ∷ []
 
 unfoldable pub moveBack : Directory → List ℕ → List ℕ → Result
-moveBack d new old =
-    let o : Outcome = firstRefusal (moveBackChecks d new old) 0 in
-    resultOf o (record { outcome = o; directory = d; memory = movedBack d new; words = [] }) d old []
+moveBack d new old = movedBy (firstRefusal (moveBackChecks d new old) 0) d (movedBack d new) old

@@ -5,7 +5,7 @@ use Rattle.laws.specs.Search.{someBelow}
 use Rattle.answer.specs.Outcome.{given}
 use Rattle.directory.specs.declared.Directory.{Directory}
 use Rattle.directory.specs.declared.Status.the-variants.{Running}
-use Rattle.directory.specs.Directory.{primaryOf}
+use Rattle.directory.specs.Directory.{isLive, primaryOf}
 use Rattle.area.specs.Numbers.{wordValues}
 use Rattle.area.specs.Prelude.{ownDesk, openFlag, stepsMade, releaseNumber, releaseDesk, recordStamp}
 use Rattle.area.specs.Prelude.{recordDone, recordDesk, recordCount, listStart, pageAt, areaSize, pageSize, committedHalf}
@@ -17,7 +17,8 @@ use Rattle.protocol.specs.Demand1.{Unchanged}
 use Rattle.protocol.specs.Calls.{fetch, deskQuestion}
 use Rattle.mover.specs.Forms.{oldForm, newForm, ownDeskIn, openFlagIn, stepsMadeIn, releaseNumberIn, releaseDeskIn}
 use Rattle.mover.specs.Forms.{recordIn, recordDoneIn, recordDesksIn, listStartIn, pageIn, areaSizeIn}
-use Rattle.mover.specs.Areas.{SameArea, HighWordsOf, wordsIn, oldOwn, oldOpen, oldRecorded, oldUnderWay, oldDesk}
+use Rattle.mover.specs.Areas.{SameArea, NoHighWords, SameNumbers, wordsIn, oldOwn, oldOpen, oldRecorded}
+use Rattle.mover.specs.Areas.{oldUnderWay, oldDesk}
 use Rattle.mover.specs.Move.{moveIn, moveBack}
 
 -- ---- there and back
@@ -41,7 +42,7 @@ pub record MovedBackIsOld : Type 0 where
 pub record HighWordsZero : Type 0 where
   pub zero-words :
       (d : Directory) (old new : List ℕ) → accepted (moveIn d old new .outcome) ≡ true → (c : ℕ) → c < d .cards
-      → HighWordsOf (d .pages) (moveIn d old new .memory) c 0
+      → NoHighWords (d .pages) (moveIn d old new .memory) c
 
 -- A rack with memory m, in the new form, says what the old memory said.
 pub record Says (d : Directory) (old m : List ℕ) : Type 0 where
@@ -90,9 +91,15 @@ pub record LowWordsKept : Type 0 where
       (d : Directory) (new old : List ℕ) → accepted (moveBack d new old .outcome) ≡ true → (c : ℕ) → c < d .cards
       → SameArea newForm oldForm (d .pages) new (moveBack d new old .memory) c
 
+-- What refusal 20 is for: of a live card, every stamp and done mark is kept whole.
+pub record NumbersKept : Type 0 where
+  pub kept :
+      (d : Directory) (new old : List ℕ) → accepted (moveBack d new old .outcome) ≡ true → (c : ℕ) → c < d .cards
+      → isLive d c ≡ true → SameNumbers (d .pages) new (moveBack d new old .memory) c
+
 -- ---- refusals
 
--- by which numbers, in the order of the checks; both memories and the directory are kept
+-- by which numbers; the memory that would have been written is kept, and so is the directory
 pub record RefusedMoves : Type 0 where
   pub refused-in :
       (d : Directory) (old new : List ℕ) → accepted (moveIn d old new .outcome) ≡ false

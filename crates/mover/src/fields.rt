@@ -4,12 +4,12 @@ ghost use Rattle.laws.specs.Prelude.{_≡_, [], _∷_, _+_, _-_, _*_, _≤_, le
 ghost use lib.Seq.{sets};
 ghost use Rattle.area.specs.Prelude.{zeros, recordCount};
 ghost use Rattle.mover.specs.Fields.{number, words, repeated, recordFields, headFields};
-ghost use Rattle.mover.specs.Fields.{tailFields, areaFields, rackFields, fieldsSize, moved};
-ghost use Rattle.mover.specs.Moving.{Widths, Room, after, stored};
+ghost use Rattle.mover.specs.Fields.{tailFields, areaFields, rackFields, moved};
+ghost use Rattle.mover.specs.Moving.{ValidWidths, RackMemories, Room, after, stored};
 use area::layout;
 
 // The words of a number in the form of the source and in that of the target.
-pub struct Forms {
+pub struct Widths {
     pub from: usize,
     pub to: usize,
 }
@@ -32,28 +32,28 @@ fn store_low(target: &mut [u32], width: usize, at: usize, low: u32)
     }
 }
 
-fn move_number(source: &[u32], target: &mut [u32], forms: Forms, at: Cursor) -> Cursor
-    requires { ⌜ Widths forms ⌝ }
-    requires { ⌜ Room forms (number ∷ []) at (length (now source)) (length (now target)) ⌝ }
-    ensures cursor { λ r. ⌜ r ≡ after forms (number ∷ []) at ⌝ }
+fn move_number(source: &[u32], target: &mut [u32], widths: Widths, at: Cursor) -> Cursor
+    requires { ⌜ ValidWidths widths ⌝ }
+    requires { ⌜ Room widths (number ∷ []) at (length (now source)) (length (now target)) ⌝ }
+    ensures cursor { λ r. ⌜ r ≡ after widths (number ∷ []) at ⌝ }
     ensures words { λ _. ⌜ now (target .exit)
-        ≡ stored forms (number ∷ []) at (now (source .entry)) (now (target .entry)) ⌝ }
+        ≡ stored widths (number ∷ []) at (now (source .entry)) (now (target .entry)) ⌝ }
 {
     let from = at.from;
     let low = source[from];
-    store_low(target, forms.to, at.to, low);
+    store_low(target, widths.to, at.to, low);
     Cursor {
-        from: from + forms.from,
-        to: at.to + forms.to,
+        from: from + widths.from,
+        to: at.to + widths.to,
     }
 }
 
 // Words that are the same in each form.
-fn move_words(source: &[u32], target: &mut [u32], forms: Forms, at: Cursor, n: usize) -> Cursor
-    requires { ⌜ Room forms (words n ∷ []) at (length (now source)) (length (now target)) ⌝ }
-    ensures cursor { λ r. ⌜ r ≡ after forms (words n ∷ []) at ⌝ }
+fn move_words(source: &[u32], target: &mut [u32], widths: Widths, at: Cursor, n: usize) -> Cursor
+    requires { ⌜ Room widths (words n ∷ []) at (length (now source)) (length (now target)) ⌝ }
+    ensures cursor { λ r. ⌜ r ≡ after widths (words n ∷ []) at ⌝ }
     ensures words { λ _. ⌜ now (target .exit)
-        ≡ stored forms (words n ∷ []) at (now (source .entry)) (now (target .entry)) ⌝ }
+        ≡ stored widths (words n ∷ []) at (now (source .entry)) (now (target .entry)) ⌝ }
 {
     let from = at.from;
     let end = from + n;
@@ -65,97 +65,96 @@ fn move_words(source: &[u32], target: &mut [u32], forms: Forms, at: Cursor, n: u
 }
 
 // A number and the words behind it.
-fn move_numbered(source: &[u32], target: &mut [u32], forms: Forms, at: Cursor, n: usize) -> Cursor
-    requires { ⌜ Widths forms ⌝ }
-    requires { ⌜ Room forms (number ∷ words n ∷ []) at (length (now source))
+fn move_numbered(source: &[u32], target: &mut [u32], widths: Widths, at: Cursor, n: usize) -> Cursor
+    requires { ⌜ ValidWidths widths ⌝ }
+    requires { ⌜ Room widths (number ∷ words n ∷ []) at (length (now source))
         (length (now target)) ⌝ }
-    ensures cursor { λ r. ⌜ r ≡ after forms (number ∷ words n ∷ []) at ⌝ }
+    ensures cursor { λ r. ⌜ r ≡ after widths (number ∷ words n ∷ []) at ⌝ }
     ensures words { λ _. ⌜ now (target .exit)
-        ≡ stored forms (number ∷ words n ∷ []) at (now (source .entry))
+        ≡ stored widths (number ∷ words n ∷ []) at (now (source .entry))
         (now (target .entry)) ⌝ }
 {
-    let behind = move_number(source, target, forms, at);
-    move_words(source, target, forms, behind, n)
+    let behind = move_number(source, target, widths, at);
+    move_words(source, target, widths, behind, n)
 }
 
 // Stamp, done mark and desks.
-fn move_record(source: &[u32], target: &mut [u32], forms: Forms, at: Cursor) -> Cursor
-    requires { ⌜ Widths forms ⌝ }
-    requires { ⌜ Room forms recordFields at (length (now source)) (length (now target)) ⌝ }
-    ensures cursor { λ r. ⌜ r ≡ after forms recordFields at ⌝ }
+fn move_record(source: &[u32], target: &mut [u32], widths: Widths, at: Cursor) -> Cursor
+    requires { ⌜ ValidWidths widths ⌝ }
+    requires { ⌜ Room widths recordFields at (length (now source)) (length (now target)) ⌝ }
+    ensures cursor { λ r. ⌜ r ≡ after widths recordFields at ⌝ }
     ensures words { λ _. ⌜ now (target .exit)
-        ≡ stored forms recordFields at (now (source .entry)) (now (target .entry)) ⌝ }
+        ≡ stored widths recordFields at (now (source .entry)) (now (target .entry)) ⌝ }
 {
-    let done = move_number(source, target, forms, at);
-    move_numbered(source, target, forms, done, 2 * layout::DESK_SIZE)
+    let done = move_number(source, target, widths, at);
+    move_numbered(source, target, widths, done, 2 * layout::DESK_SIZE)
 }
 
-fn move_records(source: &[u32], target: &mut [u32], forms: Forms, start: Cursor) -> Cursor
-    requires { ⌜ Widths forms ⌝ }
-    requires { ⌜ Room forms (repeated recordCount recordFields) start (length (now source))
+fn move_records(source: &[u32], target: &mut [u32], widths: Widths, start: Cursor) -> Cursor
+    requires { ⌜ ValidWidths widths ⌝ }
+    requires { ⌜ Room widths (repeated recordCount recordFields) start (length (now source))
         (length (now target)) ⌝ }
-    ensures cursor { λ r. ⌜ r ≡ after forms (repeated recordCount recordFields) start ⌝ }
+    ensures cursor { λ r. ⌜ r ≡ after widths (repeated recordCount recordFields) start ⌝ }
     ensures words { λ _. ⌜ now (target .exit)
-        ≡ stored forms (repeated recordCount recordFields) start (now (source .entry))
+        ≡ stored widths (repeated recordCount recordFields) start (now (source .entry))
         (now (target .entry)) ⌝ }
 {
     let mut at = start;
     let mut slot = 0;
     while slot < layout::RECORD_COUNT {
-        at = move_record(source, target, forms, at);
+        at = move_record(source, target, widths, at);
         slot += 1;
     }
     at
 }
 
 // Own stamp, own desk, release open, steps made; the open release's number and desk.
-fn move_head(source: &[u32], target: &mut [u32], forms: Forms, at: Cursor) -> Cursor
-    requires { ⌜ Widths forms ⌝ }
-    requires { ⌜ Room forms headFields at (length (now source)) (length (now target)) ⌝ }
-    ensures cursor { λ r. ⌜ r ≡ after forms headFields at ⌝ }
+fn move_head(source: &[u32], target: &mut [u32], widths: Widths, at: Cursor) -> Cursor
+    requires { ⌜ ValidWidths widths ⌝ }
+    requires { ⌜ Room widths headFields at (length (now source)) (length (now target)) ⌝ }
+    ensures cursor { λ r. ⌜ r ≡ after widths headFields at ⌝ }
     ensures words { λ _. ⌜ now (target .exit)
-        ≡ stored forms headFields at (now (source .entry)) (now (target .entry)) ⌝ }
+        ≡ stored widths headFields at (now (source .entry)) (now (target .entry)) ⌝ }
 {
-    let number = move_numbered(source, target, forms, at, layout::DESK_SIZE + 2);
-    move_numbered(source, target, forms, number, layout::DESK_SIZE)
+    let number = move_numbered(source, target, widths, at, layout::DESK_SIZE + 2);
+    move_numbered(source, target, widths, number, layout::DESK_SIZE)
 }
 
 // The records of eight cards; list and pages.
-fn move_tail(source: &[u32], target: &mut [u32], forms: Forms, at: Cursor, pages: u32) -> Cursor
-    requires { ⌜ Widths forms × (pages ≤ 64) ⌝ }
-    requires { ⌜ Room forms (tailFields pages) at (length (now source)) (length (now target)) ⌝ }
-    ensures cursor { λ r. ⌜ r ≡ after forms (tailFields pages) at ⌝ }
+fn move_tail(source: &[u32], target: &mut [u32], widths: Widths, at: Cursor, pages: u32) -> Cursor
+    requires { ⌜ ValidWidths widths × (pages ≤ 64) ⌝ }
+    requires { ⌜ Room widths (tailFields pages) at (length (now source)) (length (now target)) ⌝ }
+    ensures cursor { λ r. ⌜ r ≡ after widths (tailFields pages) at ⌝ }
     ensures words { λ _. ⌜ now (target .exit)
-        ≡ stored forms (tailFields pages) at (now (source .entry)) (now (target .entry)) ⌝ }
+        ≡ stored widths (tailFields pages) at (now (source .entry)) (now (target .entry)) ⌝ }
 {
-    let list = move_records(source, target, forms, at);
+    let list = move_records(source, target, widths, at);
     let rest = layout::LIST_SIZE + layout::STORED_PAGE_SIZE * pages as usize;
-    move_words(source, target, forms, list, rest)
+    move_words(source, target, widths, list, rest)
 }
 
-fn move_area(source: &[u32], target: &mut [u32], forms: Forms, at: Cursor, pages: u32) -> Cursor
-    requires { ⌜ Widths forms × (pages ≤ 64) ⌝ }
-    requires { ⌜ Room forms (areaFields pages) at (length (now source)) (length (now target)) ⌝ }
-    ensures cursor { λ r. ⌜ r ≡ after forms (areaFields pages) at ⌝ }
+fn move_area(source: &[u32], target: &mut [u32], widths: Widths, at: Cursor, pages: u32) -> Cursor
+    requires { ⌜ ValidWidths widths × (pages ≤ 64) ⌝ }
+    requires { ⌜ Room widths (areaFields pages) at (length (now source)) (length (now target)) ⌝ }
+    ensures cursor { λ r. ⌜ r ≡ after widths (areaFields pages) at ⌝ }
     ensures words { λ _. ⌜ now (target .exit)
-        ≡ stored forms (areaFields pages) at (now (source .entry)) (now (target .entry)) ⌝ }
+        ≡ stored widths (areaFields pages) at (now (source .entry)) (now (target .entry)) ⌝ }
 {
-    let records = move_head(source, target, forms, at);
-    move_tail(source, target, forms, records, pages)
+    let records = move_head(source, target, widths, at);
+    move_tail(source, target, widths, records, pages)
 }
 
 // The whole memory of a rack, into one of the other form.
-pub fn move_memory(source: &[u32], target: &mut [u32], forms: Forms, cards: u32, pages: u32)
-    requires { ⌜ Widths forms × (pages ≤ 64) ⌝ }
-    requires { ⌜ (length (now source) ≡ fieldsSize (forms .from) (rackFields cards pages))
-        × (length (now target) ≡ fieldsSize (forms .to) (rackFields cards pages)) ⌝ }
+pub fn move_memory(source: &[u32], target: &mut [u32], widths: Widths, cards: u32, pages: u32)
+    requires { ⌜ ValidWidths widths ⌝ }
+    requires { ⌜ RackMemories widths cards pages (length (now source)) (length (now target)) ⌝ }
     ensures { λ _. ⌜ now (target .exit)
-        ≡ moved (forms .from) (forms .to) (rackFields cards pages) (now (source .entry)) ⌝ }
+        ≡ moved (widths .from) (widths .to) (rackFields cards pages) (now (source .entry)) ⌝ }
 {
     let mut at = Cursor { from: 0, to: 0 };
     let mut card = 0;
     while card < cards {
-        at = move_area(source, target, forms, at, pages);
+        at = move_area(source, target, widths, at, pages);
         card += 1;
     }
 }

@@ -1,12 +1,14 @@
 // The mover (document 02, request 5): takes a rack's memory from document 01's form, in which a number
 // is one word, to the form of two words, and back. Like the calls of the rack it answers on any memory
 // and directory, and a refusal changes no word of what was lent.
-ghost use Rattle.laws.specs.Prelude.{_≡_};
+ghost use Rattle.laws.specs.Prelude.{_≡_, length};
 ghost use Rattle.answer.specs.Outcome.{answerOf};
 ghost use Rattle.laws.specs.Examples.{AllHold};
+ghost use Rattle.mover.specs.Moving.{ValidWidths, RackMemories, checkedMove};
 ghost use Rattle.mover.specs.Move.{moveIn, moveBack};
 ghost use Rattle.mover.specs.Theorems.{MovedBackIsOld, HighWordsZero, SaysWhatOldSaid};
-ghost use Rattle.mover.specs.Theorems.{LowWordsKept, RefusedMoves, NewFormIsLayout};
+ghost use Rattle.mover.specs.Theorems.{LowWordsKept, NumbersKept, RefusedMoves};
+ghost use Rattle.mover.specs.Theorems.{NewFormIsLayout};
 ghost use Rattle.mover.specs.Examples.{examples};
 
 mod fields;
@@ -15,8 +17,9 @@ mod high;
 mod refusals;
 mod unfit;
 
+use answer::Outcome;
 use directory::Directory;
-use fields::Forms;
+use fields::Widths;
 use rack::Reply;
 
 // From an old memory into one of the new form. The old one is kept, and so is the directory.
@@ -30,16 +33,11 @@ pub fn move_in(old: &[u32], directory: Directory, new: &mut [u32]) -> Reply
 {
     let header = directory.header();
     let first = refusals::move_in(old, new, header, &directory.primary, &directory.secondary);
-    let answer = answer::answer_of(first);
-    if first.number != 0 {
-        return Reply { directory, answer };
-    }
-    let to_new = Forms {
+    let to_new = Widths {
         from: forms::OLD,
         to: forms::NEW,
     };
-    fields::move_memory(old, new, to_new, header.cards, header.pages);
-    Reply { directory, answer }
+    move_checked(first, directory, to_new, old, new)
 }
 
 // From a memory of the new form into an old one. That of the new form is kept, and so is the
@@ -54,15 +52,40 @@ pub fn move_back(new: &[u32], directory: Directory, old: &mut [u32]) -> Reply
 {
     let header = directory.header();
     let first = refusals::move_back(new, old, header, &directory.primary, &directory.secondary);
+    let to_old = Widths {
+        from: forms::NEW,
+        to: forms::OLD,
+    };
+    move_checked(first, directory, to_old, new, old)
+}
+
+// A move whose checks came to `first`.
+fn move_checked(
+    first: Outcome,
+    directory: Directory,
+    widths: Widths,
+    source: &[u32],
+    target: &mut [u32],
+) -> Reply
+    requires { ⌜ ValidWidths widths ⌝ }
+    requires { ⌜ (first .number ≡ 0
+        → RackMemories widths (directory .cards) (directory .pages) (length (now source))
+        (length (now target))) ⌝ }
+    ensures answer { λ r. ⌜ r .answer
+        ≡ answerOf
+        (checkedMove widths first directory (now (source .entry)) (now (target .entry)) .outcome) ⌝ }
+    ensures directory { λ r. ⌜ r .directory
+        ≡ checkedMove widths first directory (now (source .entry)) (now (target .entry))
+        .directory ⌝ }
+    ensures memory { λ _. ⌜ now (target .exit)
+        ≡ checkedMove widths first directory (now (source .entry)) (now (target .entry))
+        .memory ⌝ }
+{
     let answer = answer::answer_of(first);
     if first.number != 0 {
         return Reply { directory, answer };
     }
-    let to_old = Forms {
-        from: forms::NEW,
-        to: forms::OLD,
-    };
-    fields::move_memory(new, old, to_old, header.cards, header.pages);
+    fields::move_memory(source, target, widths, directory.cards, directory.pages);
     Reply { directory, answer }
 }
 
@@ -91,7 +114,13 @@ pub fn low_words_are_kept()
     ensures { λ _. ⌜ LowWordsKept ⌝ }
 {}
 
-// A refused move keeps both memories and the directory, and has one of these numbers.
+// Going back, every stamp and done mark of a live card is kept whole: that is what 20 is for.
+pub fn numbers_are_kept()
+    ensures { λ _. ⌜ NumbersKept ⌝ }
+{}
+
+// A refused move keeps the memory that it would have written, and the directory, and has the number 1,
+// 2, 11, 15 or, going back, 20.
 pub fn refused_moves_change_nothing()
     ensures { λ _. ⌜ RefusedMoves ⌝ }
 {}

@@ -125,5 +125,5 @@ pub fn move_back<'a>(
     if first.number != 0 {
         return first;
     }
-    checks::last_check(high::too_high(new, header), answer::NUMBER_TOO_HIGH)
+    checks::last_check(high::too_high(new, header), answer::STAMP_TOO_HIGH)
 }

@@ -1,54 +1,34 @@
--- Rests on its checks, and on what `move_memory` ensures: both memories have the length of their fields.
-use mathlib.Core.Path.{refl, sym, _∙_}
+-- Rests on its checks: within the limits both memories have the length of their fields.
+use mathlib.Core.Path.{refl}
 use native.Mathlib.Omega.{arith}
 use borrow.Author.Needs.{needs}
-use Rattle.mover.specs.Forms.{oldForm, newForm}
-use Rattle.mover.proofs.FieldWords.{rack-fields}
-use Rattle.mover.proofs.Limits.{new-within, old-length, new-length}
-use Rattle.mover.proofs.Results.{move-back-refused, move-back-accepted, move-back-inside}
+use Rattle.checks.proofs.Passing.{all-pass}
+use Rattle.mover.specs.Move.{moveBackChecks, moveBack}
+use Rattle.mover.proofs.Limits.{new-within, old-fields, new-fields}
 use Rattle.mover.proofs.move_back.Statement.{statement}
 use Rattle.mover.proofs.move_back.Tie as tie
 
+move-checked-requires : tie.Need-move-checked-requires
+move-checked-requires c κs =
+    let first = c .before in
+    let taken = first .before .before .before .before .before .before .before in
+    let a = taken .before .before .before .args in
+    let reached = rw (taken .header .ensures) at (first .move-back .ensures) in (
+      (omega arith, omega arith, omega arith, omega arith),
+      λ none.
+          let inside = all-pass (moveBackChecks (a .t2) (a .new .now) (a .old .now)) refl reached none .0 in
+          (new-within _ _ _ _ inside .pages-most, new-fields _ _ _ _ inside, old-fields _ _ _ _ inside),
+    )
+
 returns : tie.Need-returns
+unfolding moveBack
 returns c =
-    let answered = c .before .before in
-    let first = answered .before in
-    let taken = first .before .before .before .before .before .before .before in
-    let a = taken .before .before .before .args in
-    let reached = rw (taken .header .ensures) at (first .move-back .ensures) in
-    rw (move-back-refused (a .t2) (a .old .now) (a .new .now) reached (c .if1 .taken))
-    (answered .answer-of .ensures, (refl, refl))
-
-move-memory-requires : tie.Need-move-memory-requires
-move-memory-requires c κs =
-    let test = c .before in
-    let first = test .before .before .before in
-    let taken = first .before .before .before .before .before .before .before in
-    let a = taken .before .before .before .args in
-    let d = a .t2 in
-    let reached = rw (taken .header .ensures) at (first .move-back .ensures) in
-    let inside = move-back-inside d (a .old .now) (a .new .now) reached (test .if1 .left) in
-    let within = new-within _ _ _ _ inside in
-    let old-words = old-length _ _ _ _ inside ∙ sym (rack-fields oldForm (d .cards) (d .pages)) in
-    let new-words = new-length _ _ _ _ inside ∙ sym (rack-fields newForm (d .cards) (d .pages)) in
-    rw (taken .header .ensures)
-    (((omega arith, omega arith, omega arith, omega arith), within .pages-most), (new-words, old-words))
-
-returns-2 : tie.Need-returns-2
-returns-2 c =
     let made = c .before .before in
-    let test = made .before .before in
-    let answered = test .before .before in
-    let first = answered .before in
+    let first = made .before .before in
     let taken = first .before .before .before .before .before .before .before in
-    let a = taken .before .before .before .args in
     let reached = rw (taken .header .ensures) at (first .move-back .ensures) in
-    let done = rw (taken .header .ensures) at (made .move-memory .ensures) in
-    rw (move-back-accepted (a .t2) (a .old .now) (a .new .now) reached (test .if1 .left))
-    (answered .answer-of .ensures, (refl, done))
+    rw reached at (made .move-checked .ensures)
 
 pub move-back-spec : {M : Type 1} → statement M
 move-back-spec =
-    tie.close
-    (tie.spec (λ c κs. search needs) (λ c κs. search needs) (λ c κs. search needs) (λ c. search needs) returns
-    move-memory-requires (λ c. search needs) returns-2)
+    tie.close (tie.spec (λ c κs. search needs) (λ c κs. search needs) move-checked-requires (λ c. search needs) returns)

@@ -128,8 +128,13 @@ refusalExamples =
     (outcomeOf (openThree 4294967296 (stampedWith 4294967295 0))
     ++ outcomeOf (openThree 4294967295 (stampedWith 4294967295 0))
     ++ outcomeOf (openThree 4294967297 (stampedWith 4294967295 0)) ++ outcomeOf (openThree 4294967298 (stampedWith 1 1))
-    ++ outcomeOf (openThree 2 (stampedWith 1 1)))
-    (0 ∷ 0 ∷ 5 ∷ 4294967295 ∷ 6 ∷ 0 ∷ 0 ∷ 0 ∷ 5 ∷ 4294967297 ∷ [])
+    ++ outcomeOf (openThree 2 (stampedWith 1 1)) ++ outcomeOf (openThree 4294967306 nineClosed))
+    (0 ∷ 0 ∷ 5 ∷ 4294967295 ∷ 6 ∷ 0 ∷ 0 ∷ 0 ∷ 5 ∷ 4294967297 ∷ 6 ∷ 0 ∷ [])
+    -- The highest number is taken at the stamp before it; at that stamp it is refused with 5.
+    ∷ computed
+    (outcomeOf (openThree 18446744073709551615 (stampedWith 4294967294 4294967295))
+    ++ outcomeOf (openThree 18446744073709551615 (stampedWith 4294967295 4294967295)))
+    (0 ∷ 0 ∷ 5 ∷ 18446744073709551615 ∷ [])
     -- Neither a card that is not there nor a dead one opens a release, whatever the number and the list; one with a
     -- release open opens no other, whatever the number. A faulty list is refused with 7, though it shares a word.
     ∷ computed

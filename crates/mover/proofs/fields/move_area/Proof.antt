@@ -10,8 +10,11 @@ move-tail-requires c κs =
     let first = c .before .before .before in
     let start = first .before .before .before .before in
     let a = start .args in
-    let pre = start .pre in
-    (pre .0, second-fits (a .forms) (a .at) (a .source .now) (a .target .now) headFields (tailFields _) (pre .1) (first .move-head .ensures .0) (first .move-head .ensures .1))
+    let pre = start .pre in (
+      pre .0,
+      second-fits (a .widths) (a .at) (a .source .now) (a .target .now) headFields (tailFields _) (pre .1)
+          (first .move-head .ensures .0) (first .move-head .ensures .1),
+    )
 
 returns : tie.Need-returns
 returns c =
@@ -19,7 +22,8 @@ returns c =
     let first = second .before .before .before .before in
     let start = first .before .before .before .before in
     let a = start .args in
-    both-moved (a .forms) (a .at) (a .source .now) (a .target .now) headFields (tailFields (a .pages)) (start .pre .1) (first .move-head .ensures .0)
+    both-moved (a .widths) (a .at) (a .source .now) (a .target .now) headFields (tailFields (a .pages))
+    (start .pre .1) (first .move-head .ensures .0)
     (first .move-head .ensures .1) (start .pre .0 .0 .2) (second .move-tail .ensures .0) (second .move-tail .ensures .1)
 
 pub move-area-spec : {M : Type 1} → statement M

@@ -10,11 +10,11 @@ use Rattle.mover.proofs.fields.move_memory.Statement.{statement}
 use Rattle.mover.proofs.fields.move_memory.Tie as tie
 
 abbrev Inv-loop : tie.InvT-loop
-Inv-loop source target₀ forms cards pages at₀ card₀ target at card =
-    (card ≤ cards) × Moved forms front source target₀ (repeated card (areaFields pages)) at target
+Inv-loop source target₀ widths cards pages at₀ card₀ target at card =
+    (card ≤ cards) × Moved widths front source target₀ (repeated card (areaFields pages)) at target
 
 abbrev μ-loop : tie.MeasureT-loop
-μ-loop source target₀ forms cards pages at₀ card₀ target at card = cards - card
+μ-loop source target₀ widths cards pages at₀ card₀ target at card = cards - card
 
 loop-holds : tie.Need-loop-holds Inv-loop μ-loop
 unfolding repeated
@@ -26,9 +26,9 @@ move-area-requires c κs =
     let start = c .before .before .before .before .before in
     let a = start .args in
     let pre = start .pre in (
-      pre .0,
+      (pre .0, pre .1 .0),
       turn-fits (a .cards) (l .card) (areaFields (a .pages)) (c .before .loop-test .taken)
-          (omega (arith, pre .1 .0), omega (arith, pre .1 .1)) (l .inv .1),
+          (omega (arith, pre .1 .1), omega (arith, pre .1 .2)) (l .inv .1),
     )
 
 loop-again : tie.Need-loop-again Inv-loop μ-loop
@@ -40,8 +40,8 @@ loop-again c =
     let a = start .args in
     let pre = start .pre in
     let next =
-    moved-turn (pre .0 .0 .2) (a .cards) (l .card) (areaFields (a .pages)) (turn .loop-test .taken)
-    (omega (arith, pre .1 .0), omega (arith, pre .1 .1)) (l .inv .1) (made .0) (made .1) in
+    moved-turn (pre .0 .2) (a .cards) (l .card) (areaFields (a .pages)) (turn .loop-test .taken)
+    (omega (arith, pre .1 .1), omega (arith, pre .1 .2)) (l .inv .1) (made .0) (made .1) in
     (omega arith, rw add-one next)
 
 returns : tie.Need-returns Inv-loop μ-loop
@@ -51,8 +51,8 @@ returns c =
     let a = start .args in
     let pre = start .pre in
     let all : l .card ≡ a .cards = omega (arith, l .inv .0) in
-    moved-whole (a .forms) (a .source .now) (a .target .now) (rackFields (a .cards) (a .pages)) (pre .0 .0 .2)
-    (pre .1 .0) (pre .1 .1) (rw all at (l .inv .1))
+    moved-whole (a .widths) (a .source .now) (a .target .now) (rackFields (a .cards) (a .pages)) (pre .0 .2)
+    (pre .1 .1) (pre .1 .2) (rw all at (l .inv .1))
 
 pub move-memory-spec : {M : Type 1} → statement M
 move-memory-spec =

@@ -9,8 +9,8 @@ returns : tie.Need-returns
 returns c =
     let low = c .before .before .before .before .before in
     let a = low .before .before .before .before .before .args in (
-      after-number (a .forms) (a .at),
-      low .store-low .ensures ∙ stored-number (a .forms) (a .at) (a .source .now) (a .target .now),
+      after-number (a .widths) (a .at),
+      low .store-low .ensures ∙ stored-number (a .widths) (a .at) (a .source .now) (a .target .now),
     )
 
 pub move-number-spec : {M : Type 1} → statement M

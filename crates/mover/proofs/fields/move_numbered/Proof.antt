@@ -12,7 +12,8 @@ move-words-requires c κs =
     let start = first .before .before .before .before in
     let a = start .args in
     let pre = start .pre in
-    second-fits (a .forms) (a .at) (a .source .now) (a .target .now) (number ∷ []) (words _ ∷ []) (pre .1) (first .move-number .ensures .0) (first .move-number .ensures .1)
+    second-fits (a .widths) (a .at) (a .source .now) (a .target .now) (number ∷ []) (words _ ∷ []) (pre .1)
+    (first .move-number .ensures .0) (first .move-number .ensures .1)
 
 returns : tie.Need-returns
 returns c =
@@ -20,8 +21,10 @@ returns c =
     let first = second .before .before .before .before in
     let start = first .before .before .before .before in
     let a = start .args in
-    both-moved (a .forms) (a .at) (a .source .now) (a .target .now) (number ∷ []) (words (a .n) ∷ []) (start .pre .1) (first .move-number .ensures .0)
-    (first .move-number .ensures .1) (start .pre .0 .2) (second .move-words .ensures .0) (second .move-words .ensures .1)
+    both-moved (a .widths) (a .at) (a .source .now) (a .target .now) (number ∷ []) (words (a .n) ∷ []) (start .pre .1)
+    (first .move-number .ensures .0)
+    (first .move-number .ensures .1) (start .pre .0 .2) (second .move-words .ensures .0)
+    (second .move-words .ensures .1)
 
 pub move-numbered-spec : {M : Type 1} → statement M
 move-numbered-spec =

@@ -13,8 +13,11 @@ move-numbered-requires c κs =
     let first = c .before .before .before in
     let start = first .before .before .before .before in
     let a = start .args in
-    let pre = start .pre in
-    (pre .0, second-fits (a .forms) (a .at) (a .source .now) (a .target .now) (number ∷ []) (number ∷ words (2 * deskSize) ∷ []) (pre .1) (first .move-number .ensures .0) (first .move-number .ensures .1))
+    let pre = start .pre in (
+      pre .0,
+      second-fits (a .widths) (a .at) (a .source .now) (a .target .now) (number ∷ [])
+          (number ∷ words (2 * deskSize) ∷ []) (pre .1) (first .move-number .ensures .0) (first .move-number .ensures .1),
+    )
 
 returns : tie.Need-returns
 returns c =
@@ -22,8 +25,10 @@ returns c =
     let first = second .before .before .before .before in
     let start = first .before .before .before .before in
     let a = start .args in
-    both-moved (a .forms) (a .at) (a .source .now) (a .target .now) (number ∷ []) (number ∷ words (2 * deskSize) ∷ []) (start .pre .1) (first .move-number .ensures .0)
-    (first .move-number .ensures .1) (start .pre .0 .2) (second .move-numbered .ensures .0) (second .move-numbered .ensures .1)
+    both-moved (a .widths) (a .at) (a .source .now) (a .target .now) (number ∷ [])
+    (number ∷ words (2 * deskSize) ∷ []) (start .pre .1) (first .move-number .ensures .0)
+    (first .move-number .ensures .1) (start .pre .0 .2) (second .move-numbered .ensures .0)
+    (second .move-numbered .ensures .1)
 
 pub move-record-spec : {M : Type 1} → statement M
 move-record-spec =

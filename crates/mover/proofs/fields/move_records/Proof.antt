@@ -11,11 +11,11 @@ use Rattle.mover.proofs.fields.move_records.Statement.{statement}
 use Rattle.mover.proofs.fields.move_records.Tie as tie
 
 abbrev Inv-loop : tie.InvT-loop
-Inv-loop source target₀ forms at₀ slot₀ target at slot =
-    (slot ≤ recordCount) × Moved forms at₀ source target₀ (repeated slot recordFields) at target
+Inv-loop source target₀ widths at₀ slot₀ target at slot =
+    (slot ≤ recordCount) × Moved widths at₀ source target₀ (repeated slot recordFields) at target
 
 abbrev μ-loop : tie.MeasureT-loop
-μ-loop source target₀ forms at₀ slot₀ target at slot = recordCount - slot
+μ-loop source target₀ widths at₀ slot₀ target at slot = recordCount - slot
 
 loop-holds : tie.Need-loop-holds Inv-loop μ-loop
 unfolding repeated

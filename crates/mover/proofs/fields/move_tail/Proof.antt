@@ -14,7 +14,8 @@ move-records-requires c κs =
     let start = c .before .before .before in
     let a = start .args in (
       start .pre .0 .0,
-      first-fits (a .forms) (a .at) (length (a .source .now)) (length (a .target .now)) (repeated recordCount recordFields)
+      first-fits (a .widths) (a .at) (length (a .source .now)) (length (a .target .now))
+          (repeated recordCount recordFields)
           (words (listSize + storedPageSize * a .pages) ∷ []) (start .pre .1),
     )
 
@@ -24,7 +25,8 @@ move-words-requires c κs =
     let start = first .before .before .before .before in
     let a = start .args in
     let pre = start .pre in
-    second-fits (a .forms) (a .at) (a .source .now) (a .target .now) (repeated recordCount recordFields) (words _ ∷ []) (pre .1) (first .move-records .ensures .0) (first .move-records .ensures .1)
+    second-fits (a .widths) (a .at) (a .source .now) (a .target .now) (repeated recordCount recordFields)
+    (words _ ∷ []) (pre .1) (first .move-records .ensures .0) (first .move-records .ensures .1)
 
 returns : tie.Need-returns
 returns c =
@@ -32,8 +34,10 @@ returns c =
     let first = second .before .before .before .before in
     let start = first .before .before .before .before in
     let a = start .args in
-    both-moved (a .forms) (a .at) (a .source .now) (a .target .now) (repeated recordCount recordFields) (words (listSize + storedPageSize * a .pages) ∷ []) (start .pre .1) (first .move-records .ensures .0)
-    (first .move-records .ensures .1) (start .pre .0 .0 .2) (second .move-words .ensures .0) (second .move-words .ensures .1)
+    both-moved (a .widths) (a .at) (a .source .now) (a .target .now) (repeated recordCount recordFields)
+    (words (listSize + storedPageSize * a .pages) ∷ []) (start .pre .1) (first .move-records .ensures .0)
+    (first .move-records .ensures .1) (start .pre .0 .0 .2) (second .move-words .ensures .0)
+    (second .move-words .ensures .1)
 
 pub move-tail-spec : {M : Type 1} → statement M
 move-tail-spec =

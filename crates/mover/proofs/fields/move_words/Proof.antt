@@ -12,9 +12,9 @@ returns c =
     let run = c .before .before .before in
     let a = run .before .before .before .before .before .args in
     let n : a .at .from + a .n - a .at .from ≡ a .n = omega arith in (
-      after-words (a .forms) (a .at) (a .n),
+      after-words (a .widths) (a .at) (a .n),
       (rw n at (run .store-run-in .ensures))
-          ∙ stored-words (a .forms) (a .at) (a .n) (a .source .now) (a .target .now),
+          ∙ stored-words (a .widths) (a .at) (a .n) (a .source .now) (a .target .now),
     )
 
 pub move-words-spec : {M : Type 1} → statement M
