@@ -19,18 +19,6 @@ pub trait Calls {
     /// A card fails and is recovered; the directory is kept as it was.
     fn fail_and_recover(&mut self, card: u32);
     fn format(&mut self, cards: u32, pages: u32);
-
-    /// Moves the rack in from an old memory. The second implementation's mover has the directory lent alone.
-    fn move_in(&mut self, old: &[u32]) {
-        let Rack { memory, directory, .. } = self.rack();
-        given(by_reference::move_in(old, directory, memory));
-    }
-
-    /// Moves the rack back into an old memory.
-    fn move_back(&mut self, old: &mut [u32]) {
-        let Rack { memory, directory, .. } = self.rack();
-        given(by_reference::move_back(memory, directory, old));
-    }
 }
 
 fn accepted(number: u32) {
@@ -99,18 +87,6 @@ impl Calls for Proved {
     fn format(&mut self, cards: u32, pages: u32) {
         let Rack { memory, proved, .. } = &mut self.0;
         accepted(unsafe { sys::rack_format(memory.as_mut_ptr(), memory.len(), cards, pages, proved).number });
-    }
-
-    fn move_in(&mut self, old: &[u32]) {
-        let Rack { memory, proved, .. } = &mut self.0;
-        let (at, len) = (memory.as_mut_ptr(), memory.len());
-        accepted(unsafe { sys::rack_move_in(old.as_ptr(), old.len(), proved, at, len).number });
-    }
-
-    fn move_back(&mut self, old: &mut [u32]) {
-        let Rack { memory, proved, .. } = &self.0;
-        let (at, len) = (memory.as_ptr(), memory.len());
-        accepted(unsafe { sys::rack_move_back(at, len, proved, old.as_mut_ptr(), old.len()).number });
     }
 }
 

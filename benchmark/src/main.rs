@@ -6,11 +6,12 @@ mod racks;
 mod work;
 
 use bandsawpink_sys::layout::old_memory_words;
-use bandsawpink_sys::rack_make_list;
 use bandsawpink_sys::refusals::ACCEPTED;
+use bandsawpink_sys::{rack_make_list, rack_move_back, rack_move_in};
 use measure::{in_turn, Time};
 use racks::{list, spread_list, Rack, PRICES};
 use second::layout::LIST_WORDS;
+use second::{by_reference, Answer};
 use std::hint::black_box;
 use work::*;
 
@@ -27,10 +28,8 @@ fn main() {
     recoveries();
     lists();
     formattings();
-    moves();
     println!();
-    println!("The second implementation makes several steps one by one, each with its checks. Its list maker has no");
-    println!("directory and its mover has it lent: both columns show the same function.");
+    println!("The second implementation makes several steps one by one, each with its checks.");
     println!();
     println!("One step of a release of {PRICES} prices, the opening spread over its {STEPS} steps, by cards, pages");
     println!("and other open releases:");
@@ -43,6 +42,17 @@ fn main() {
                 growth(cards, pages, others);
             }
         }
+    }
+    println!();
+    println!("A memory moved from one form to the other, beside the second implementation, with the directory");
+    println!("lent, and beside a plain copy of the old memory's words:");
+    println!();
+    println!("| call | proved | spread | Rust | spread | ratio | plain copy | spread | ratio |");
+    println!("|---|---|---|---|---|---|---|---|---|");
+    for (cards, pages) in SIZES {
+        let (rack, old) = (Rack::new(cards, pages, 0), vec![0; old_memory_words(cards, pages)]);
+        row(&format!("move in, {cards} × {pages}"), &moved_in(&rack, &old));
+        row(&format!("move back, {cards} × {pages}"), &moved_back(&rack, &old));
     }
 }
 
@@ -140,13 +150,38 @@ fn list_made(name: &str, labels: impl Iterator<Item = usize>) {
     row(name, &[proved, second, second]);
 }
 
-/// A rack without prices: what the mover copies takes as long, whatever the words.
-fn moves() {
-    for (cards, pages) in SIZES {
-        let (rack, old) = (Rack::new(cards, pages, 0), vec![0; old_memory_words(cards, pages)]);
-        row(&format!("move in, {cards} × {pages}"), &compare(&rack, &MoveIn { old: old.clone() }));
-        row(&format!("move back, {cards} × {pages}"), &compare(&rack, &MoveBack { old }));
-    }
+/// From an old memory into one of the rack's.
+fn moved_in(rack: &Rack, old: &[u32]) -> [Time; 3] {
+    let [mut first, mut other, mut copy] = [rack.memory.clone(), rack.memory.clone(), rack.memory.clone()];
+    let mut proved = || {
+        let (at, len) = (black_box(&mut first).as_mut_ptr(), rack.memory.len());
+        // SAFETY: pointers and lengths of slices that live through the call and do not overlap.
+        let moved = unsafe { rack_move_in(old.as_ptr(), old.len(), &rack.proved, at, len) };
+        assert_eq!(moved.number, ACCEPTED, "a timed call was refused");
+    };
+    let mut second = || {
+        let answer = by_reference::move_in(old, &rack.directory, black_box(&mut other));
+        assert_eq!(answer, Answer::Given(0), "a timed call was refused");
+    };
+    let mut plain = || black_box(&mut copy)[..old.len()].copy_from_slice(black_box(old));
+    in_turn([&mut proved, &mut second, &mut plain])
+}
+
+/// From the rack's memory into one of the old form.
+fn moved_back(rack: &Rack, old: &[u32]) -> [Time; 3] {
+    let [mut first, mut other, mut copy] = [old.to_vec(), old.to_vec(), old.to_vec()];
+    let mut proved = || {
+        let (at, len) = (black_box(&mut first).as_mut_ptr(), old.len());
+        // SAFETY: pointers and lengths of slices that live through the call and do not overlap.
+        let moved = unsafe { rack_move_back(rack.memory.as_ptr(), rack.memory.len(), &rack.proved, at, len) };
+        assert_eq!(moved.number, ACCEPTED, "a timed call was refused");
+    };
+    let mut second = || {
+        let answer = by_reference::move_back(&rack.memory, &rack.directory, black_box(&mut other));
+        assert_eq!(answer, Answer::Given(0), "a timed call was refused");
+    };
+    let mut plain = || black_box(&mut copy).copy_from_slice(&black_box(&rack.memory)[..old.len()]);
+    in_turn([&mut proved, &mut second, &mut plain])
 }
 
 fn formattings() {

@@ -106,30 +106,6 @@ impl Work for Recovery {
     }
 }
 
-/// Moved in from an old memory.
-#[derive(Clone)]
-pub struct MoveIn {
-    pub old: Vec<u32>,
-}
-
-impl Work for MoveIn {
-    fn run(&mut self, rack: &mut impl Calls) {
-        rack.move_in(black_box(&self.old));
-    }
-}
-
-/// Moved back into an old memory.
-#[derive(Clone)]
-pub struct MoveBack {
-    pub old: Vec<u32>,
-}
-
-impl Work for MoveBack {
-    fn run(&mut self, rack: &mut impl Calls) {
-        rack.move_back(black_box(&mut self.old));
-    }
-}
-
 #[derive(Clone)]
 pub struct Formatting {
     pub cards: u32,
