@@ -1,4 +1,4 @@
-// What a call answers, and document 01's numbers for what it refuses.
+// What a call answers, and the numbers of documents 01 and 02 for what it refuses.
 ghost use mathlib.Core.Path.{_≡_};
 ghost use Rattle.answer.specs.Outcome.{outcome, answerOf, given, refusedAt};
 
@@ -42,7 +42,7 @@ pub const UNREADABLE: u32 = 18;
 // Document 02.
 pub const STAMP_TOO_HIGH: u32 = 20;
 
-// What a call came to, in document 01's numbers.
+// What a call came to, in these numbers.
 pub struct Outcome {
     // 0 if the call was accepted, else the refusal.
     pub number: u32,

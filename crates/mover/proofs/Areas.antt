@@ -11,7 +11,7 @@ use Rattle.mover.specs.Fields.{Field, number, words, areaFields, rackFie
 use Rattle.mover.specs.Areas.{SameArea, NoHighWords}
 use Rattle.mover.proofs.FieldWords.{size-append, rack-fields, length-moved}
 use Rattle.mover.proofs.Reading.{number-at, word-at, high-at}
-use Rattle.mover.proofs.Parts.{ahead, rest, record-split, record-place, lists-split}
+use Rattle.mover.proofs.Parts.{ahead, rest, record-split, record-place, list-split}
 
 module _ (from to cards pages : ℕ) (ws : List ℕ) (some : 1 ≤ to) (long : length ws ≡ cards * areaSizeIn from pages)
     (c : ℕ) (real : c < cards) where
@@ -76,7 +76,7 @@ module _ (from to cards pages : ℕ) (ws : List ℕ) (some : 1 ≤ to) (long : l
   list-word : (j : ℕ) → j < listSize + storedPageSize * pages → (o o′ : ℕ) → o ≡ listStartIn to + j
       → o′ ≡ listStartIn from + j → load (areaSizeIn to pages) target c o ≡ load (areaSizeIn from pages) ws c o′
   list-word j within o o′ there here =
-      word-in (ahead recordCount) (listSize + storedPageSize * pages) [] (lists-split pages) j within o o′
+      word-in (ahead recordCount) (listSize + storedPageSize * pages) [] (list-split pages) j within o o′
       (omega (arith, there, record-place to recordCount)) (omega (arith, here, record-place from recordCount))
 
   -- ---- all of it

@@ -1,5 +1,5 @@
 -- There and back: fields moved to the form of two words and back are as they were.
-use Rattle.laws.proofs.Prelude.{ℕ, _+_, _≤_, _≡_, refl, sym, ap, _∙_, List, [], _∷_, _++_, arith, length, take, drop}
+use Rattle.laws.proofs.Prelude.{ℕ, _≤_, _≡_, refl, sym, ap, _∙_, List, [], _∷_, _++_, arith, length, take, drop}
 use lib.ListN.{length-drop}
 use lib.Seq.{take-add, take-append-seam, drop-append-seam, length-take-le}
 use Rattle.area.specs.Prelude.{zeros}

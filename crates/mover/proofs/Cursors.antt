@@ -1,5 +1,5 @@
 -- Moves one after the other are one move of the fields of both.
-use Rattle.laws.proofs.Prelude.{ℕ, zero, suc, _+_, _<_, _≤_, _≡_, refl, sym, ap, _∙_, List, [], _∷_, _++_, arith}
+use Rattle.laws.proofs.Prelude.{ℕ, suc, _+_, _<_, _≤_, _≡_, refl, sym, ap, _∙_, List, [], _∷_, _++_, arith}
 use Rattle.laws.proofs.Prelude.{length, getD, take, drop, _-_}
 use native.Mathlib.Nat.{add-zero}
 use mathlib.Core.List.{append-nil}

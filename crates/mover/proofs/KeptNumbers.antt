@@ -1,5 +1,5 @@
 -- A move back that passes refusal 20 keeps the stamps and done marks of live cards whole.
-use Rattle.laws.proofs.Prelude.{ℕ, _+_, _*_, _<_, _≡_, sym, _∙_, List, true, false, arith, ltb-false}
+use Rattle.laws.proofs.Prelude.{ℕ, _+_, _*_, _<_, _≡_, _∙_, List, true, false, arith, ltb-false}
 use Rattle.laws.proofs.Bools.{and-rest, neither}
 use Rattle.laws.proofs.Search.{none-below}
 use Rattle.directory.specs.declared.Directory.{Directory}
@@ -8,10 +8,10 @@ use Rattle.area.specs.Prelude.{load, numberAt, loadNumber, ownStamp, recordStam
 use Rattle.protocol.specs.Release.{sizeOf}
 use Rattle.mover.specs.Forms.{oldForm, newForm}
 use Rattle.mover.specs.Areas.{SameArea, SameNumbers}
-use Rattle.mover.specs.Move.{above, highRecord, highArea, highCard, tooHigh}
+use Rattle.mover.specs.Move.{aboveOneWord, highRecord, highArea, highCard, tooHigh}
 
 -- a number of one word is its low word
-one-word : (size : ℕ) (m : List ℕ) (c o : ℕ) → above (loadNumber size m c o) ≡ false
+one-word : (size : ℕ) (m : List ℕ) (c o : ℕ) → aboveOneWord (loadNumber size m c o) ≡ false
     → load size m c o ≡ loadNumber size m c o
 unfolding numberAt
 one-word size m c o low = omega (arith, ltb-false 4294967295 (load size m c o + 4294967296 * load size m c (o + 1)) low)
@@ -23,18 +23,18 @@ module _ (d : Directory) (new old : List ℕ) (none-high : tooHigh d new ≡ fal
       and-rest (liveAt (d .live) c) _ live
       (none-below (highCard (d .live) (sizeOf d) new) (d .cards) none-high c real)
 
-  low-own : above (loadNumber (sizeOf d) new c ownStamp) ≡ false
+  low-own : aboveOneWord (loadNumber (sizeOf d) new c ownStamp) ≡ false
   unfolding highArea
-  low-own = neither (above (loadNumber (sizeOf d) new c ownStamp)) _ low-area .0
+  low-own = neither (aboveOneWord (loadNumber (sizeOf d) new c ownStamp)) _ low-area .0
 
   module _ (k : ℕ) (few : k < recordCount) where
-    low-record : (above (loadNumber (sizeOf d) new c (recordStamp k)) ≡ false)
-        × (above (loadNumber (sizeOf d) new c (recordDone k)) ≡ false)
+    low-record : (aboveOneWord (loadNumber (sizeOf d) new c (recordStamp k)) ≡ false)
+        × (aboveOneWord (loadNumber (sizeOf d) new c (recordDone k)) ≡ false)
     unfolding highArea highRecord
     low-record =
-        neither (above (loadNumber (sizeOf d) new c (recordStamp k))) _
+        neither (aboveOneWord (loadNumber (sizeOf d) new c (recordStamp k))) _
         (none-below (highRecord (sizeOf d) new c) recordCount
-        (neither (above (loadNumber (sizeOf d) new c ownStamp)) _ low-area .1) k few)
+        (neither (aboveOneWord (loadNumber (sizeOf d) new c ownStamp)) _ low-area .1) k few)
 
   pub same-numbers : SameNumbers (d .pages) new old c
   same-numbers =

@@ -1,5 +1,5 @@
 -- What a move that passes check 1 keeps to: both memories have the length that their form says.
-use Rattle.laws.proofs.Prelude.{ℕ, _*_, _≤_, _≡_, sym, _∙_, ap, false, eqb-true, not-false, arith, eqb}
+use Rattle.laws.proofs.Prelude.{ℕ, _*_, _≡_, sym, _∙_, ap, false, eqb-true, not-false, arith, eqb}
 use Rattle.laws.proofs.Bools.{neither}
 use Rattle.directory.specs.declared.Header.{Header}
 use Rattle.area.specs.Prelude.{areaSize, MemoryOf}

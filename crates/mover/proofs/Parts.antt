@@ -9,24 +9,24 @@ use Rattle.mover.specs.Fields.{fieldsSize}
 use Rattle.mover.proofs.FieldWords.{size-append, size-repeated, repeated-split}
 
 -- list and pages
-abbrev pub lists : ℕ → List Field
-lists pages = words (listSize + storedPageSize * pages) ∷ []
+abbrev pub listAndPages : ℕ → List Field
+listAndPages pages = words (listSize + storedPageSize * pages) ∷ []
 
 -- all before the record of card k, and all behind it
 abbrev pub ahead : ℕ → List Field
 ahead k = headFields ++ repeated k recordFields
 
 abbrev pub rest : ℕ → ℕ → List Field
-rest pages k = repeated (recordCount - suc k) recordFields ++ lists pages
+rest pages k = repeated (recordCount - suc k) recordFields ++ listAndPages pages
 
 pub record-split : (pages k : ℕ) → k < recordCount
     → areaFields pages ≡ ahead k ++ (number ∷ number ∷ words (2 * deskSize) ∷ rest pages k)
 record-split pages k few =
     let count : recordCount ≡ k + suc (recordCount - suc k) = omega arith in
-    ap (λ n. headFields ++ (repeated n recordFields ++ lists pages)) count
-    ∙ ap (λ fs. headFields ++ (fs ++ lists pages)) (repeated-split (recordCount - suc k) k recordFields)
+    ap (λ n. headFields ++ (repeated n recordFields ++ listAndPages pages)) count
+    ∙ ap (λ fs. headFields ++ (fs ++ listAndPages pages)) (repeated-split (recordCount - suc k) k recordFields)
     ∙ ap (λ fs. headFields ++ fs)
-    (append-assoc (repeated k recordFields) (recordFields ++ repeated (recordCount - suc k) recordFields) (lists pages))
+    (append-assoc (repeated k recordFields) (recordFields ++ repeated (recordCount - suc k) recordFields) (listAndPages pages))
 
 pub record-place : (form k : ℕ) → fieldsSize form (ahead k) ≡ recordIn form k
 record-place form k =
@@ -38,5 +38,5 @@ record-place form k =
     the-size : (form : ℕ) → form + (form + (2 * deskSize + 0)) ≡ recordSizeIn form
     the-size form = omega arith
 
-pub lists-split : (pages : ℕ) → areaFields pages ≡ ahead recordCount ++ lists pages
-lists-split pages = refl
+pub list-split : (pages : ℕ) → areaFields pages ≡ ahead recordCount ++ listAndPages pages
+list-split pages = refl

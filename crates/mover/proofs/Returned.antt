@@ -12,7 +12,7 @@ use Rattle.protocol.specs.Result.{accepted}
 use Rattle.protocol.proofs.checks.Outcome.{Passed}
 use Rattle.mover.specs.Forms.{oldForm, areaSizeIn, recordIn, recordDoneIn}
 use Rattle.mover.specs.Fields.{rackFields, fieldsSize}
-use Rattle.mover.specs.Move.{above, highRecord, highArea, highCard, tooHigh, movedIn, movedBack, moveIn, moveBack}
+use Rattle.mover.specs.Move.{aboveOneWord, highRecord, highArea, highCard, tooHigh, movedIn, movedBack, moveIn, moveBack}
 use Rattle.mover.specs.Move.{moveBackChecks}
 use Rattle.mover.specs.Theorems.{WordsOf32Bits}
 use Rattle.mover.proofs.FieldWords.{rack-fields}
@@ -26,7 +26,7 @@ module _ (d : Directory) (old new : List ℕ) (words : WordsOf32Bits old)
   abbrev m : List ℕ
   m = movedIn d old
 
-  low : (number c o : ℕ) → number ≡ load (areaSizeIn oldForm (d .pages)) old c o → above number ≡ false
+  low : (number c o : ℕ) → number ≡ load (areaSizeIn oldForm (d .pages)) old c o → aboveOneWord number ≡ false
   unfolding load
   low number c o is =
       let i : ℕ = c * areaSizeIn oldForm (d .pages) + o in

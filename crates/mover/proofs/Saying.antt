@@ -16,7 +16,7 @@ use Rattle.mover.specs.Move.{movedIn, moveIn}
 use Rattle.mover.proofs.MovedIn.{old-words, inside, area-same, area-high}
 
 -- a number whose high word is 0 is its low word
-pub low-number : (size : ℕ) (m : List ℕ) (c o low : ℕ) → load size m c o ≡ low → load size m c (o + 1) ≡ 0
+low-number : (size : ℕ) (m : List ℕ) (c o low : ℕ) → load size m c o ≡ low → load size m c (o + 1) ≡ 0
     → loadNumber size m c o ≡ low
 unfolding numberAt
 low-number size m c o low is none = rw (is, none) (omega arith)

@@ -8,7 +8,7 @@ use Rattle.mover.specs.Areas.{SameArea}
 use Rattle.mover.specs.Move.{movedBack, moveIn, moveBack, moveInChecks, moveBackChecks}
 use Rattle.mover.specs.Theorems.{MovedBackIsOld, HighWordsZero, SaysWhatOldSaid, LowWordsKept, RefusedMoves}
 use Rattle.mover.specs.Theorems.{NumbersKept, NewFormIsLayout}
-use Rattle.mover.proofs.Limits.{new-length}
+use Rattle.mover.proofs.Limits.{new-size, new-length}
 use Rattle.mover.proofs.Results.{accepted-move}
 use Rattle.mover.proofs.Areas.{same-area}
 use Rattle.mover.proofs.MovedIn.{leaves, area-same, area-high, inside, none-open, runs}
@@ -99,5 +99,5 @@ new-form-is-layout =
       record-desks = λ k. omega arith;
       list = refl;
       pages = λ p. omega arith;
-      size = λ pages. omega arith;
+      size = new-size;
     }

@@ -4,26 +4,19 @@
 use Rattle.laws.specs.Prelude.{ℕ, zero, suc, List, [], _∷_, _++_, replicate}
 use Rattle.laws.specs.Examples.{Example, computed}
 use Rattle.directory.specs.declared.Directory.{Directory}
-use Rattle.directory.specs.declared.Status.the-variants.{Awaiting}
-use Rattle.directory.specs.Directory.{formattedDirectory, markedDead, withHomes, withStatus}
+use Rattle.directory.specs.Directory.{formattedDirectory, withHomes}
 use Rattle.area.specs.Prelude.{store, storeRun, zeros, releaseOf, writeRecord}
 use Rattle.area.specs.Examples.{numbersFrom}
 use Rattle.protocol.specs.Result.{Result}
 use Rattle.protocol.specs.Calls.{opening, step, failure, recovery}
 use Rattle.protocol.specs.Examples.Racks.{smallRack, smallMemory, wordsAt, outcomeOf}
+use Rattle.protocol.specs.Examples.Refusals.{twoCards, awaitingCard2, onePriceAt}
 use Rattle.mover.specs.Forms.{oldForm, newForm, ownDeskIn, openFlagIn, stepsMadeIn, releaseNumberIn, releaseDeskIn}
 use Rattle.mover.specs.Forms.{recordIn, recordDoneIn, recordDesksIn, recordSizeIn, listStartIn, pageIn, areaSizeIn}
 use Rattle.mover.specs.Fields.{areaFields, moved}
 use Rattle.mover.specs.Move.{moveIn, moveBack}
 
 -- ---- moves of racks, into memories of sevens
-
--- card 2 has failed and is dead; recovery of it is over, or awaited
-abbrev pub twoCards : Directory
-twoCards = withHomes (markedDead smallRack 2) 0 0 1
-
-abbrev pub awaitingCard2 : Directory
-awaitingCard2 = withStatus twoCards (Awaiting 2)
 
 -- an old memory, with a word of a card set
 abbrev pub oldWith : ℕ → ℕ → ℕ → List ℕ
@@ -34,7 +27,7 @@ abbrev pub oldOpenOn : ℕ → List ℕ → List ℕ
 oldOpenOn card list = storeRun 740 (storeRun 740 (zeros 2220) card 9 (1 ∷ 0 ∷ 1 ∷ [])) card 164 list
 
 abbrev pub onePrice : List ℕ
-onePrice = 0x10000000 ∷ 0x20040001 ∷ 7 ∷ 0xF0000003 ∷ []
+onePrice = onePriceAt 4
 
 abbrev pub comesIn : Directory → List ℕ → List ℕ
 comesIn d old = outcomeOf (moveIn d old (replicate 2274 7))
@@ -154,7 +147,8 @@ examples =
     ++ comesBack smallRack (newWith 1 10 (1 ∷ 0 ∷ 1 ∷ 0 ∷ [])))
     (2 ∷ 0 ∷ 0 ∷ 0 ∷ 15 ∷ 0 ∷ 2 ∷ 0 ∷ [])
     -- 20: an own stamp above 4294967295, and a stamp or done mark of any of the eight records of a live card, also of
-    -- card 7, which the rack has not. The numbers of the release that is not open, and a dead card's, are dropped.
+    -- card 7, which the rack has not. The high words of a release's number, where none is open, and of a dead card are
+    -- dropped.
     ∷ computed
     (comesBack smallRack (newWith 1 0 (4294967295 ∷ 0 ∷ [])) ++ comesBack smallRack (newWith 1 0 (0 ∷ 1 ∷ []))
     ++ comesBack smallRack (newWith 0 163 (1 ∷ [])) ++ comesBack smallRack (newWith 0 165 (1 ∷ []))

@@ -56,7 +56,7 @@ pageIn form p = listStartIn form + listSize + storedPageSize * p
 abbrev pub areaSizeIn : ℕ → ℕ → ℕ
 areaSizeIn form pages = pageIn form pages
 
--- what check 2 reads of an area
+-- what checks 2 and 15 read of an area
 abbrev pub placesIn : ℕ → ℕ → Places
 placesIn form pages =
     record {

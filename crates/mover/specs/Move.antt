@@ -42,7 +42,7 @@ badCardAt at marks pages m c =
 abbrev pub openAt : Places → List Bool → List ℕ → ℕ → Bool
 openAt at marks m c = liveAt marks c && eqb (load (at .size) m c (at .flag)) 1
 
--- 1, 2, 11 and 15, the last three read in the source, which has these places
+-- 1, 2, 11 and 15; 2 and 15 are read in the source, which has these places
 abbrev pub moveChecks : Places → Directory → ℕ → ℕ → List ℕ → List Check
 moveChecks at d oldWords newWords source =
     check (outsideLimitsOf oldWords newWords (d .cards) (d .pages)) limits
@@ -52,17 +52,17 @@ moveChecks at d oldWords newWords source =
     ∷ []
 
 -- "above 4294967295"
-abbrev pub above : ℕ → Bool
-above number = ltb 4294967295 number
+abbrev pub aboveOneWord : ℕ → Bool
+aboveOneWord number = ltb 4294967295 number
 
 -- the record of a card, in the area of its holder, has such a stamp or done mark
 unfoldable pub highRecord : ℕ → List ℕ → ℕ → ℕ → Bool
 highRecord size m holder c =
-    above (loadNumber size m holder (recordStamp c)) || above (loadNumber size m holder (recordDone c))
+    aboveOneWord (loadNumber size m holder (recordStamp c)) || aboveOneWord (loadNumber size m holder (recordDone c))
 
 -- an area has such an own stamp, or such a record, be it of a card that the rack has not
 unfoldable pub highArea : ℕ → List ℕ → ℕ → Bool
-highArea size m c = above (loadNumber size m c ownStamp) || someBelow (highRecord size m c) recordCount
+highArea size m c = aboveOneWord (loadNumber size m c ownStamp) || someBelow (highRecord size m c) recordCount
 
 -- 20: "a stamp or done mark on a live card's area is above 4294967295"
 abbrev pub highCard : List Bool → ℕ → List ℕ → ℕ → Bool

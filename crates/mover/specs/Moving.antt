@@ -28,7 +28,7 @@ after widths fs at =
 abbrev pub stored : Widths → List Field → Cursor → List ℕ → List ℕ → List ℕ
 stored widths fs at source target = sets target (at .to) (moved (widths .from) (widths .to) fs (drop (at .from) source))
 
--- so many words are the memories of a rack within its limits, the source and the target
+-- so many words are the memories of a rack of at most 64 pages, the source and the target
 abbrev pub RackMemories : Widths → ℕ → ℕ → ℕ → ℕ → Type 0
 RackMemories widths cards pages source target =
     (pages ≤ 64)

@@ -1,4 +1,5 @@
-// What moves refuse: 1, then 2, 11 and 15 read in the form that is moved from, and on the way back 20.
+// What moves refuse: 1, 2, 11 and 15, of which 2 and 15 are read in the form that is moved from, and on
+// the way back 20.
 ghost use Rattle.laws.specs.Prelude.{_≡_, _<_, false, length};
 ghost use Rattle.laws.specs.Search.{someBelow};
 ghost use Rattle.directory.specs.Directory.{directoryBy, FullHomes};
