@@ -3,3 +3,4 @@ pub mod Examples
 pub mod Live
 pub mod Table
 pub mod Changes
+pub mod NewHome

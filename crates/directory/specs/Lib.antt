@@ -1,4 +1,5 @@
 -- What the directory's contracts cite.
 pub mod Live
 pub mod Directory
+pub mod NewHome
 pub mod Examples

@@ -8,6 +8,7 @@ ghost use Rattle.directory.specs.Directory.{markedDead, markedLive};
 ghost use Rattle.directory.specs.Directory.{withHomes, formattedMarks, formattedPrimary};
 ghost use Rattle.directory.specs.Directory.{formattedSecondary, table, formattedDirectory};
 ghost use Rattle.directory.specs.Directory.{emptyDirectory};
+ghost use Rattle.directory.specs.NewHome.{EvenlyShared, NamesLive, evenHome, nextHome};
 ghost use Rattle.directory.specs.Examples.{examples};
 
 pub enum Status {
@@ -232,8 +233,18 @@ impl Directory {
     }
 }
 
-// Worked examples of the directory, computed from the definitions. It does nothing when it is
-// called.
+// ---- theorems and examples: these functions do nothing when they are called
+
+// A page that lost a home gets the live card, other than the home that it keeps, that is home to
+// the fewest pages (document 02, request 4). This rule and that of document 01 name a live card
+// other than the kept home, where there is one.
+pub fn homes_are_shared_evenly()
+    ensures shared { λ _. ⌜ EvenlyShared ⌝ }
+    ensures even { λ _. ⌜ NamesLive evenHome ⌝ }
+    ensures next { λ _. ⌜ NamesLive nextHome ⌝ }
+{}
+
+// Worked examples of the directory, computed from the definitions.
 pub fn examples_hold()
     ensures { λ _. ⌜ AllHold examples ⌝ }
 {}
