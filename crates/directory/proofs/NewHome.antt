@@ -1,13 +1,19 @@
 -- Laws of the card that becomes home to a page that lost one: what each rule names, and what it goes by.
-use Rattle.laws.proofs.Prelude.{ℕ, zero, suc, _<_, _≤_, _≡_, sym, _∙_, _≢_, List, Bool, true, false, true≢false, not}
-use Rattle.laws.proofs.Prelude.{ltb, eqb, decLt, arith, ne-eqb, eq-eqb, ltb-true, ltb-false, not-true, not-false}
-use Rattle.laws.specs.Search.{lowest, someBelow}
+use Rattle.laws.proofs.Prelude.{ℕ, zero, suc, _+_, _<_, _≤_, _≡_, refl, sym, ap, _∙_, _≢_, _⊎_, List, Bool, true}
+use Rattle.laws.proofs.Prelude.{false, cond, true≢false, not, _&&_, _||_, length, ltb, eqb, ℕ-discrete, decLt, arith}
+use Rattle.laws.proofs.Prelude.{ne-eqb, eq-eqb, ltb-true, ltb-false, not-true, not-false}
+use mathlib.Core.Logic.{⊎-elim}
+use mathlib.Core.Bool.{or-true, or-false}
+use native.Mathlib.Nat.{add-zero}
+use Rattle.laws.specs.Search.{lowest, someBelow, countBelow}
 use Rattle.laws.proofs.Bools.{and-first, and-second, and-rest}
-use Rattle.laws.proofs.Search.{lowest-stops, none-below}
-use Rattle.directory.specs.Directory.{liveAt}
-use Rattle.directory.specs.NewHome.{pagesAt, mayTake, takesBelow, isFewest, fewestHome, evenHome, nextHome}
-use Rattle.directory.specs.NewHome.{NamesLive, EvenlyShared}
+use Rattle.laws.proofs.Search.{lowest-stops, lowest-agree, some-agree, count-agree, none-below}
+use Rattle.directory.specs.Directory.{Directory, Status, liveAt, isLive, primaryOf, secondaryOf, withHomes}
+use Rattle.directory.specs.Directory.{withStatus}
+use Rattle.directory.specs.NewHome.{isHomeOf, pagesAt, mayTake, takesBelow, isFewest, fewestHome, evenHome}
+use Rattle.directory.specs.NewHome.{nextHome, NamesLive, EvenlyShared}
 use Rattle.directory.proofs.Live.{next-live-is-live, next-live-other}
+use Rattle.directory.proofs.Changes.{primary-of-moved, secondary-of-moved, primary-of-other, secondary-of-other}
 
 -- ---- a card that may take the page
 
@@ -111,6 +117,144 @@ module _ (marks : List Bool) (cards : ℕ) (count : ℕ → ℕ) (kept : ℕ) wh
         let missed = lowest-stops (isFewest marks cards count kept) 0 cards .missed e (omega arith) lower in
         let fewer = not-fewest e may-e missed in
         omega (arith, fewer .less, fewest-home-least _ (fewer .below) (fewer .may))
+
+-- ---- what the rule goes by
+
+-- two conjunctions, where the second parts agree if the first part holds
+and-agrees : (a b x y : Bool) → a ≡ b → (a ≡ true → x ≡ y) → (a && x) ≡ (b && y)
+and-agrees true b x y same agree = rw (← same) (agree refl)
+and-agrees false b x y same agree = rw (← same)
+
+-- the marks below the cards, and the counts of those that may take the page
+module _ (marks marks′ : List Bool) (cards : ℕ) (count count′ : ℕ → ℕ) (kept : ℕ)
+    (alike : (c : ℕ) → c < cards → liveAt marks c ≡ liveAt marks′ c)
+    (same : (c : ℕ) → c < cards → mayTake marks kept c ≡ true → count c ≡ count′ c) where
+  may-take-agrees : (c : ℕ) → c < cards → mayTake marks kept c ≡ mayTake marks′ kept c
+  may-take-agrees c below = rw (alike c below)
+
+  fewer-agrees : (n n′ : ℕ) → n ≡ n′
+      → someBelow (takesBelow marks count kept n) cards ≡ someBelow (takesBelow marks′ count′ kept n′) cards
+  fewer-agrees n n′ e =
+      some-agree (takesBelow marks count kept n) (takesBelow marks′ count′ kept n′) cards
+      (λ c below. and-agrees _ _ _ _ (may-take-agrees c below) (λ may. rw (same c below may, e)))
+
+  pub fewest-home-agrees : fewestHome marks cards count kept ≡ fewestHome marks′ cards count′ kept
+  unfolding isFewest
+  fewest-home-agrees =
+      lowest-agree (isFewest marks cards count kept) (isFewest marks′ cards count′ kept) cards
+      (λ c below.
+        and-agrees _ _ _ _ (may-take-agrees c below)
+        (λ may. ap not (fewer-agrees (count c) (count′ c) (same c below may))))
+
+-- the homes of the pages
+pub pages-at-agrees : (d e : Directory) (c : ℕ) → d .pages ≡ e .pages
+    → ((page : ℕ) → page < d .pages → primaryOf d page ≡ primaryOf e page)
+    → ((page : ℕ) → page < d .pages → secondaryOf d page ≡ secondaryOf e page)
+    → pagesAt d c ≡ pagesAt e c
+unfolding pagesAt
+pages-at-agrees d e c pages primary secondary =
+    count-agree (isHomeOf d c) (isHomeOf e c) (d .pages)
+    (λ page below. rw (primary page below, secondary page below))
+    ∙ ap (countBelow (isHomeOf e c)) pages
+
+pub even-home-agrees : (d e : Directory) (kept : ℕ) → d .cards ≡ e .cards → d .pages ≡ e .pages
+    → ((c : ℕ) → c < d .cards → isLive d c ≡ isLive e c)
+    → ((page : ℕ) → page < d .pages → primaryOf d page ≡ primaryOf e page)
+    → ((page : ℕ) → page < d .pages → secondaryOf d page ≡ secondaryOf e page)
+    → evenHome d kept ≡ evenHome e kept
+unfolding evenHome
+even-home-agrees d e kept cards pages live primary secondary =
+    fewest-home-agrees (d .live) (e .live) (d .cards) (pagesAt d) (pagesAt e) kept live
+    (λ c below may. pages-at-agrees d e c pages primary secondary)
+    ∙ ap (λ (n : ℕ). fewestHome (e .live) n (pagesAt e) kept) cards
+
+-- and not the status
+pub even-home-of-status : (d : Directory) (status : Status) (kept : ℕ)
+    → evenHome (withStatus d status) kept ≡ evenHome d kept
+even-home-of-status d status kept =
+    even-home-agrees (withStatus d status) d kept refl refl (λ c below. refl) (λ page below. refl) (λ page below. refl)
+
+-- ---- the number of a card's pages after a page has moved
+
+-- tests that agree but at i, which only the second passes
+count-one-more : (test test′ : ℕ → Bool) (n i : ℕ) → i < n → test i ≡ false → test′ i ≡ true
+    → ((j : ℕ) → j ≢ i → test′ j ≡ test j) → countBelow test′ n ≡ countBelow test n + 1
+unfolding countBelow
+count-one-more test test′ zero i below fail pass agree = absurd (omega arith)
+count-one-more test test′ (suc n) i below fail pass agree =
+    elim (ℕ-discrete n i) [
+      | yes same ↦
+          rw (same, fail, pass) (omega (arith, count-agree test′ test i (λ j h. agree j (omega arith))))
+      | no other ↦
+          rw (agree n other) (omega (arith, count-one-more test test′ n i (omega arith) fail pass agree))
+    ]
+
+-- a page's homes, in either order: f, which it lost, and the one that it keeps
+abbrev pub Keeps : Directory → ℕ → ℕ → ℕ → Type 0
+Keeps d page f kept =
+    ((primaryOf d page ≡ f) × (secondaryOf d page ≡ kept)) ⊎ ((primaryOf d page ≡ kept) × (secondaryOf d page ≡ f))
+
+-- such a page gets the home `new`
+module _ (d : Directory) (page f kept new : ℕ) (below : page < d .pages)
+    (in-primary : page < length (d .primary)) (in-secondary : page < length (d .secondary))
+    (keeps : Keeps d page f kept) where
+  home-before : (c : ℕ) → c ≢ f → isHomeOf d c page ≡ eqb kept c
+  home-before c other =
+      let lost : eqb f c ≡ false = ne-eqb f c (λ e. other (sym e)) in
+      ⊎-elim
+      (λ at. rw (at .0, at .1, lost))
+      (λ at. rw (at .0, at .1, lost) (or-false (eqb kept c)))
+      keeps
+
+  home-after : (c : ℕ) → isHomeOf (withHomes d page kept new) c page ≡ (eqb kept c || eqb new c)
+  home-after c =
+      rw (
+        primary-of-moved d page kept new in-primary,
+        secondary-of-moved d page kept new in-secondary,
+      )
+
+  home-elsewhere : (c other : ℕ) → other ≢ page → isHomeOf (withHomes d page kept new) c other ≡ isHomeOf d c other
+  home-elsewhere c other apart =
+      rw (
+        primary-of-other d page kept new other apart,
+        secondary-of-other d page kept new other apart,
+      )
+
+  -- it counts for its new home
+  pub pages-at-new : new ≢ f → new ≢ kept → pagesAt (withHomes d page kept new) new ≡ pagesAt d new + 1
+  unfolding pagesAt
+  pages-at-new not-lost not-kept =
+      count-one-more (isHomeOf d new) (isHomeOf (withHomes d page kept new) new) (d .pages) page below
+      (home-before new not-lost ∙ ne-eqb kept new (λ e. not-kept (sym e)))
+      (home-after new ∙ rw (eq-eqb new new refl) (or-true (eqb kept new)))
+      (home-elsewhere new)
+
+  -- and as before for every other card but f
+  pub pages-at-others : (c : ℕ) → c ≢ f → c ≢ new → pagesAt (withHomes d page kept new) c ≡ pagesAt d c
+  unfolding pagesAt
+  pages-at-others c not-lost not-new =
+      count-agree (isHomeOf (withHomes d page kept new) c) (isHomeOf d c) (d .pages) at
+    where
+      at : (other : ℕ) → other < d .pages → isHomeOf (withHomes d page kept new) c other ≡ isHomeOf d c other
+      at other within =
+          elim (ℕ-discrete other page) [
+            | yes same ↦
+                rw same
+                (home-after c ∙ rw (ne-eqb new c (λ e. not-new (sym e))) (or-false (eqb kept c))
+                ∙ sym (home-before c not-lost))
+            | no apart ↦ home-elsewhere c other apart
+          ]
+
+  -- in one
+  pub pages-at-moved : (c : ℕ) → c ≢ f → new ≢ kept
+      → pagesAt (withHomes d page kept new) c ≡ pagesAt d c + cond (eqb c new) 1 0
+  pages-at-moved c not-lost not-kept =
+      elim (ℕ-discrete c new) [
+        | yes same ↦
+            rw (eq-eqb c new same)
+            (rw same (pages-at-new (λ e. not-lost (same ∙ e)) not-kept))
+        | no other ↦ rw (ne-eqb c new other, add-zero) (pages-at-others c not-lost other)
+      ]
 
 -- ---- what is claimed of the rules
 
