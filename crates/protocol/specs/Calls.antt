@@ -3,6 +3,7 @@
 -- Assumes nothing: these are definitions.
 use Rattle.laws.specs.Prelude.{ℕ, List}
 use Rattle.directory.specs.declared.Directory.{Directory}
+use Rattle.directory.specs.NewHome.{HomeRule, evenHome}
 use Rattle.area.specs.Prelude.{Release}
 use Rattle.protocol.specs.Result.{Result}
 unfoldable pub use Rattle.protocol.specs.Formatting.{formatting}
@@ -10,7 +11,7 @@ unfoldable pub use Rattle.protocol.specs.Opening.{opening, openingChecks
 unfoldable pub use Rattle.protocol.specs.Step.{step, stepChecks}
 unfoldable pub use Rattle.protocol.specs.Fetch.{fetch, pageChecks, fetchChecks}
 unfoldable pub use Rattle.protocol.specs.Failure.{failure, failureChecks}
-unfoldable pub use Rattle.protocol.specs.Recovery.{recovery, recoveryChecks}
+unfoldable pub use Rattle.protocol.specs.Recovery.{recoveryBy, recovery, recoveryChecks}
 unfoldable pub use Rattle.protocol.specs.Join.{join, joinChecks}
 unfoldable pub use Rattle.protocol.specs.DeskQuestion.{deskQuestion, deskChecks}
 
@@ -23,12 +24,16 @@ pub data Call : Type 0 where
   join-card : (card : ℕ) → Call
   ask-desk : (card : ℕ) → Call
 
+-- each call by its definition, with lost homes replaced by a rule
+unfoldable pub performBy : HomeRule → Call → Directory → List ℕ → Result
+performBy rule (open-release card r list) d m = opening d m card r list
+performBy rule (make-step card) d m = step d m card
+performBy rule (fetch-page page buffer) d m = fetch d m page buffer
+performBy rule (fail-card card) d m = failure d m card
+performBy rule recover d m = recoveryBy rule d m
+performBy rule (join-card card) d m = join d m card
+performBy rule (ask-desk card) d m = deskQuestion d m card
+
 -- each call by the definition that its contract cites
-unfoldable pub perform : Call → Directory → List ℕ → Result
-perform (open-release card r list) d m = opening d m card r list
-perform (make-step card) d m = step d m card
-perform (fetch-page page buffer) d m = fetch d m page buffer
-perform (fail-card card) d m = failure d m card
-perform recover d m = recovery d m
-perform (join-card card) d m = join d m card
-perform (ask-desk card) d m = deskQuestion d m card
+abbrev pub perform : Call → Directory → List ℕ → Result
+perform call d m = performBy evenHome call d m

@@ -2,12 +2,13 @@
 use Rattle.laws.specs.Prelude.{ℕ, _+_, _*_, _<_, _≡_, List, [], _∷_, Bool, true, false, cond, length}
 use Rattle.directory.specs.declared.Directory.{Directory}
 use Rattle.directory.specs.Directory.{table}
+use Rattle.directory.specs.NewHome.{HomeRule, NamesLive, evenHome}
 use Rattle.area.specs.Prelude.{load, deskSize, pageSize}
 use Rattle.protocol.specs.Release.{sizeOf}
 use Rattle.protocol.specs.Result.{Result, accepted}
 use Rattle.protocol.specs.Formatting.{formatting}
 use Rattle.protocol.specs.Calls.{Call, open-release, make-step, fetch-page, fail-card, recover, join-card}
-use Rattle.protocol.specs.Calls.{ask-desk, perform, formatting}
+use Rattle.protocol.specs.Calls.{ask-desk, performBy, formatting}
 use Rattle.protocol.specs.Book.{none, Book, newBook, update, transitionIf}
 
 -- ---- what stands between two calls
@@ -62,27 +63,38 @@ Conforms b (ask-desk card) result = b .release card ≡ none → result .words �
 
 -- ---- every list of calls
 
-abbrev pub answerTo : Directory → Event → Result
-answerTo d e = perform (e .call) d (e .found)
+-- by the rule with which the rack replaces lost homes
+abbrev pub answerTo : HomeRule → Directory → Event → Result
+answerTo rule d e = performBy rule (e .call) d (e .found)
 
 -- Each call gets what the last one left, refused or not; at each, P holds of the book, the directory and the event.
 unfoldable pub Always :
-    (Book → Directory → Event → Type 0) → Directory → List ℕ → (ℕ → Bool) → Book → List Event → Type 0
-Always P d left offline b [] = Unit {0}
-Always P d left offline b (e ∷ es) =
-    let result : Result = answerTo d e in
+    HomeRule → (Book → Directory → Event → Type 0) → Directory → List ℕ → (ℕ → Bool) → Book → List Event → Type 0
+Always rule P d left offline b [] = Unit {0}
+Always rule P d left offline b (e ∷ es) =
+    let result : Result = answerTo rule d e in
     let taken : Bool = accepted (result .outcome) in
     Typed (e .call) → Interference d offline left (e .found)
     → P b d e
-    × Always P (result .directory) (result .memory) (cond taken (offlineAfter (e .call) offline) offline)
+    × Always rule P (result .directory) (result .memory) (cond taken (offlineAfter (e .call) offline) offline)
     (transitionIf taken (e .call) b) es
 
 -- on every formatted rack
-abbrev pub Everywhere : (Book → Directory → Event → Type 0) → Type 0
-Everywhere P =
+abbrev pub Everywhere : HomeRule → (Book → Directory → Event → Type 0) → Type 0
+Everywhere rule P =
     (m : List ℕ) (cards pages : ℕ) → accepted (formatting m cards pages .outcome) ≡ true → (events : List Event)
-    → Always P (formatting m cards pages .directory) (formatting m cards pages .memory) (λ card. false) newBook events
+    → Always rule P (formatting m cards pages .directory) (formatting m cards pages .memory) (λ card. false) newBook
+    events
 
 -- Demand 3: an accepted call answers what the book holds.
+abbrev pub Demand3By : HomeRule → Type 0
+Demand3By rule =
+    Everywhere rule
+    (λ b d e. accepted (answerTo rule d e .outcome) ≡ true → Conforms b (e .call) (answerTo rule d e))
+
 abbrev pub Demand3 : Type 0
-Demand3 = Everywhere (λ b d e. accepted (answerTo d e .outcome) ≡ true → Conforms b (e .call) (answerTo d e))
+Demand3 = Demand3By evenHome
+
+-- whatever the rule, if it names a live card other than the kept home
+abbrev pub ByAnyRule : (HomeRule → Type 0) → Type 0
+ByAnyRule claim = (rule : HomeRule) → NamesLive rule → claim rule

@@ -14,6 +14,7 @@ pub mod Calls
 pub mod Book
 pub mod Demand3
 pub mod Demand1
+pub mod AnswersAsBefore
 pub mod PastLimits
 pub mod Corollaries
 pub mod Examples

@@ -9,6 +9,7 @@ use Rattle.directory.specs.declared.Status.{Status}
 use Rattle.directory.specs.declared.Status.the-variants.{Running, Awaiting}
 use Rattle.directory.specs.Directory.{isLive, primaryOf, secondaryOf, nextLiveOf, backupOf, markedLive, withHomes}
 use Rattle.directory.specs.Directory.{withStatus}
+use Rattle.directory.specs.NewHome.{HomeRule, evenHome}
 use Rattle.area.specs.Prelude.{copyRun, zeros, deskSize, pageSize, tentative, committed, storedPageSize, pageAt}
 use Rattle.area.specs.Prelude.{Release, stepsOf, isOpen, recordedRelease, underWay, writeRecord, writeOwnRecord}
 use Rattle.protocol.specs.Release.{sizeOf, openPrices, stepsIn, stepMemory}
@@ -52,8 +53,9 @@ restorePage d forward page m =
 unfoldable pub restorePages : Directory → Bool → List ℕ → List ℕ
 restorePages d forward m = inTurn (restorePage d forward) (d .pages) m
 
--- ---- "A page whose primary was f takes its secondary as primary. A page that lost a home gets as secondary the next
--- live after its primary, with both copies."
+-- ---- "A page whose primary was f takes its secondary as primary." A page that lost a home gets as secondary the card
+-- that a rule names, with both copies. "Pages are taken in rising order, each choice counted in the next" (document 02,
+-- request 4): the rule is told the directory in which the pages before it have their new homes.
 
 unfoldable pub lostHome : Directory → ℕ → ℕ → Bool
 lostHome d f page = eqb (primaryOf d page) f || eqb (secondaryOf d page) f
@@ -61,25 +63,31 @@ lostHome d f page = eqb (primaryOf d page) f || eqb (secondaryOf d page) f
 unfoldable pub keptHome : Directory → ℕ → ℕ → ℕ
 keptHome d f page = cond (eqb (primaryOf d page) f) (secondaryOf d page) (primaryOf d page)
 
-unfoldable pub newHome : Directory → ℕ → ℕ → ℕ
-newHome d f page = nextLiveOf d (keptHome d f page)
+-- a page's turn: its own homes stand in the directory until then
+unfoldable pub moveHome : HomeRule → ℕ → ℕ → Directory → Directory
+moveHome rule f page d =
+    cond (lostHome d f page) (withHomes d page (keptHome d f page) (rule d (keptHome d f page))) d
 
-unfoldable pub copyToNewHome : Directory → ℕ → ℕ → List ℕ → List ℕ
-copyToNewHome d f page m =
+-- the pages below n have had their turns
+unfoldable pub movedBelow : HomeRule → Directory → ℕ → ℕ → Directory
+movedBelow rule d f n = inTurn (moveHome rule f) n d
+
+unfoldable pub newHome : HomeRule → Directory → ℕ → ℕ → ℕ
+newHome rule d f page = rule (movedBelow rule d f page) (keptHome d f page)
+
+unfoldable pub copyToNewHome : HomeRule → Directory → ℕ → ℕ → List ℕ → List ℕ
+copyToNewHome rule d f page m =
     cond (lostHome d f page)
-    (copyRun (sizeOf d) m (keptHome d f page) (pageAt page) (newHome d f page) (pageAt page)
+    (copyRun (sizeOf d) m (keptHome d f page) (pageAt page) (newHome rule d f page) (pageAt page)
     storedPageSize)
     m
 
-unfoldable pub copyToNewHomes : Directory → ℕ → List ℕ → List ℕ
-copyToNewHomes d f m = inTurn (copyToNewHome d f) (d .pages) m
-
-unfoldable pub moveHome : Directory → ℕ → ℕ → Directory → Directory
-moveHome d f page moved = cond (lostHome d f page) (withHomes moved page (keptHome d f page) (newHome d f page)) moved
+unfoldable pub copyToNewHomes : HomeRule → Directory → ℕ → List ℕ → List ℕ
+copyToNewHomes rule d f m = inTurn (copyToNewHome rule d f) (d .pages) m
 
 -- the directory after recovery: homes moved, and running
-unfoldable pub recoveredDirectory : Directory → ℕ → Directory
-recoveredDirectory d f = withStatus (inTurn (moveHome d f) (d .pages) d) Running
+unfoldable pub recoveredDirectory : HomeRule → Directory → ℕ → Directory
+recoveredDirectory rule d f = withStatus (movedBelow rule d f (d .pages)) Running
 
 -- ---- "f's record .. is written on every live card. Each live card whose backup was f has its record written likewise
 -- on its new backup, from its own stamp and desk."
@@ -107,8 +115,8 @@ restoredMemory d f m =
     let closed : List ℕ = closeReleases d f m in
     restorePages d (underWay (sizeOf d) closed (nextLiveOf d f) f) closed
 
-unfoldable pub recoveredMemory : Directory → ℕ → List ℕ → List ℕ
-recoveredMemory d f m = writeRecords d f (failedRelease d f m) (copyToNewHomes d f (restoredMemory d f m))
+unfoldable pub recoveredMemory : HomeRule → Directory → ℕ → List ℕ → List ℕ
+recoveredMemory rule d f m = writeRecords d f (failedRelease d f m) (copyToNewHomes rule d f (restoredMemory d f m))
 
 -- the card whose recovery is awaited; 0 if none
 unfoldable pub awaitedCard : Status → ℕ
@@ -119,15 +127,19 @@ abbrev pub recoveryChecks : Directory → List ℕ → List Check
 recoveryChecks d m = fittingChecks d m ++ check (not (awaitsRecovery (d .status))) noneAwaited ∷ []
 
 -- "The answer is f's stamp and desk."
-unfoldable pub recovery : Directory → List ℕ → Result
-recovery d m =
+unfoldable pub recoveryBy : HomeRule → Directory → List ℕ → Result
+recoveryBy rule d m =
     let f : ℕ = awaitedCard (d .status) in
     let o : Outcome = firstRefusal (recoveryChecks d m) (failedRelease d f m .number) in
     resultOf o
     (record {
       outcome = o;
-      directory = recoveredDirectory d f;
-      memory = recoveredMemory d f m;
+      directory = recoveredDirectory rule d f;
+      memory = recoveredMemory rule d f m;
       words = failedRelease d f m .desk;
     })
     d m (zeros deskSize)
+
+-- by the rule of document 02, request 4
+abbrev pub recovery : Directory → List ℕ → Result
+recovery d m = recoveryBy evenHome d m

@@ -1,10 +1,14 @@
 // The demands on the rack, over the definitions that the calls' contracts cite. The functions here
-// do nothing when they are called: they are where the gate shows the theorems.
+// do nothing when they are called: they are where the gate shows the theorems. Demand 3 and what
+// follows from it hold by the rule for new homes that recovery has, and by any other that names a
+// live card beside the home that a page keeps.
 ghost use Rattle.laws.specs.Examples.{AllHold};
 ghost use Rattle.protocol.specs.Demand1.{Demand1};
-ghost use Rattle.protocol.specs.Demand3.{Demand3};
+ghost use Rattle.protocol.specs.Demand3.{Demand3, Demand3By, ByAnyRule};
 ghost use Rattle.protocol.specs.PastLimits.{PastLimits};
-ghost use Rattle.protocol.specs.Corollaries.{AlwaysFits, ResendsRefused, CountsOnce};
+ghost use Rattle.protocol.specs.Corollaries.{AlwaysFits, AlwaysFitsBy};
+ghost use Rattle.protocol.specs.Corollaries.{ResendsRefused, ResendsRefusedBy};
+ghost use Rattle.protocol.specs.Corollaries.{CountsOnce, CountsOnceBy};
 ghost use Rattle.protocol.specs.Examples.Releases.{releaseExamples};
 ghost use Rattle.protocol.specs.Examples.Refusals.{refusalExamples};
 ghost use Rattle.protocol.specs.Examples.Recoveries.{recoveryExamples};
@@ -25,21 +29,25 @@ pub fn nothing_past_is_read()
 // accepted calls answer what the book holds.
 pub fn calls_conform_to_book()
     ensures { λ _. ⌜ Demand3 ⌝ }
+    ensures any_rule { λ _. ⌜ ByAnyRule Demand3By ⌝ }
 {}
 
 // No call on a rack so reached is refused with 2.
 pub fn rack_always_fits()
     ensures { λ _. ⌜ AlwaysFits ⌝ }
+    ensures any_rule { λ _. ⌜ ByAnyRule AlwaysFitsBy ⌝ }
 {}
 
 // A release resent to its card is refused with 4 or 5, unless a recovery undid it.
 pub fn resends_are_refused()
     ensures { λ _. ⌜ ResendsRefused ⌝ }
+    ensures any_rule { λ _. ⌜ ByAnyRule ResendsRefusedBy ⌝ }
 {}
 
 // Each call counts at most the next number of a card, so no release counts twice.
 pub fn releases_count_once()
     ensures { λ _. ⌜ CountsOnce ⌝ }
+    ensures any_rule { λ _. ⌜ ByAnyRule CountsOnceBy ⌝ }
 {}
 
 // Worked examples of the calls, computed from the definitions: the words, numbers and places that

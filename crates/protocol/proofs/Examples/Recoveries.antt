@@ -4,6 +4,7 @@ use Rattle.laws.specs.Search.{lowestFrom, countBelow, inTurn}
 use Rattle.laws.specs.Examples.{AllHold, sameWords, failuresFrom, Claims}
 use Rattle.laws.proofs.Examples.{all-hold}
 use Rattle.directory.specs.Directory.{formattedDirectory, tableFrom, nextLive}
+use Rattle.directory.specs.NewHome.{pagesAt, isFewest, evenHome}
 use Rattle.area.specs.Prelude.{load, store, loadRun, overwrite, storeRun, clearRun, copyRun, zeros, ownRelease}
 use Rattle.area.specs.Prelude.{openRelease, openList, stepsOf, isOpen, recordedRelease, underWay, settledRecord}
 use Rattle.area.specs.Prelude.{writeRecord, writeOwnRecord, numberWords, numberAt}
@@ -16,7 +17,7 @@ use Rattle.protocol.specs.Opening.{openMemory}
 use Rattle.protocol.specs.Recovery.{stepTimes, runToClose, closeReleases, restoreHome, restorePage, restorePages}
 use Rattle.protocol.specs.Recovery.{lostHome, keptHome, newHome, copyToNewHome, copyToNewHomes, moveHome}
 use Rattle.protocol.specs.Recovery.{recoveredDirectory, writeFailed, writeRecords, failedRelease, restoredMemory}
-use Rattle.protocol.specs.Recovery.{recoveredMemory, awaitedCard, recovery}
+use Rattle.protocol.specs.Recovery.{recoveredMemory, awaitedCard, recoveryBy, movedBelow}
 use Rattle.protocol.specs.Examples.Racks.{smallMemory}
 use Rattle.protocol.specs.Examples.Recoveries.{rolledForward, rolledBack, deadArea, closedWithout1, closedInTurn}
 use Rattle.protocol.specs.Examples.Recoveries.{recovered, recoveryExamples}
@@ -28,6 +29,6 @@ unfolding sameWords failuresFrom Claims numberWords numberAt lowestFrom countBel
     settledRecord writeRecord writeOwnRecord firstRefusal outsideLimits fewLive badHome badPage badStatus badRelease
     badCard unfitRack awaitsRecovery openMemory stepTimes runToClose closeReleases restoreHome restorePage restorePages
     lostHome keptHome newHome copyToNewHome copyToNewHomes moveHome recoveredDirectory writeFailed writeRecords
-    failedRelease restoredMemory recoveredMemory awaitedCard recovery smallMemory rolledForward rolledBack deadArea
+    failedRelease restoredMemory recoveredMemory awaitedCard recoveryBy movedBelow pagesAt isFewest evenHome smallMemory rolledForward rolledBack deadArea
     closedWithout1 closedInTurn recovered
 recoveries-hold = all-hold recoveryExamples refl tt

@@ -11,7 +11,7 @@ use Rattle.diff.specs.Prices.{pricesFrom, pricesOf, names}
 use Rattle.protocol.specs.Release.{releaseWrites, makeWrite, close, stepMemory}
 use Rattle.protocol.specs.Checks.{firstRefusal, outsideLimits, fewLive, badHome, badPage, badStatus, badRelease}
 use Rattle.protocol.specs.Checks.{badCard, unfitRack, awaitsRecovery}
-use Rattle.protocol.specs.Calls.{formatting, opening, step, fetch, failure, recovery, join, deskQuestion}
+use Rattle.protocol.specs.Calls.{formatting, opening, step, fetch, failure, recoveryBy, join, deskQuestion}
 use Rattle.protocol.specs.Opening.{shareWord, sharesWith, openMemory}
 use Rattle.protocol.specs.Fetch.{namesPage, inMotion, committedPage}
 use Rattle.protocol.specs.Examples.Racks.{smallMemory}
@@ -23,5 +23,5 @@ unfolding sameWords failuresFrom Claims numberWords numberAt lowestFrom countBel
     pricesFrom pricesOf names ownRelease openRelease openList stepsOf isOpen releaseWrites makeWrite close stepMemory
     recordedRelease firstRefusal outsideLimits fewLive badHome badPage badStatus badRelease badCard unfitRack
     awaitsRecovery formatting shareWord sharesWith openMemory opening step namesPage inMotion committedPage fetch
-    failure recovery join deskQuestion smallMemory twoOpen nineClosed fourCopies
+    failure recoveryBy join deskQuestion smallMemory twoOpen nineClosed fourCopies
 refusals-hold = all-hold refusalExamples refl tt

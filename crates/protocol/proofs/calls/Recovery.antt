@@ -4,10 +4,11 @@ use Rattle.answer.specs.declared.Outcome.{Outcome}
 use Rattle.answer.specs.Outcome.{given}
 use Rattle.directory.specs.declared.Directory.{Directory}
 use Rattle.directory.specs.Directory.{liveAt}
+use Rattle.directory.specs.NewHome.{HomeRule, NamesLive}
 use Rattle.area.specs.Prelude.{Release}
 use Rattle.protocol.specs.Checks.{firstRefusal, awaitsRecovery}
 use Rattle.protocol.specs.Result.{accepted}
-use Rattle.protocol.specs.Recovery.{recovery, recoveryChecks, failedRelease, awaitedCard, recoveredDirectory}
+use Rattle.protocol.specs.Recovery.{recoveryBy, recoveryChecks, failedRelease, awaitedCard, recoveredDirectory}
 use Rattle.protocol.specs.Recovery.{recoveredMemory}
 use Rattle.protocol.specs.Calls.{recover}
 use Rattle.protocol.specs.Book.{Book, transition}
@@ -20,9 +21,10 @@ use Rattle.protocol.proofs.checks.Outcome.{given-value}
 use Rattle.protocol.proofs.calls.Accepted.{AcceptedCall, accepted-by-checks, awaiting-rack}
 
 module _ (d : Directory) (m : List ℕ) (b : Book) (offline : ℕ → Bool) (rack : Rack d m b)
-    (online : LiveOnline d offline) where
-  pub recovery-accepted : accepted (recovery d m .outcome) ≡ true → AcceptedCall recover offline b (recovery d m)
-  unfolding recovery awaitedCard Conforms transition offlineAfter
+    (online : LiveOnline d offline) (rule : HomeRule) (good : NamesLive rule) where
+  pub recovery-accepted : accepted (recoveryBy rule d m .outcome) ≡ true
+      → AcceptedCall recover offline b (recoveryBy rule d m)
+  unfolding recoveryBy awaitedCard Conforms transition offlineAfter
   recovery-accepted =
       accepted-by-checks d m b offline rack online recover (recoveryChecks d m) _ _ _ refl refl
       (λ p.
@@ -35,8 +37,8 @@ module _ (d : Directory) (m : List ℕ) (b : Book) (offline : ℕ → Bool) (rac
           → AcceptedCall recover offline b
           (record {
             outcome = firstRefusal (recoveryChecks d m) (failedRelease d (awaitedCard (d .status)) m .number);
-            directory = recoveredDirectory d (awaitedCard (d .status));
-            memory = recoveredMemory d (awaitedCard (d .status)) m;
+            directory = recoveredDirectory rule d (awaitedCard (d .status));
+            memory = recoveredMemory rule d (awaitedCard (d .status)) m;
             words = failedRelease d (awaitedCard (d .status)) m .desk;
           })
       recovered f awaiting gives =
@@ -48,13 +50,13 @@ module _ (d : Directory) (m : List ℕ) (b : Book) (offline : ℕ → Bool) (rac
               ap (λ (o : Outcome). o .value) gives ∙ ap (λ (r : Release). r .number) release-is,
               ap (λ (r : Release). r .desk) release-is,
             );
-            rack = inl (rw card (recovers d f m b awaiting));
+            rack = inl (rw card (recovers d f m b awaiting rule good));
             online = λ c live. online c (subst (λ (marks : List Bool). liveAt marks c ≡ true) (marks card) live);
           }
         where
-          marks : awaitedCard (d .status) ≡ f → recoveredDirectory d (awaitedCard (d .status)) .live ≡ d .live
+          marks : awaitedCard (d .status) ≡ f → recoveredDirectory rule d (awaitedCard (d .status)) .live ≡ d .live
           marks card =
               rw card
               (ap (λ (after : Directory). after .live)
-              (recovered-parts d f (awaiting .core .shape .few-pages) (awaiting .arrays .primaries)
+              (recovered-parts rule d f (awaiting .core .shape .few-pages) (awaiting .arrays .primaries)
               (awaiting .arrays .secondaries)))

@@ -3,12 +3,13 @@ use Rattle.laws.proofs.Prelude.{ℕ, _≡_, refl, sym, _∙_, _≢_, List, _++_
 use Rattle.answer.specs.declared.Outcome.{Outcome}
 use Rattle.answer.specs.Outcome.{unfit}
 use Rattle.directory.specs.declared.Directory.{Directory}
+use Rattle.directory.specs.NewHome.{HomeRule}
 use Rattle.protocol.specs.Checks.{Check, firstRefusal, fittingChecks}
 use Rattle.protocol.specs.Result.{accepted}
-use Rattle.protocol.specs.Calls.{Call, perform}
+use Rattle.protocol.specs.Calls.{Call, performBy}
 use Rattle.protocol.specs.Demand1.{isAmong, handedBack}
-use Rattle.protocol.specs.Demand3.{answerTo}
-use Rattle.protocol.specs.Corollaries.{AlwaysFits}
+use Rattle.protocol.specs.Demand3.{answerTo, ByAnyRule}
+use Rattle.protocol.specs.Corollaries.{AlwaysFitsBy}
 use Rattle.protocol.proofs.checks.ByCall.{Fits}
 use Rattle.protocol.proofs.checks.Outcome.{outcome-of, numbersOf, among}
 use Rattle.protocol.proofs.invariant.Fits.{rack-fits}
@@ -29,14 +30,14 @@ module _ (d : Directory) (m : List ℕ) (fits : Fits d m) where
   unfolding firstRefusal
   after-two more value = rw (fits .limits, fits .fit)
 
-  never-unfit : (call : Call) → perform call d m .outcome .number ≢ unfit
-  never-unfit call =
-      let by = performed call d m in
+  never-unfit : (rule : HomeRule) (call : Call) → performBy rule call d m .outcome .number ≢ unfit
+  never-unfit rule call =
+      let by = performed rule call d m in
       let o : Outcome = firstRefusal (fittingChecks d m ++ by .more) (by .value) in
       rw (by .is, outcome-of o (by .done) d m (handedBack call) (by .same), after-two (by .more) (by .value))
       (other-number (by .more) (by .value) (by .unfit-once))
 
-pub always-fits : AlwaysFits
-always-fits =
-    everywhere (λ b d e. answerTo d e .outcome .number ≢ unfit)
-    (λ d offline b e rack online typed. never-unfit d (e .found) (rack-fits d (e .found) b rack) (e .call))
+pub always-fits : ByAnyRule AlwaysFitsBy
+always-fits rule good =
+    everywhere rule good (λ b d e. answerTo rule d e .outcome .number ≢ unfit)
+    (λ d offline b e rack online typed. never-unfit d (e .found) (rack-fits d (e .found) b rack) rule (e .call))

@@ -10,8 +10,8 @@ use Rattle.protocol.specs.Calls.{Call, open-release, make-step, fetch-pa
 use Rattle.protocol.specs.Calls.{ask-desk}
 use Rattle.protocol.specs.Book.{Opened, none, opened, listPrices, Book, update, count, stepBook, countUncounted}
 use Rattle.protocol.specs.Book.{countOpen, transition, transitionIf}
-use Rattle.protocol.specs.Demand3.{answerTo}
-use Rattle.protocol.specs.Corollaries.{CountsNext, CountsOnce}
+use Rattle.protocol.specs.Demand3.{answerTo, ByAnyRule}
+use Rattle.protocol.specs.Corollaries.{CountsNext, CountsOnceBy}
 use Rattle.protocol.proofs.book.Changes.{update-each}
 use Rattle.protocol.proofs.records.Recorded.{Numbers}
 use Rattle.protocol.proofs.invariant.Rack.{Rack}
@@ -82,8 +82,9 @@ rack-numbers : {d : Directory} {m : List ℕ} {b : Book} → Rack d m b → (c :
 rack-numbers (inl rack) = rack .core .numbers
 rack-numbers (inr rack) = rack .1 .core .numbers
 
-pub counts-once : CountsOnce
-counts-once =
-    everywhere (λ b d e. CountsNext b (transitionIf (accepted (answerTo d e .outcome)) (e .call) b))
-    (λ d offline b e rack online typed. transition-if-next b (rack-numbers rack) (accepted (answerTo d e .outcome))
-    (e .call))
+pub counts-once : ByAnyRule CountsOnceBy
+counts-once rule good =
+    everywhere rule good
+    (λ b d e. CountsNext b (transitionIf (accepted (answerTo rule d e .outcome)) (e .call) b))
+    (λ d offline b e rack online typed. transition-if-next b (rack-numbers rack)
+    (accepted (answerTo rule d e .outcome)) (e .call))

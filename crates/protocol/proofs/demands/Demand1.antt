@@ -3,6 +3,7 @@ use Rattle.laws.proofs.Prelude.{ℕ, _≡_, refl, List, [], _∷_, Bool, true, 
 use Rattle.answer.specs.declared.Outcome.{Outcome}
 use Rattle.answer.specs.Outcome.{given, refused, limits, wrongBuffer}
 use Rattle.directory.specs.Directory.{emptyDirectory}
+use Rattle.directory.specs.NewHome.{evenHome}
 use Rattle.diff.specs.Format.{mostWords}
 use Rattle.diff.specs.Making.{madeDiff, lentPages, makeDiff, bufferAfter}
 use Rattle.protocol.specs.Checks.{check, outsideLimits}
@@ -36,7 +37,7 @@ pub demand-1 : Demand1
 unfolding formatting
 demand-1 =
     record {
-      calls = refused-unchanged;
+      calls = refused-unchanged evenHome;
       formats = λ m cards pages.
           refused-by-checks (check (outsideLimits (length m) cards pages) limits ∷ []) 0 _ emptyDirectory m [] refl;
       lists = refused-list;

@@ -3,16 +3,17 @@ use Rattle.laws.proofs.Prelude.{ℕ, _≤_, _≡_, refl, ap, _⊎_, inl, List, 
 use Rattle.answer.specs.declared.Outcome.{Outcome}
 use Rattle.directory.specs.declared.Directory.{Directory}
 use Rattle.directory.specs.Directory.{isLive}
+use Rattle.directory.specs.NewHome.{HomeRule}
 use Rattle.area.specs.Prelude.{Release, ownRelease}
 use Rattle.protocol.specs.Release.{sizeOf}
 use Rattle.protocol.specs.Checks.{firstRefusal, awaitsRecovery}
 use Rattle.protocol.specs.Result.{Result}
 use Rattle.protocol.specs.Opening.{opening, openingChecks, openMemory}
-use Rattle.protocol.specs.Calls.{perform}
+use Rattle.protocol.specs.Calls.{performBy}
 use Rattle.protocol.specs.Book.{Opened, none, opened, Book}
 use Rattle.protocol.specs.Demand1.{isAmong}
-use Rattle.protocol.specs.Demand3.{Event}
-use Rattle.protocol.specs.Corollaries.{OpenUnder, ResendRefused, ResendsRefused}
+use Rattle.protocol.specs.Demand3.{Event, ByAnyRule}
+use Rattle.protocol.specs.Corollaries.{OpenUnder, ResendRefused, ResendsRefusedBy}
 use Rattle.protocol.proofs.invariant.Rack.{RunningRack, Rack}
 use Rattle.protocol.proofs.checks.ByCall.{Fits}
 use Rattle.protocol.proofs.checks.Outcome.{outcome-of}
@@ -54,12 +55,14 @@ module _ (d : Directory) (m : List ℕ) (b : Book) (rack : RunningRack d m b) (f
       )))
   resent (opened r′ list′ s) is taken = rw (number-is 4 (rw (is-open d m b rack c r′ list′ s is)))
 
-resend-refused : (d : Directory) (b : Book) (e : Event) → Rack d (e .found) b → ResendRefused b d e
-unfolding ResendRefused perform
-resend-refused d b e rack card r list is running live taken =
+resend-refused : (rule : HomeRule) (d : Directory) (b : Book) (e : Event) → Rack d (e .found) b
+    → ResendRefused rule b d e
+unfolding ResendRefused performBy
+resend-refused rule d b e rack card r list is running live taken =
     rw is
     (resent d (e .found) b (running-rack rack running) (rack-fits d (e .found) b rack) card live r list
     (b .release card) refl taken)
 
-pub resends-refused : ResendsRefused
-resends-refused = everywhere ResendRefused (λ d offline b e rack online typed. resend-refused d b e rack)
+pub resends-refused : ByAnyRule ResendsRefusedBy
+resends-refused rule good =
+    everywhere rule good (ResendRefused rule) (λ d offline b e rack online typed. resend-refused rule d b e rack)

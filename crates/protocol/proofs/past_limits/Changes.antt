@@ -1,14 +1,15 @@
 -- The changes that calls make to a directory go by nothing that stands past its cards and pages, and keep it.
-use Rattle.laws.proofs.Prelude.{ℕ, zero, suc, _≤_, _<_, _≡_, refl, sym, ap, _∙_, Bool, true, false, cond, arith}
+use Rattle.laws.proofs.Prelude.{ℕ, zero, suc, _≤_, _<_, _≡_, refl, ap, _∙_, Bool, true, false, cond, arith}
 use lib.Seq.{drop-set-lt}
 use Rattle.laws.specs.Search.{inTurn}
 use Rattle.directory.specs.declared.Directory.{Directory}
 use Rattle.directory.specs.declared.Status.{Status}
 use Rattle.directory.specs.declared.Status.the-variants.{Running}
 use Rattle.directory.specs.Directory.{withMark, withHomes, withStatus}
-use Rattle.protocol.specs.Recovery.{lostHome, keptHome, newHome, moveHome, recoveredDirectory}
+use Rattle.directory.specs.NewHome.{HomeRule}
+use Rattle.protocol.specs.Recovery.{lostHome, keptHome, newHome, moveHome, movedBelow, recoveredDirectory}
 use Rattle.protocol.specs.PastLimits.{belowLimits, KeptPast}
-use Rattle.protocol.proofs.past_limits.Directory.{next-below, primary-below, secondary-below, below-twice}
+use Rattle.protocol.proofs.past_limits.Directory.{primary-below, secondary-below, below-twice}
 use Rattle.protocol.proofs.past_limits.Directory.{marked-below, with-homes-below}
 
 -- ---- a mark and the status
@@ -55,55 +56,65 @@ module _ (d : Directory) (f : ℕ) where
   unfolding keptHome
   kept-below page within = rw (primary-below d page within, secondary-below d page within)
 
-  pub new-below : (page : ℕ) → page < d .pages → newHome (belowLimits d) f page ≡ newHome d f page
-  unfolding newHome
-  new-below page within = rw (kept-below page within) (next-below d (keptHome d f page))
+-- a rule that goes by nothing past the cards and pages
+abbrev pub RuleBelow : HomeRule → Type 0
+RuleBelow rule = (d : Directory) (kept : ℕ) → rule (belowLimits d) kept ≡ rule d kept
 
-  move-same : (n : ℕ) → n < d .pages → (x y : Directory) → belowLimits x ≡ belowLimits y
-      → belowLimits (moveHome (belowLimits d) f n x) ≡ belowLimits (moveHome d f n y)
+module _ (rule : HomeRule) (rule-below : RuleBelow rule) (f : ℕ) where
+  move-below : (d : Directory) (n : ℕ) → n < d .pages
+      → moveHome rule f n (belowLimits d) ≡ belowLimits (moveHome rule f n d)
   unfolding moveHome
-  move-same n page x y same =
-      rw (lost-below n page, kept-below n page, new-below n page) (go (lostHome d f n))
+  move-below d n page =
+      rw (lost-below d f n page, kept-below d f n page, rule-below d (keptHome d f n)) (go (lostHome d f n))
     where
-      go : (lost : Bool)
-          → belowLimits (cond lost (withHomes x n (keptHome d f n) (newHome d f n)) x)
-          ≡ belowLimits (cond lost (withHomes y n (keptHome d f n) (newHome d f n)) y)
-      go true =
-          sym (with-homes-below x n (keptHome d f n) (newHome d f n))
-          ∙ ap (λ (e : Directory). withHomes e n (keptHome d f n) (newHome d f n)) same
-          ∙ with-homes-below y n (keptHome d f n) (newHome d f n)
-      go false = same
+      kept : ℕ
+      kept = keptHome d f n
 
-  moves-same : (n : ℕ) → n ≤ d .pages
-      → belowLimits (inTurn (moveHome (belowLimits d) f) n (belowLimits d)) ≡ belowLimits (inTurn (moveHome d f) n d)
-  unfolding inTurn
-  moves-same zero fits = below-twice d
-  moves-same (suc n) fits = move-same n (omega arith) _ _ (moves-same n (omega arith))
+      go : (lost : Bool) → cond lost (withHomes (belowLimits d) n kept (rule d kept)) (belowLimits d)
+          ≡ belowLimits (cond lost (withHomes d n kept (rule d kept)) d)
+      go true = with-homes-below d n kept (rule d kept)
+      go false = refl
 
-  move-kept : (n : ℕ) → n < d .pages → (x : Directory) → KeptPast d x → KeptPast d (moveHome d f n x)
+  move-kept : (d x : Directory) (n : ℕ) → n < d .pages → KeptPast d x → KeptPast d (moveHome rule f n x)
   unfolding moveHome
-  move-kept n page x kept = go (lostHome d f n)
+  move-kept d x n page kept = go (lostHome x f n)
     where
-      go : (lost : Bool) → KeptPast d (cond lost (withHomes x n (keptHome d f n) (newHome d f n)) x)
+      go : (lost : Bool) → KeptPast d (cond lost (withHomes x n (keptHome x f n) (rule x (keptHome x f n))) x)
       go true =
           record {
             cards = kept .cards;
             pages = kept .pages;
             marks = kept .marks;
-            primaries = drop-set-lt (d .pages) (x .primary) n (keptHome d f n) page ∙ kept .primaries;
-            secondaries = drop-set-lt (d .pages) (x .secondary) n (newHome d f n) page ∙ kept .secondaries;
+            primaries = drop-set-lt (d .pages) (x .primary) n _ page ∙ kept .primaries;
+            secondaries = drop-set-lt (d .pages) (x .secondary) n _ page ∙ kept .secondaries;
           }
       go false = kept
 
-  moves-kept : (n : ℕ) → n ≤ d .pages → KeptPast d (inTurn (moveHome d f) n d)
-  unfolding inTurn
-  moves-kept zero fits = kept-same d
-  moves-kept (suc n) fits = move-kept n (omega arith) _ (moves-kept n (omega arith))
+  module _ (d : Directory) where
+    moves-kept : (n : ℕ) → n ≤ d .pages → KeptPast d (movedBelow rule d f n)
+    unfolding movedBelow inTurn
+    moves-kept zero fits = kept-same d
+    moves-kept (suc n) fits = move-kept d _ n (omega arith) (moves-kept n (omega arith))
 
-  pub recovered-same : belowLimits (recoveredDirectory (belowLimits d) f) ≡ belowLimits (recoveredDirectory d f)
-  unfolding recoveredDirectory
-  recovered-same = ap (λ (e : Directory). withStatus e Running) (moves-same _ (omega arith))
+    moves-below : (n : ℕ) → n ≤ d .pages → movedBelow rule (belowLimits d) f n ≡ belowLimits (movedBelow rule d f n)
+    unfolding movedBelow inTurn
+    moves-below zero fits = refl
+    moves-below (suc n) fits =
+        ap (moveHome rule f n) (moves-below n (omega arith))
+        ∙ move-below (movedBelow rule d f n) n (omega (arith, moves-kept n (omega arith) .pages))
 
-  pub recovered-kept : KeptPast d (recoveredDirectory d f)
-  unfolding recoveredDirectory
-  recovered-kept = status-kept d _ Running (moves-kept _ (omega arith))
+    pub new-below : (page : ℕ) → page < d .pages → newHome rule (belowLimits d) f page ≡ newHome rule d f page
+    unfolding newHome
+    new-below page within =
+        rw (kept-below d f page within, moves-below page (omega arith)) (rule-below _ (keptHome d f page))
+
+    pub recovered-same : belowLimits (recoveredDirectory rule (belowLimits d) f)
+        ≡ belowLimits (recoveredDirectory rule d f)
+    unfolding recoveredDirectory
+    recovered-same =
+        ap (λ (e : Directory). belowLimits (withStatus e Running)) (moves-below _ (omega arith))
+        ∙ below-twice (withStatus (movedBelow rule d f (d .pages)) Running)
+
+    pub recovered-kept : KeptPast d (recoveredDirectory rule d f)
+    unfolding recoveredDirectory
+    recovered-kept = status-kept d _ Running (moves-kept _ (omega arith))

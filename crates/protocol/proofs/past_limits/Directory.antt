@@ -1,12 +1,14 @@
 -- What a directory says of its cards and pages is the same once the marks and homes past them are cut off.
-use Rattle.laws.proofs.Prelude.{ℕ, _<_, _≡_, ap, _∙_, List, Bool, true, false, _||_, arith, decLt, le-leb, take, leb}
+use Rattle.laws.proofs.Prelude.{ℕ, _<_, _≡_, refl, ap, _∙_, List, Bool, true, false, _||_, arith, decLt, le-leb, take, leb}
 use native.Mathlib.Nat.{le-refl}
 use lib.Seq.{getD-take, take-take}
 use Rattle.laws.proofs.Lists.{take-set}
 use Rattle.directory.specs.declared.Directory.{Directory}
 use Rattle.directory.specs.Directory.{liveAt, isLive, primaryOf, secondaryOf, nextLiveOf, backupOf, withMark}
 use Rattle.directory.specs.Directory.{markedLive, withHomes}
+use Rattle.directory.specs.NewHome.{evenHome}
 use Rattle.directory.proofs.Live.{next-live-past-cards}
+use Rattle.directory.proofs.NewHome.{even-home-agrees}
 use Rattle.area.specs.Prelude.{isOpen}
 use Rattle.protocol.specs.PastLimits.{belowLimits}
 
@@ -44,6 +46,11 @@ module _ (d : Directory) where
 
   pub secondary-below : (p : ℕ) → p < d .pages → secondaryOf (belowLimits d) p ≡ secondaryOf d p
   secondary-below p page = getD-take (d .pages) (d .secondary) p 0 page
+
+  -- ---- the card that takes a page
+
+  pub even-below : (kept : ℕ) → evenHome (belowLimits d) kept ≡ evenHome d kept
+  even-below kept = even-home-agrees (belowLimits d) d kept refl refl live-below primary-below secondary-below
 
   -- ---- cut off twice, and after a change
 

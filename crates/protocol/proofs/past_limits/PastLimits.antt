@@ -2,9 +2,10 @@
 -- directory and by the same one cut off there, and on demand 1 for refused calls.
 use Rattle.laws.proofs.Prelude.{ℕ, _≡_, refl, sym, ap, _∙_, List, Bool, true, false}
 use Rattle.directory.specs.declared.Directory.{Directory}
+use Rattle.directory.specs.NewHome.{evenHome}
 use Rattle.protocol.specs.Result.{Result, accepted}
 use Rattle.protocol.specs.Calls.{Call, open-release, make-step, fetch-page, fail-card, recover, join-card}
-use Rattle.protocol.specs.Calls.{ask-desk, perform}
+use Rattle.protocol.specs.Calls.{ask-desk, performBy, perform}
 use Rattle.protocol.specs.PastLimits.{belowLimits, SameBelow, PastLimits}
 use Rattle.protocol.proofs.calls.Refused.{refused-unchanged}
 use Rattle.protocol.proofs.past_limits.Call.{CallBelow, LeftBelow, same-directory}
@@ -14,18 +15,19 @@ use Rattle.protocol.proofs.past_limits.Step.{step-below}
 use Rattle.protocol.proofs.past_limits.Reading.{fetch-below, question-below}
 use Rattle.protocol.proofs.past_limits.Failure.{failure-below}
 use Rattle.protocol.proofs.past_limits.Recovery.{recovery-below}
+use Rattle.protocol.proofs.past_limits.Directory.{even-below}
 use Rattle.protocol.proofs.past_limits.Join.{join-below}
 
 -- ---- each call
 
 call-below : (call : Call) (d : Directory) (m : List ℕ)
     → CallBelow d (perform call (belowLimits d) m) (perform call d m)
-unfolding perform
+unfolding performBy
 call-below (open-release card r list) d m = opening-below d m card r list
 call-below (make-step card) d m = step-below d m card
 call-below (fetch-page page buffer) d m = fetch-below d m page buffer
 call-below (fail-card card) d m = failure-below d m card
-call-below recover d m = recovery-below d m
+call-below recover d m = recovery-below evenHome even-below d m
 call-below (join-card card) d m = join-below d card m
 call-below (ask-desk card) d m = question-below d m card
 
@@ -39,8 +41,8 @@ left-below call d m = go (accepted (perform call d m .outcome)) refl
         → LeftBelow d (perform call (belowLimits d) m) (perform call d m)
     go true ok = call-below call d m .left ok
     go false refused =
-        let part = refused-unchanged call (belowLimits d) m (rw (call-below call d m .outcome) refused) in
-        let whole = refused-unchanged call d m refused in
+        let part = refused-unchanged evenHome call (belowLimits d) m (rw (call-below call d m .outcome) refused) in
+        let whole = refused-unchanged evenHome call d m refused in
         same-directory (part .directory) (whole .directory) (part .memory ∙ sym (whole .memory))
         (part .words ∙ sym (whole .words))
 

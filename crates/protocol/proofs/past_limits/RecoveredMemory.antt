@@ -3,6 +3,7 @@ use Rattle.laws.proofs.Prelude.{ℕ, zero, suc, _<_, _≡_, refl, _∙_, List, 
 use Rattle.laws.proofs.Search.{in-turn-agree}
 use Rattle.directory.specs.declared.Directory.{Directory}
 use Rattle.directory.specs.Directory.{isLive, primaryOf, secondaryOf, backupOf, markedLive}
+use Rattle.directory.specs.NewHome.{HomeRule}
 use Rattle.directory.proofs.Live.{next-live-below, live-not-dead}
 use Rattle.directory.proofs.Changes.{live-of-other}
 use Rattle.area.specs.Prelude.{Release, writeOwnRecord}
@@ -15,9 +16,10 @@ use Rattle.protocol.proofs.checks.ValidDirectory.{ValidDirectory}
 use Rattle.protocol.proofs.past_limits.Directory.{live-below, open-below, next-below, primary-below}
 use Rattle.protocol.proofs.past_limits.Directory.{secondary-below, backup-below}
 use Rattle.protocol.proofs.past_limits.Writes.{step-memory-below}
-use Rattle.protocol.proofs.past_limits.Changes.{lost-below, kept-below, new-below}
+use Rattle.protocol.proofs.past_limits.Changes.{lost-below, kept-below, RuleBelow, new-below}
 
-module _ (d : Directory) (fit : ValidDirectory d) (f : ℕ) (dead : isLive d f ≡ false) where
+module _ (rule : HomeRule) (rule-below : RuleBelow rule) (d : Directory) (fit : ValidDirectory d) (f : ℕ)
+    (dead : isLive d f ≡ false) where
   -- ---- the open releases run to their close
 
   -- the backup before the failure is a card that the rack has
@@ -74,11 +76,12 @@ module _ (d : Directory) (fit : ValidDirectory d) (f : ℕ) (dead : isLive d f �
   -- ---- the new homes
 
   copy-below : (page : ℕ) → page < d .pages → (m : List ℕ)
-      → copyToNewHome (belowLimits d) f page m ≡ copyToNewHome d f page m
+      → copyToNewHome rule (belowLimits d) f page m ≡ copyToNewHome rule d f page m
   unfolding copyToNewHome
-  copy-below page within m = rw (lost-below d f page within, kept-below d f page within, new-below d f page within)
+  copy-below page within m =
+      rw (lost-below d f page within, kept-below d f page within, new-below rule rule-below f d page within)
 
-  copies-below : (m : List ℕ) → copyToNewHomes (belowLimits d) f m ≡ copyToNewHomes d f m
+  copies-below : (m : List ℕ) → copyToNewHomes rule (belowLimits d) f m ≡ copyToNewHomes rule d f m
   unfolding copyToNewHomes
   copies-below m = in-turn-agree _ _ (d .pages) copy-below m
 
@@ -110,7 +113,7 @@ module _ (d : Directory) (fit : ValidDirectory d) (f : ℕ) (dead : isLive d f �
   unfolding restoredMemory
   restored-below m = rw (close-below m, next-below d f) (pages-below _ _)
 
-  pub recovered-below : (m : List ℕ) → recoveredMemory (belowLimits d) f m ≡ recoveredMemory d f m
+  pub recovered-below : (m : List ℕ) → recoveredMemory rule (belowLimits d) f m ≡ recoveredMemory rule d f m
   unfolding recoveredMemory
   recovered-below m =
       rw (release-below m, restored-below m, copies-below (restoredMemory d f m)) (records-below _ _)

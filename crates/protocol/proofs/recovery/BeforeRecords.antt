@@ -1,16 +1,17 @@
 -- A recovery up to its records: the open releases are closed, the failed card's last number and desk are answered, and
 -- the pages are restored and copied to new homes.
 use Rattle.laws.proofs.Prelude.{ℕ, _+_, _*_, _≤_, _<_, _≡_, refl, sym, _∙_, _≢_, _⊎_, inl, inr, List, Bool, true, false}
-use Rattle.laws.proofs.Prelude.{arith, ℕ-discrete, length}
+use Rattle.laws.proofs.Prelude.{subst, arith, ℕ-discrete, length}
 use Rattle.directory.specs.declared.Directory.{Directory}
-use Rattle.directory.specs.Directory.{isLive, primaryOf, nextLiveOf}
+use Rattle.directory.specs.Directory.{liveAt, isLive, primaryOf, nextLiveOf}
+use Rattle.directory.specs.NewHome.{HomeRule, NamesLive}
 use Rattle.area.specs.Prelude.{load, recordStamp, recordDone, pagesStart, pageSize, underWay, loadNumber, tentative}
 use Rattle.area.specs.Prelude.{committed}
 use Rattle.area.proofs.Prelude.{recorded-is, under-way-yes, under-way-no, In, recordRegion, stamp-in, done-in, desk-in}
 use Rattle.area.proofs.Prelude.{number-kept}
 use Rattle.protocol.specs.Release.{sizeOf}
 use Rattle.protocol.specs.Recovery.{backupBefore, closeReleases, restoredMemory, keptHome, newHome}
-use Rattle.protocol.specs.Recovery.{copyToNewHomes, failedRelease}
+use Rattle.protocol.specs.Recovery.{copyToNewHomes, movedBelow, failedRelease}
 use Rattle.protocol.specs.Book.{Book, countOpen, clearOpen}
 use Rattle.protocol.proofs.release.Shape.{area-of-live, shape-kept}
 use Rattle.protocol.proofs.release.WordAfter.{HomeOf}
@@ -20,8 +21,8 @@ use Rattle.protocol.proofs.invariant.Core.{Core}
 use Rattle.protocol.proofs.recovery.Closing.{close-core-all}
 use Rattle.protocol.proofs.recovery.Restoring.{source, halfWord, RestoredBelow, restored}
 use Rattle.protocol.proofs.recovery.Copying.{BothHalves, HomesCopied, homes-copied}
-use Rattle.protocol.proofs.recovery.Homes.{kept-primary, kept-secondary}
-use Rattle.protocol.proofs.invariant.Rack.{AwaitingRack, stampOf, doneOf, next-is-live, next-is-other}
+use Rattle.protocol.proofs.recovery.Homes.{kept-primary, kept-secondary, MovedBelow, moved-below}
+use Rattle.protocol.proofs.invariant.Rack.{AwaitingRack, Another, another, stampOf, doneOf, next-is-live}
 use Rattle.protocol.proofs.book.Counting.{count-open-last}
 
 -- ---- the releases closed, the pages restored and copied
@@ -139,30 +140,54 @@ module _ (d : Directory) (f : ℕ) (m : List ℕ) (b : Book) (rack : AwaitingRac
       not-lost (inl live) other = live
       not-lost (inr same) other = absurd (other same)
 
-  pub new-home : (p : ℕ) → isLive d (newHome d f p) ≡ true
-  unfolding newHome
-  new-home p = next-is-live d (rack .two) (rack .core .shape .below) (keptHome d f p)
-
-  pub new-is-other : (p : ℕ) → newHome d f p ≢ keptHome d f p
-  unfolding newHome
-  new-is-other p = next-is-other d (rack .two) (rack .core .shape .below) (keptHome d f p)
-
   pub kept-both-halves : (p : ℕ) → p < d .pages
       → BothHalves (sizeOf d) (bookAfter .price) memoryRestored (keptHome d f p) p
   kept-both-halves p page = restored-both-halves (keptHome d f p) p (kept-home p page .0) (kept-home p page .1) page
 
-  abbrev memoryCopied : List ℕ
-  memoryCopied = copyToNewHomes d f memoryRestored
+  -- ---- the new homes, by a rule that names live cards
 
-  pub pages-copied : HomesCopied d f (bookAfter .price) (d .pages) memoryRestored memoryCopied
-  pages-copied =
-      homes-copied d f (bookAfter .price) memoryRestored
-      (shape-kept (closed .shape) memoryRestored (pages-restored .same-length))
-      (λ p page lost. kept-home p page .0) (λ p page lost. kept-both-halves p page) (λ p page lost. new-home p)
+  module _ (rule : HomeRule) (good : NamesLive rule) where
+    -- the rule is told the directory of that moment, which has the marks that it had
+    module _ (p : ℕ) (page : p < d .pages) where
+      abbrev moment : Directory
+      moment = movedBelow rule d f p
 
-  -- every word below the pages is as it was when the releases were closed
-  pub low-kept : (h o : ℕ) → o < pagesStart → load (sizeOf d) memoryCopied h o ≡ load (sizeOf d) memoryClosed h o
-  low-kept h o small = pages-copied .low h o small ∙ pages-restored .low h o small
+      moves : MovedBelow rule d f p moment
+      moves =
+          moved-below rule d f (rack .core .shape .few-pages) (rack .arrays .primaries) (rack .arrays .secondaries) p
+          (omega arith)
 
-  pub pages-length : length memoryCopied ≡ length memoryClosed
-  pages-length = pages-copied .same-length ∙ pages-restored .same-length
+      other : Another d (keptHome d f p)
+      other = another d (rack .two) (keptHome d f p)
+
+      other-below : other .card < moment .cards
+      other-below = rw (moves .cards) (rack .core .shape .below (other .card) (other .live))
+
+      other-live : isLive moment (other .card) ≡ true
+      other-live = rw (moves .live) (other .live)
+
+      pub new-home : isLive d (newHome rule d f p) ≡ true
+      unfolding newHome
+      new-home =
+          subst (λ (marks : List Bool). liveAt marks (rule moment (keptHome d f p)) ≡ true) (moves .live)
+          (good .live moment (keptHome d f p) (other .card) other-below other-live (other .other))
+
+      pub new-is-other : newHome rule d f p ≢ keptHome d f p
+      unfolding newHome
+      new-is-other = good .differs moment (keptHome d f p) (other .card) other-below other-live (other .other)
+
+    abbrev memoryCopied : List ℕ
+    memoryCopied = copyToNewHomes rule d f memoryRestored
+
+    pub pages-copied : HomesCopied rule d f (bookAfter .price) (d .pages) memoryRestored memoryCopied
+    pages-copied =
+        homes-copied rule d f (bookAfter .price) memoryRestored
+        (shape-kept (closed .shape) memoryRestored (pages-restored .same-length))
+        (λ p page lost. kept-home p page .0) (λ p page lost. kept-both-halves p page) (λ p page lost. new-home p page)
+
+    -- every word below the pages is as it was when the releases were closed
+    pub low-kept : (h o : ℕ) → o < pagesStart → load (sizeOf d) memoryCopied h o ≡ load (sizeOf d) memoryClosed h o
+    low-kept h o small = pages-copied .low h o small ∙ pages-restored .low h o small
+
+    pub pages-length : length memoryCopied ≡ length memoryClosed
+    pages-length = pages-copied .same-length ∙ pages-restored .same-length

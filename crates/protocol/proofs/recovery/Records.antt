@@ -6,6 +6,7 @@ use Rattle.laws.specs.Search.{inTurn}
 use Rattle.laws.proofs.Bools.{and-first, and-second}
 use Rattle.directory.specs.declared.Directory.{Directory}
 use Rattle.directory.specs.Directory.{isLive, backupOf, markedLive}
+use Rattle.directory.specs.NewHome.{HomeRule, NamesLive}
 use Rattle.directory.proofs.Live.{next-live-kept}
 use Rattle.area.specs.Prelude.{load, pageAt, recordsStart, storedPageSize, Release, ownRelease, writeOwnRecord}
 use Rattle.area.proofs.Prelude.{own-words-kept, In, recordRegion, records-apart}
@@ -32,7 +33,8 @@ pub record RecordsWritten (d : Directory) (b : Book) (memoryClosed memoryCopied 
   pub dead-recorded : (g h : ℕ) → isLive d g ≡ false → g < d .cards → isLive d h ≡ true
       → Recorded g none (b .last g) (load (sizeOf d) memoryRecorded h)
 
-module _ (d : Directory) (f : ℕ) (m : List ℕ) (b : Book) (rack : AwaitingRack d f m b) where
+module _ (d : Directory) (f : ℕ) (m : List ℕ) (b : Book) (rack : AwaitingRack d f m b) (rule : HomeRule)
+    (good : NamesLive rule) where
   abbrev bookAfter : Book
   bookAfter = clearOpen (countOpen b)
 
@@ -40,7 +42,7 @@ module _ (d : Directory) (f : ℕ) (m : List ℕ) (b : Book) (rack : AwaitingRac
   memoryClosed = closeReleases d f m
 
   abbrev memoryCopied : List ℕ
-  memoryCopied = copyToNewHomes d f (restoredMemory d f m)
+  memoryCopied = copyToNewHomes rule d f (restoredMemory d f m)
 
   abbrev r : Release
   r = failedRelease d f m
@@ -56,7 +58,8 @@ module _ (d : Directory) (f : ℕ) (m : List ℕ) (b : Book) (rack : AwaitingRac
 
   copied-shape : Shape d memoryCopied
   copied-shape =
-      shape-kept (before-records.closed d f m b rack .shape) memoryCopied (before-records.pages-length d f m b rack)
+      shape-kept (before-records.closed d f m b rack .shape) memoryCopied
+      (before-records.pages-length d f m b rack rule good)
 
   failed : FailedBelow d f r (d .cards) memoryCopied memoryFailed
   failed =
@@ -71,9 +74,9 @@ module _ (d : Directory) (f : ℕ) (m : List ℕ) (b : Book) (rack : AwaitingRac
   own-still : (c : ℕ) → ownRelease (sizeOf d) memoryFailed c ≡ ownRelease (sizeOf d) memoryClosed c
   own-still c =
       own-words-kept (sizeOf d) memoryClosed memoryFailed c
-      (failed .same-length ∙ before-records.pages-length d f m b rack)
+      (failed .same-length ∙ before-records.pages-length d f m b rack rule good)
       (λ o small. failed .same c o (omega arith) (λ here. omega arith)
-      ∙ before-records.low-kept d f m b rack c o (omega arith))
+      ∙ before-records.low-kept d f m b rack rule good c o (omega arith))
 
   own-last : (c : ℕ) → isLive d c ≡ true → ownRelease (sizeOf d) memoryClosed c ≡ bookAfter .last c
   own-last c live = before-records.closed d f m b rack .owns c live
@@ -108,7 +111,7 @@ module _ (d : Directory) (f : ℕ) (m : List ℕ) (b : Book) (rack : AwaitingRac
   own-word : (c o : ℕ) → o < recordsStart → load (sizeOf d) memoryRecorded c o ≡ load (sizeOf d) memoryClosed c o
   own-word c o low =
       backed .low c o low ∙ failed .same c o (omega arith) (λ here. omega arith)
-      ∙ before-records.low-kept d f m b rack c o (omega arith)
+      ∙ before-records.low-kept d f m b rack rule good c o (omega arith)
 
   page-word : (h p o : ℕ) → p < d .pages → o < storedPageSize
       → load (sizeOf d) memoryRecorded h (pageAt p + o) ≡ load (sizeOf d) memoryCopied h (pageAt p + o)
@@ -121,7 +124,7 @@ module _ (d : Directory) (f : ℕ) (m : List ℕ) (b : Book) (rack : AwaitingRac
   other-record g h o little other not-his in-record =
       backed .records g h o little (not-due g not-his) in-record
       ∙ failed .same h o (omega arith) (records-apart other in-record)
-      ∙ before-records.low-kept d f m b rack h o (omega arith)
+      ∙ before-records.low-kept d f m b rack rule good h o (omega arith)
 
   -- a card whose backup was not f has the same backup still
   same-backup : (c : ℕ) → backupBefore d f c ≢ f → backupOf d c ≡ backupBefore d f c
@@ -172,7 +175,7 @@ module _ (d : Directory) (f : ℕ) (m : List ℕ) (b : Book) (rack : AwaitingRac
   unfolding writeRecords
   records-written =
       record {
-        same-length = backed .same-length ∙ failed .same-length ∙ before-records.pages-length d f m b rack;
+        same-length = backed .same-length ∙ failed .same-length ∙ before-records.pages-length d f m b rack rule good;
         own-word = own-word;
         page-word = page-word;
         live-recorded = live-recorded;

@@ -3,6 +3,7 @@ use Rattle.laws.proofs.Prelude.{ℕ, _<_, _≡_, refl, sym, _∙_, _≢_, _⊎_
 use Rattle.directory.specs.declared.Directory.{Directory}
 use Rattle.directory.specs.declared.Status.the-variants.{Running}
 use Rattle.directory.specs.Directory.{directoryOf, isLive, primaryOf, secondaryOf, backupOf}
+use Rattle.directory.specs.NewHome.{HomeRule, NamesLive}
 use Rattle.area.specs.Prelude.{load, openFlag, tentative, committed}
 use Rattle.area.proofs.Prelude.{own-words-kept}
 use Rattle.diff.proofs.Prices.{names-none}
@@ -21,7 +22,8 @@ use Rattle.protocol.proofs.invariant.Rack.{RunningRack, AwaitingRack}
 use Rattle.protocol.proofs.recovery.Records.{RecordsWritten, records-written}
 use Rattle.protocol.proofs.recovery.BeforeRecords as before-records
 
-module _ (d : Directory) (f : ℕ) (m : List ℕ) (b : Book) (rack : AwaitingRack d f m b) where
+module _ (d : Directory) (f : ℕ) (m : List ℕ) (b : Book) (rack : AwaitingRack d f m b) (rule : HomeRule)
+    (good : NamesLive rule) where
   abbrev bookAfter : Book
   bookAfter = clearOpen (countOpen b)
 
@@ -29,13 +31,13 @@ module _ (d : Directory) (f : ℕ) (m : List ℕ) (b : Book) (rack : AwaitingRac
   memoryClosed = closeReleases d f m
 
   abbrev memoryCopied : List ℕ
-  memoryCopied = copyToNewHomes d f (restoredMemory d f m)
+  memoryCopied = copyToNewHomes rule d f (restoredMemory d f m)
 
   abbrev memoryRecorded : List ℕ
   memoryRecorded = writeRecords d f (failedRelease d f m) memoryCopied
 
   written : RecordsWritten d bookAfter memoryClosed memoryCopied memoryRecorded
-  written = records-written d f m b rack
+  written = records-written d f m b rack rule good
 
   page-both-halves : (h p : ℕ) → p < d .pages → BothHalves (sizeOf d) (bookAfter .price) memoryCopied h p
       → BothHalves (sizeOf d) (bookAfter .price) memoryRecorded h p
@@ -44,13 +46,13 @@ module _ (d : Directory) (f : ℕ) (m : List ℕ) (b : Book) (rack : AwaitingRac
   -- ---- the directory with its homes moved
 
   abbrev homes : Directory
-  homes = movedHomes d f (rack .core .shape .few-pages) (rack .arrays .primaries) (rack .arrays .secondaries)
+  homes = movedHomes rule d f (rack .core .shape .few-pages) (rack .arrays .primaries) (rack .arrays .secondaries)
 
   abbrev d′ : Directory
   d′ = directoryOf (d .cards) (d .pages) (d .live) (homes .primary) (homes .secondary) Running
 
-  moves : MovedBelow d f (d .pages) homes
-  moves = moved d f (rack .core .shape .few-pages) (rack .arrays .primaries) (rack .arrays .secondaries)
+  moves : MovedBelow rule d f (d .pages) homes
+  moves = moved rule d f (rack .core .shape .few-pages) (rack .arrays .primaries) (rack .arrays .secondaries)
 
   first : (p : ℕ) → p < d .pages → primaryOf d′ p ≡ keptHome d f p
   first p page = moves .first p page
@@ -58,7 +60,7 @@ module _ (d : Directory) (f : ℕ) (m : List ℕ) (b : Book) (rack : AwaitingRac
   -- a page's second home is a new one, or the one it had
   abbrev SecondHome : ℕ → Type 0
   SecondHome p =
-      ((lostHome d f p ≡ true) × (secondaryOf d′ p ≡ newHome d f p))
+      ((lostHome d f p ≡ true) × (secondaryOf d′ p ≡ newHome rule d f p))
       ⊎ ((lostHome d f p ≡ false) × (secondaryOf d′ p ≡ secondaryOf d p))
 
   second : (p : ℕ) → p < d .pages → SecondHome p
@@ -81,18 +83,19 @@ module _ (d : Directory) (f : ℕ) (m : List ℕ) (b : Book) (rack : AwaitingRac
   home-both-halves h p (inr home) page =
       rw (home, first p page)
       (page-both-halves (keptHome d f p) p page
-      (before-records.pages-copied d f m b rack .stays (keptHome d f p) p page
+      (before-records.pages-copied d f m b rack rule good .stays (keptHome d f p) p page
       (before-records.kept-both-halves d f m b rack p page)))
   home-both-halves h p (inl home) page = go (second p page)
     where
       go : SecondHome p → BothHalves (sizeOf d) (bookAfter .price) memoryRecorded h p
       go (inl new) =
           rw (home, new .1)
-          (page-both-halves (newHome d f p) p page (before-records.pages-copied d f m b rack .new p page page (new .0)))
+          (page-both-halves (newHome rule d f p) p page
+          (before-records.pages-copied d f m b rack rule good .new p page page (new .0)))
       go (inr old) =
           rw (home, old .1)
           (page-both-halves (secondaryOf d p) p page
-          (before-records.pages-copied d f m b rack .stays (secondaryOf d p) p page
+          (before-records.pages-copied d f m b rack rule good .stays (secondaryOf d p) p page
           (before-records.restored-both-halves d f m b rack (secondaryOf d p) p (whole-live p page (old .0))
           (inl refl) page)))
 
@@ -155,17 +158,18 @@ module _ (d : Directory) (f : ℕ) (m : List ℕ) (b : Book) (rack : AwaitingRac
       }
     where
       second-live : (p : ℕ) → p < d .pages → SecondHome p → isLive d (secondaryOf d′ p) ≡ true
-      second-live p page (inl new) = rw (new .1) (before-records.new-home d f m b rack p)
+      second-live p page (inl new) = rw (new .1) (before-records.new-home d f m b rack rule good p page)
       second-live p page (inr old) = rw (old .1) (whole-live p page (old .0))
 
       differ : (p : ℕ) → p < d .pages → SecondHome p → primaryOf d′ p ≢ secondaryOf d′ p
-      differ p page (inl new) same = before-records.new-is-other d f m b rack p (sym (new .1) ∙ sym same ∙ first p page)
+      differ p page (inl new) same =
+          before-records.new-is-other d f m b rack rule good p page (sym (new .1) ∙ sym same ∙ first p page)
       differ p page (inr old) same =
           rack .homes-differ p page
           (sym (kept-primary d f p (whole-primary d f p (old .0))) ∙ sym (first p page) ∙ same ∙ old .1)
 
-  pub recovers : RunningRack (recoveredDirectory d f) (recoveredMemory d f m) bookAfter
+  pub recovers : RunningRack (recoveredDirectory rule d f) (recoveredMemory rule d f m) bookAfter
   unfolding recoveredMemory
   recovers =
-      rw (recovered-parts d f (rack .core .shape .few-pages) (rack .arrays .primaries) (rack .arrays .secondaries))
+      rw (recovered-parts rule d f (rack .core .shape .few-pages) (rack .arrays .primaries) (rack .arrays .secondaries))
       runs

@@ -6,6 +6,7 @@ use Rattle.laws.specs.Examples.{Example, computed}
 use Rattle.directory.specs.declared.Directory.{Directory}
 use Rattle.directory.specs.declared.Status.the-variants.{Awaiting}
 use Rattle.directory.specs.Directory.{formattedDirectory, markedDead, withHomes, withStatus}
+use Rattle.directory.specs.NewHome.{evenHome, nextHome}
 use Rattle.area.specs.Prelude.{store, storeRun, zeros, releaseOf, writeRecord, listStart, pagesStart}
 use Rattle.area.specs.Examples.{numbersFrom}
 use Rattle.protocol.specs.Result.{Result}
@@ -25,15 +26,22 @@ twoPages = failedOne (withHomes (withHomes (formattedDirectory 3 2) 0 1 0) 1 2 0
 -- The record of card 1 is read on card 2, at 42 of its area: the words 1686 and 1687 are its stamp, 1688 and 1689 its
 -- done mark.
 unfoldable pub rolledForward : List ℕ
-rolledForward = recoveredMemory twoPages 1 (numbersFrom 0 2466)
+rolledForward = recoveredMemory evenHome twoPages 1 (numbersFrom 0 2466)
 
 -- There stamp and done mark are one odd number.
 unfoldable pub rolledBack : List ℕ
-rolledBack = recoveredMemory twoPages 1 (storeRun 822 (numbersFrom 0 2466) 2 42 (replicate 4 1687))
+rolledBack = recoveredMemory evenHome twoPages 1 (storeRun 822 (numbersFrom 0 2466) 2 42 (replicate 4 1687))
 
 -- Four cards and three pages: page 0 on cards 0 and 3, page 1 on 1 and 2, page 2 on 0 and 1.
 abbrev pub threePages : Directory
 threePages = failedOne (withHomes (withHomes (withHomes (formattedDirectory 4 3) 0 0 3) 1 1 2) 2 0 1)
+
+-- Five cards and eight pages, as they are formatted.
+abbrev pub eightPages : Directory
+eightPages = failedOne (formattedDirectory 5 8)
+
+abbrev pub failedZero : Directory → Directory
+failedZero d = withStatus (markedDead d 0) (Awaiting 0)
 
 -- The small rack, in whose area of card 1, which is dead, are threes.
 unfoldable pub deadArea : List ℕ
@@ -65,10 +73,20 @@ recordOfFive = 5 ∷ 0 ∷ 5 ∷ 0 ∷ zeros 8 ++ numbersFrom 50 8 ++ zeros 696
 
 abbrev pub recoveryExamples : List Example
 recoveryExamples =
-    -- A lost primary is replaced by the secondary, a lost secondary by the next live card after the primary. A page
-    -- that lost no home stays, though its secondary is not the next live card.
-    computed (directoryWords (recoveredDirectory threePages 1))
+    -- A lost primary is replaced by the secondary, a lost secondary by the live card that is home to the fewest pages.
+    -- A page that lost no home stays, though its secondary is not the next live card.
+    computed (directoryWords (recoveredDirectory evenHome threePages 1))
     (1 ∷ 0 ∷ 1 ∷ 1 ∷ 0 ∷ 2 ∷ 0 ∷ 3 ∷ 3 ∷ 2 ∷ 0 ∷ [])
+    -- Five cards and eight pages. Page 0 goes to card 4, which has 3 pages; page 1 then to card 0, the lowest of those
+    -- that have 3; page 5 to card 3, since page 1 counts, and page 6 to card 4.
+    ∷ computed (directoryWords (recoveredDirectory evenHome eightPages 1))
+    (1 ∷ 0 ∷ 1 ∷ 1 ∷ 1 ∷ 0 ∷ 2 ∷ 2 ∷ 3 ∷ 4 ∷ 0 ∷ 2 ∷ 2 ∷ 4 ∷ 0 ∷ 3 ∷ 4 ∷ 0 ∷ 3 ∷ 4 ∷ 3 ∷ 0 ∷ [])
+    -- By document 01's rule each would go to the next live card after its primary.
+    ∷ computed (directoryWords (recoveredDirectory nextHome eightPages 1))
+    (1 ∷ 0 ∷ 1 ∷ 1 ∷ 1 ∷ 0 ∷ 2 ∷ 2 ∷ 3 ∷ 4 ∷ 0 ∷ 2 ∷ 2 ∷ 2 ∷ 3 ∷ 3 ∷ 4 ∷ 0 ∷ 2 ∷ 3 ∷ 3 ∷ 0 ∷ [])
+    -- Four cards and two pages, card 0 failed: both pages lost their home there, and do not go to one card.
+    ∷ computed (directoryWords (recoveredDirectory evenHome (failedZero (formattedDirectory 4 2)) 0))
+    (0 ∷ 1 ∷ 1 ∷ 1 ∷ 1 ∷ 1 ∷ 3 ∷ 2 ∷ 0 ∷ [])
     -- Rolled forward, each live home of each page has the tentative words in both halves, and card 2, the new home of
     -- page 0, has card 0's. The failed card's record, its even desk kept and its odd desk zero, stands on both live
     -- cards; card 0's, made from its own stamp and desk, on its new backup. No other word changes.
