@@ -212,7 +212,8 @@ impl Rack {
         accepted(unsafe { sys::rack_fail(memory, words, &mut self.directory, card) }).map(|_| ())
     }
 
-    /// Recovers the card that failed.
+    /// Recovers the card that failed. A page that lost a home gets as secondary the live card, other
+    /// than its primary, that is home to the fewest pages at that moment, and of several the lowest.
     pub fn recover(&mut self) -> Result<Recovered, Refusal> {
         let words = self.memory.len();
         // SAFETY: see above.

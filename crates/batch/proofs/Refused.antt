@@ -7,7 +7,7 @@ use Rattle.directory.specs.declared.Directory.{Directory}
 use Rattle.protocol.specs.Checks.{firstRefusal}
 use Rattle.protocol.specs.Result.{Result, accepted}
 use Rattle.protocol.specs.Step.{step, stepChecks}
-use Rattle.protocol.specs.Calls.{make-step, perform}
+use Rattle.protocol.specs.Calls.{make-step, performBy}
 use Rattle.protocol.specs.Demand1.{isAmong}
 use Rattle.protocol.proofs.checks.Outcome.{among}
 use Rattle.protocol.proofs.calls.Refused.{refused-unchanged}
@@ -46,7 +46,7 @@ module _ (d : Directory) (card : ℕ) where
 
   stopped-after : (left made : ℕ) (m : List ℕ) → accepted (stepsFrom card left made d m .outcome) ≡ false
       → StoppedAfter m left made (stepsFrom card left made d m)
-  unfolding stepsFrom AcceptedSteps perform
+  unfolding stepsFrom AcceptedSteps performBy
   stopped-after zero made m = λ refused. absurd (true≢false refused)
   stopped-after (suc left) made m =
       by-cond (λ (r : Stepped). accepted (r .outcome) ≡ false → StoppedAfter m (suc left) made r)

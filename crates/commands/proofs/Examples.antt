@@ -13,13 +13,13 @@ use Rattle.diff.specs.Reading.{readFrom, wordStep, checkDiff}
 use Rattle.protocol.specs.Release.{releaseWrites, makeWrite, close, stepMemory}
 use Rattle.protocol.specs.Checks.{firstRefusal, outsideLimits, fewLive, badHome, badPage, badStatus, badRelease}
 use Rattle.protocol.specs.Checks.{badCard, unfitRack, awaitsRecovery}
-use Rattle.protocol.specs.Calls.{formatting, opening, step, fetch, failure, recovery, join}
+use Rattle.protocol.specs.Calls.{formatting, opening, step, fetch, failure, recoveryBy, join}
 use Rattle.protocol.specs.Opening.{shareWord, sharesWith, openMemory}
 use Rattle.protocol.specs.Fetch.{namesPage, inMotion, committedPage}
 use Rattle.protocol.specs.Recovery.{stepTimes, runToClose, closeReleases, restoreHome, restorePage, restorePages}
 use Rattle.protocol.specs.Recovery.{lostHome, keptHome, newHome, copyToNewHome, copyToNewHomes, moveHome}
 use Rattle.protocol.specs.Recovery.{recoveredDirectory, writeFailed, writeRecords, failedRelease, restoredMemory}
-use Rattle.protocol.specs.Recovery.{recoveredMemory, awaitedCard}
+use Rattle.protocol.specs.Recovery.{recoveredMemory, awaitedCard, movedBelow}
 use Rattle.protocol.specs.Join.{resetArea, copyDeadRecord, joinedMemory}
 use Rattle.batch.specs.Steps.{stepsFrom}
 use Rattle.commands.specs.Execute.{openOne, makeSteps, failAndRecover, fetchWord, execute}
@@ -33,6 +33,7 @@ unfolding sameWords failuresFrom Claims numberWords numberAt bytesOf lowestFrom 
     badHome badPage badStatus badRelease badCard unfitRack awaitsRecovery formatting shareWord sharesWith openMemory
     opening step namesPage inMotion committedPage fetch failure stepTimes runToClose closeReleases restoreHome
     restorePage restorePages lostHome keptHome newHome copyToNewHome copyToNewHomes moveHome recoveredDirectory
-    writeFailed writeRecords failedRelease restoredMemory recoveredMemory awaitedCard recovery resetArea copyDeadRecord
-    joinedMemory join stepsFrom openOne makeSteps failAndRecover fetchWord execute newRack next shownBy
+    writeFailed writeRecords failedRelease restoredMemory recoveredMemory awaitedCard recoveryBy movedBelow pagesAt
+    isFewest evenHome resetArea copyDeadRecord joinedMemory join stepsFrom openOne makeSteps failAndRecover fetchWord
+    execute newRack next shownBy
 examples-hold = all-hold examples refl tt

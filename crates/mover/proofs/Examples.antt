@@ -12,12 +12,12 @@ use Rattle.diff.specs.Prices.{pricesFrom, pricesOf, names}
 use Rattle.protocol.specs.Release.{releaseWrites, makeWrite, close, stepMemory}
 use Rattle.protocol.specs.Checks.{firstRefusal, outsideLimits, fewLive, badHome, badPage, badStatus, badRelease}
 use Rattle.protocol.specs.Checks.{badCard, unfitRack, awaitsRecovery}
-use Rattle.protocol.specs.Calls.{opening, step, failure, recovery}
+use Rattle.protocol.specs.Calls.{opening, step, failure, recoveryBy}
 use Rattle.protocol.specs.Opening.{shareWord, sharesWith, openMemory}
 use Rattle.protocol.specs.Recovery.{stepTimes, runToClose, closeReleases, restoreHome, restorePage, restorePages}
 use Rattle.protocol.specs.Recovery.{lostHome, keptHome, newHome, copyToNewHome, copyToNewHomes, moveHome}
 use Rattle.protocol.specs.Recovery.{recoveredDirectory, writeFailed, writeRecords, failedRelease, restoredMemory}
-use Rattle.protocol.specs.Recovery.{recoveredMemory, awaitedCard}
+use Rattle.protocol.specs.Recovery.{recoveredMemory, awaitedCard, movedBelow}
 use Rattle.protocol.specs.Examples.Racks.{smallMemory}
 use Rattle.mover.specs.Fields.{repeated, moved}
 use Rattle.mover.specs.Move.{highRecord, highArea, moveIn, moveBack}
@@ -30,9 +30,8 @@ unfolding sameWords failuresFrom Claims numberWords numberAt lowestFrom countBel
     checkDiff ownRelease openRelease openList stepsOf isOpen releaseWrites makeWrite close stepMemory recordedRelease
     underWay settledRecord writeRecord writeOwnRecord firstRefusal outsideLimits fewLive badHome badPage badStatus
     badRelease badCard unfitRack awaitsRecovery shareWord sharesWith openMemory opening step failure stepTimes
-    runToClose
-    closeReleases restoreHome restorePage restorePages lostHome keptHome newHome copyToNewHome copyToNewHomes moveHome
-    recoveredDirectory writeFailed writeRecords failedRelease restoredMemory recoveredMemory awaitedCard recovery
-    smallMemory repeated moved highRecord highArea moveIn moveBack usedIn atHighest opened stepped closed recovered cleared
-    clearedBack
+    runToClose closeReleases restoreHome restorePage restorePages lostHome keptHome newHome copyToNewHome
+    copyToNewHomes moveHome recoveredDirectory writeFailed writeRecords failedRelease restoredMemory recoveredMemory
+    awaitedCard recoveryBy movedBelow pagesAt isFewest evenHome smallMemory repeated moved highRecord highArea moveIn
+    moveBack usedIn atHighest opened stepped closed recovered cleared clearedBack
 examples-hold = all-hold examples refl tt

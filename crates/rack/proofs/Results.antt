@@ -10,7 +10,7 @@ use Rattle.protocol.specs.Release.{sizeOf, stepMemory}
 use Rattle.protocol.specs.Checks.{firstRefusal, awaitsRecovery}
 use Rattle.protocol.specs.Result.{Result, resultOf, accepted}
 use Rattle.protocol.specs.Calls.{opening, openingChecks, step, stepChecks, fetch, fetchChecks, failure, failureChecks}
-use Rattle.protocol.specs.Calls.{recovery, recoveryChecks, join, joinChecks, deskQuestion, deskChecks}
+use Rattle.protocol.specs.Calls.{recoveryBy, recovery, recoveryChecks, join, joinChecks, deskQuestion, deskChecks}
 use Rattle.protocol.specs.Opening.{openMemory}
 use Rattle.protocol.specs.Fetch.{committedPage}
 use Rattle.protocol.specs.Failure.{failedDirectory}
@@ -138,13 +138,13 @@ module _ (d : Directory) (m : List ℕ) where
     stamp = failedRelease d failed m .number
 
     pub recovery-refused : first .number ≢ 0 → recovery d m ≡ resultIs first d m (zeros deskSize)
-    unfolding recovery
+    unfolding recoveryBy
     recovery-refused some =
         let first-is = sym (refused-first [] stamp (recoveryChecks d m) refl reached some) in
         refused-keeps first-is done d m (zeros deskSize) some
 
     pub recovery-accepted : first .number ≡ 0 → recovery d m ≡ done (given stamp)
-    unfolding recovery
+    unfolding recoveryBy
     recovery-accepted none =
         let passed = passed-first [] stamp (recoveryChecks d m) refl reached none ∙ no-check stamp in
         accepted-does (sym passed) done d m (zeros deskSize) refl

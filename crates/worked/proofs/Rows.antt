@@ -18,13 +18,13 @@ use Rattle.protocol.specs.Release.{sizeOf, releaseWrites, makeWrite, close, ste
 use Rattle.protocol.specs.Checks.{firstRefusal, outsideLimits, fewLive, badHome, badPage, badStatus, badRelease}
 use Rattle.protocol.specs.Checks.{badCard, unfitRack, awaitsRecovery}
 use Rattle.protocol.specs.Result.{Result}
-use Rattle.protocol.specs.Calls.{formatting, openingChecks, opening, step, fetch, failure, recovery}
+use Rattle.protocol.specs.Calls.{formatting, openingChecks, opening, step, fetch, failure, recoveryBy}
 use Rattle.protocol.specs.Opening.{shareWord, sharesWith, openMemory}
 use Rattle.protocol.specs.Fetch.{namesPage, inMotion, committedPage}
 use Rattle.protocol.specs.Recovery.{stepTimes, runToClose, closeReleases, restoreHome, restorePage, restorePages}
 use Rattle.protocol.specs.Recovery.{lostHome, keptHome, newHome, copyToNewHome, copyToNewHomes, moveHome}
 use Rattle.protocol.specs.Recovery.{recoveredDirectory, writeFailed, writeRecords, failedRelease, restoredMemory}
-use Rattle.protocol.specs.Recovery.{recoveredMemory, awaitedCard}
+use Rattle.protocol.specs.Recovery.{recoveredMemory, awaitedCard, movedBelow}
 use Rattle.protocol.proofs.checks.Outcome.{outcome-of}
 use Rattle.worked.specs.Rows.{newRack, changedPages, twoPrices, noPrice, opened, stepped, recoveredFrom}
 use Rattle.worked.specs.Rows.{shownAfter, homesAfter, completed, Idle, rows, shown}
@@ -61,8 +61,8 @@ unfolding sameWords failuresFrom Claims numberWords numberAt lowestFrom countBel
     unfitRack awaitsRecovery formatting shareWord sharesWith openMemory opening step namesPage inMotion committedPage
     fetch failure stepTimes runToClose closeReleases restoreHome restorePage restorePages lostHome keptHome newHome
     copyToNewHome copyToNewHomes moveHome recoveredDirectory writeFailed writeRecords failedRelease restoredMemory
-    recoveredMemory awaitedCard recovery newRack changedPages twoPrices noPrice opened stepped recoveredFrom shownAfter
-    homesAfter
+    recoveredMemory awaitedCard recoveryBy movedBelow pagesAt isFewest evenHome newRack changedPages twoPrices noPrice
+    opened stepped recoveredFrom shownAfter homesAfter
 all-shown =
     all-hold (completed ∷ rows) refl (
       (λ d m card r list idle stamp small. used d m card r list idle (omega arith) ∙ ap (refusedAt numberUsed) stamp),

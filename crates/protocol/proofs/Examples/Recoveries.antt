@@ -29,6 +29,6 @@ unfolding sameWords failuresFrom Claims numberWords numberAt lowestFrom countBel
     settledRecord writeRecord writeOwnRecord firstRefusal outsideLimits fewLive badHome badPage badStatus badRelease
     badCard unfitRack awaitsRecovery openMemory stepTimes runToClose closeReleases restoreHome restorePage restorePages
     lostHome keptHome newHome copyToNewHome copyToNewHomes moveHome recoveredDirectory writeFailed writeRecords
-    failedRelease restoredMemory recoveredMemory awaitedCard recoveryBy movedBelow pagesAt isFewest evenHome smallMemory rolledForward rolledBack deadArea
-    closedWithout1 closedInTurn recovered
+    failedRelease restoredMemory recoveredMemory awaitedCard recoveryBy movedBelow pagesAt isFewest evenHome
+    smallMemory rolledForward rolledBack deadArea closedWithout1 closedInTurn recovered
 recoveries-hold = all-hold recoveryExamples refl tt
