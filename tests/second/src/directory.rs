@@ -21,6 +21,9 @@ pub struct Directory {
     pub status: Status,
 }
 
+/// A number of pages for each card.
+pub type PageCounts = [u32; MOST_CARDS];
+
 impl Directory {
     /// What refused formatting gives: running, nothing in it.
     pub(crate) fn empty() -> Directory {
@@ -41,7 +44,8 @@ impl Directory {
             directory.mark_live(card);
         }
         for page in 0..pages {
-            directory.move_primary(page, page % cards);
+            let primary = page % cards;
+            directory.set_homes(page, primary, directory.next_live(primary));
         }
         directory
     }
@@ -91,6 +95,15 @@ impl Directory {
         [self.primary_of(page), self.secondary_of(page)]
     }
 
+    /// How many pages each card is home to, as primary or secondary.
+    pub(crate) fn page_counts(&self) -> PageCounts {
+        let mut counts = [0; MOST_CARDS];
+        for home in (0..self.pages).flat_map(|page| self.homes_of(page)) {
+            counts[home as usize] += 1;
+        }
+        counts
+    }
+
     pub(crate) fn mark_live(&mut self, card: u32) {
         self.live[card as usize] = true;
     }
@@ -99,9 +112,8 @@ impl Directory {
         self.live[card as usize] = false;
     }
 
-    /// Moves a page's primary, and its secondary to the next live after it.
-    pub(crate) fn move_primary(&mut self, page: u32, primary: u32) {
+    pub(crate) fn set_homes(&mut self, page: u32, primary: u32, secondary: u32) {
         self.primary[page as usize] = primary;
-        self.secondary[page as usize] = self.next_live(primary);
+        self.secondary[page as usize] = secondary;
     }
 }

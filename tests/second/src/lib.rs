@@ -4,9 +4,10 @@
 //! not read the Rattle source, but for the calls with the directory lent, which
 //! came later from one that had: `by_reference`, `by_value`, and what these
 //! needed in `calls`, `directory` and `recovery`. The numbers of 64 bits and the
-//! mover are from document 02, "Stamps that outlast the shop", again by a hand that
-//! had not read the Rattle source. Comments cite document 01 by the titles of its
-//! sections and document 02 by those of its requests.
+//! mover are from document 02, "Stamps that outlast the shop", and the choice of a new
+//! home is from "New homes shared evenly", both again by a hand that had not read the
+//! Rattle source. Comments cite document 01 by the titles of its sections and document
+//! 02 by those of its requests.
 
 #![forbid(unsafe_code)]
 

@@ -1,6 +1,7 @@
-//! What recovery and join do ("Failure, recovery, join").
+//! What recovery and join do ("Failure, recovery, join"; where a lost home goes, "New
+//! homes shared evenly").
 
-use crate::directory::{Directory, Status};
+use crate::directory::{Directory, PageCounts, Status};
 use crate::layout::{
     area, area_at, area_mut, committed_at, low_word, put_desk, put_number, record_at, tentative_at, OWN_DESK,
     OWN_STAMP, PAGE_WORDS, RECORD_WORDS,
@@ -68,20 +69,36 @@ fn settle_pages(memory: &mut [u32], directory: &Directory, second_phase: bool) {
     }
 }
 
-/// "A page whose primary was f takes its secondary as primary. A page that lost
-/// a home gets as secondary the next live after its primary, with both copies."
+/// "A page whose primary was f takes its secondary as primary." A page that lost a
+/// home gets a new secondary, with both copies. "Pages are taken in rising order,
+/// each choice counted in the next."
 fn move_homes(memory: &mut [u32], directory: &mut Directory, failed: u32) {
+    let mut counts = directory.page_counts();
     for page in 0..directory.pages {
-        let [primary, secondary] = directory.homes_of(page);
-        if primary == failed {
-            directory.move_primary(page, secondary);
-        } else if secondary == failed {
-            directory.move_primary(page, primary);
-        } else {
-            continue;
+        let primary = match directory.homes_of(page) {
+            [primary, secondary] if primary == failed => secondary,
+            [primary, secondary] if secondary == failed => primary,
+            _ => continue,
+        };
+        let secondary = new_home(directory, &counts, primary);
+        if !cfg!(feature = "wrong_choice_not_counted") {
+            counts[secondary as usize] += 1;
         }
+        directory.set_homes(page, primary, secondary);
         copy_page(memory, directory, page);
     }
+}
+
+/// Where a lost home goes: "to the live card, other than the primary, that is home
+/// to the fewest pages at that moment, lowest number on a tie". There is one, as two
+/// cards are live.
+fn new_home(directory: &Directory, counts: &PageCounts, primary: u32) -> u32 {
+    let on_a_tie = |card| match cfg!(feature = "wrong_tie") {
+        true => directory.cards - card,
+        false => card,
+    };
+    let others = directory.live_cards().filter(|&card| card != primary);
+    others.min_by_key(|&card| (counts[card as usize], on_a_tie(card))).unwrap_or(primary)
 }
 
 /// Copies both copies of a page from its primary to its secondary.
