@@ -56,4 +56,12 @@ impl Reply {
     pub fn accepted(&self) -> bool {
         matches!(self.answer, Answer::Given(_))
     }
+
+    /// The reply to a call that must be accepted, so that a comparison shows what it is meant to.
+    pub fn must_be_accepted(self, call: &Call) -> Result<Reply, String> {
+        match self.accepted() {
+            true => Ok(self),
+            false => Err(format!("{call:?}: {self:?}")),
+        }
+    }
 }

@@ -1,5 +1,5 @@
 //! Single calls on damaged memories and directories: random words anywhere, lists without an end word, steps past the
-//! last, records that no call left, releases that overlap, memories of another length.
+//! last, records and homes that no call left, releases that overlap, memories of another length.
 
 use crate::call::{Call, Reply};
 use crate::library::words_of;
@@ -86,7 +86,7 @@ fn with_dead_cards(random: &mut Random, memory: &mut [u32], mut directory: Direc
 
 pub fn damaged(random: &mut Random, mut memory: Vec<u32>, mut directory: Directory) -> (Vec<u32>, Directory) {
     for _ in 0..random.below(4) {
-        match random.below(11) {
+        match random.below(13) {
             0 => damage_directory(random, &mut directory),
             1 => overlap(random, &mut memory, &directory),
             2 if random.one_in(6) => memory.resize(random.below(6_000) as usize, 1),
@@ -94,6 +94,7 @@ pub fn damaged(random: &mut Random, mut memory: Vec<u32>, mut directory: Directo
             5 | 6 => put_release(random, &mut memory, &directory),
             7 | 8 => damage_record(random, &mut memory, &directory),
             9 => put_numbers(random, &mut memory, &directory),
+            10 | 11 => put_homes(random, &mut memory, &mut directory),
             _ if memory.is_empty() => {}
             _ => {
                 let at = random.below(memory.len() as u32) as usize;
@@ -195,6 +196,34 @@ fn damage_directory(random: &mut Random, directory: &mut Directory) {
         // 4294967295 stands for a running rack in the words of a directory
         _ => directory.status = Status::Awaiting(random.below(9) * random.of(&[1, 1, 1, 400_000_000])),
     }
+}
+
+/// Any homes that fit, of some of the cards that may be one: so cards may be home to many pages, to few or to none, or
+/// to as many as others. The pages get any words, so that it shows which are copied. Then one of these cards may fail.
+fn put_homes(random: &mut Random, memory: &mut [u32], directory: &mut Directory) {
+    let may_be_home = |card: &u32| !is_dead(directory, *card) || directory.status == Status::Awaiting(*card);
+    let mut homes: Vec<u32> = (0..directory.cards.min(8)).filter(may_be_home).collect();
+    while homes.len() > 2 && random.one_in(3) {
+        homes.remove(random.below(homes.len() as u32) as usize);
+    }
+    if homes.len() < 2 {
+        return;
+    }
+    for page in 0..directory.pages.min(64) as usize {
+        let primary = random.of(&homes);
+        let others: Vec<u32> = homes.iter().copied().filter(|&card| card != primary).collect();
+        (directory.primary[page], directory.secondary[page]) = (primary, random.of(&others));
+    }
+    put_pages(random, memory, directory);
+    if random.one_in(2) {
+        *directory = second::fail_card(memory, *directory, random.of(&homes)).0;
+    }
+}
+
+/// Any words in the pages of every area.
+fn put_pages(random: &mut Random, memory: &mut [u32], directory: &Directory) {
+    let pages = memory.chunks_mut(area_of(directory)).filter_map(|area| area.get_mut(PAGES..));
+    pages.flatten().for_each(|word| *word = random.word());
 }
 
 /// The awaited card, or any dead one.

@@ -42,6 +42,16 @@ fn add_runs(random: &mut Random, list: &mut Vec<u32>, rarity: u32) {
     }
 }
 
+/// A list that prices one word of each page.
+pub fn of_each_page(random: &mut Random, pages: u32) -> Vec<u32> {
+    let mut list = Vec::new();
+    for page in 0..pages {
+        list.extend([0x1000_0000 | page, 0x2000_0001 | random.below(32) << 16, random.word()]);
+    }
+    list.push(0xF000_0000 | list.len() as u32);
+    list
+}
+
 /// A list of 510 to 513 words, or as many as the pages have room for: with 513 it keeps every other rule.
 pub fn near_limit(random: &mut Random, pages: u32) -> Vec<u32> {
     let words = random.within(LIMIT - 2, LIMIT + 1);
@@ -108,6 +118,11 @@ pub fn priced(list: &[u32]) -> Vec<u32> {
         }
     }
     labels
+}
+
+/// The steps of a release of an allowed list.
+pub fn all_steps(list: &[u32]) -> u32 {
+    4 * priced(list).len() as u32 + 11
 }
 
 /// A list with a word changed, left out or put in, or cut short: mostly faulty.

@@ -4,12 +4,14 @@
 //!     compare_calls [--seed N] [--calls N]
 
 mod call;
+mod chains;
 mod damage;
 mod guard;
 mod library;
 mod lists;
 mod moves;
 mod numbers;
+mod orders;
 mod play;
 mod racks;
 mod seen;
@@ -55,12 +57,15 @@ fn main() -> ExitCode {
     }
 }
 
-/// Half of the calls in lists on formatted racks, a third on damaged ones, the rest of the list maker; the moves, a
-/// sixth as many, and the sweep come on top.
+/// Half of the calls in lists on formatted racks, a third on damaged ones, the rest of the list maker; chains of
+/// failures and moves, a sixth as many each, all orders of failures and the sweep come on top.
 fn compare(options: &Options) -> Result<String, String> {
     let mut seen = Seen::new();
     let mut random = Random::new(options.seed);
     let played = play_all(&mut random, options.calls / 2, &mut seen)?;
+    let chained = compare_all(options.calls / 6, |at| {
+        chains::compare(&mut random, at, &mut seen).map_err(|error| format!("chain {at}: {error}"))
+    })?;
     let damaged = compare_all(options.calls / 3, |at| {
         damage::compare(&mut random, at, &mut seen).map_err(|error| format!("damaged rack {at}: {error}"))
     })?;
@@ -74,10 +79,12 @@ fn compare(options: &Options) -> Result<String, String> {
     if let Some((kind, number)) = seen.missing() {
         return Err(format!("none of the {kind} was answered with {number}"));
     }
+    let ordered = orders::compare(&mut random)?;
     let swept = sweep::compare()?;
     Ok(format!(
-        "{swept} swept and {played} played with the book, {damaged} on damaged racks, {moved} moves, {made} lists \
-         made, each flush left and flush right: all equal (seed {})\n\
+        "{swept} swept, {ordered} in every order of failures, {chained} in chains of failures and {played} played \
+         with the book, {damaged} on damaged racks, {moved} moves, {made} lists made, each flush left and flush \
+         right: all equal (seed {})\n\
          compare_calls: {seen}",
         options.seed
     ))

@@ -40,6 +40,7 @@ impl Seen {
             Kind::new("calls", LIMITS..=WRONG_BUFFER, |call| {
                 !matches!(call, Call::MoveIn { .. } | Call::MoveBack { .. })
             }),
+            Kind::new("recoveries", [ACCEPTED, LIMITS, UNFIT, NONE_AWAITED], |call| matches!(call, Call::Recover)),
             Kind::new("moves in", of_move_in, |call| matches!(call, Call::MoveIn { .. })),
             Kind::new("moves back", of_move_back, |call| matches!(call, Call::MoveBack { .. })),
             Kind::new("openings near 2^32", of_opening, |call| opens(call, NEAR_ONE_WORD)),

@@ -70,13 +70,10 @@ impl<'a> Swept<'a> {
         self.both.call(&call)
     }
 
-    /// A call that must be accepted, so that the sweep shows what it is meant to.
+    /// A call that must be accepted.
     fn accepted(&mut self, call: Call) -> Result<(), String> {
-        let reply = self.call(call.clone())?;
-        match reply.accepted() {
-            true => Ok(()),
-            false => Err(format!("{call:?}: {reply:?}")),
-        }
+        self.calls.set(self.calls.get() + 1);
+        self.both.accepted(&call).map(drop)
     }
 
     /// The next release of a card: page 0 word 2 and the last page's last word, or page 0 word 4.

@@ -2,10 +2,13 @@
 
 use crate::call::{Call, Reply};
 use crate::library::Words;
+use crate::lists;
 use crate::racks::Racks;
+use bandsawpink_sys::layout::DIRECTORY_WORDS;
 use second::book::{self, Book};
 use second::layout::{
-    area_mut, desk_of_number_at, done_mark_at, put_desk, put_number, stamp_at, Desk, Number, OWN_DESK, OWN_STAMP,
+    area_mut, desk_of_number_at, done_mark_at, memory_words, put_desk, put_number, stamp_at, Desk, Number, OWN_DESK,
+    OWN_STAMP,
 };
 use second::Answer;
 
@@ -26,6 +29,21 @@ impl WithBook {
             true => Ok(Self { racks, book: Book::new(), offline: Vec::new() }),
             false => Err(format!("formatting: {reply:?}")),
         }
+    }
+
+    /// A rack on which card 0 has released a list, and nothing else was done.
+    pub fn released(cards: u32, pages: u32, list: Vec<u32>) -> Result<Self, String> {
+        let memory = vec![9; memory_words(cards, pages).expect("within the limits")];
+        let mut both = Self::formatted(&memory, &[7; DIRECTORY_WORDS], cards, pages)?;
+        let count = lists::all_steps(&list);
+        both.accepted(&Call::Open { card: 0, number: 1, desk: [8; 8], list })?;
+        both.accepted(&Call::Steps { card: 0, count })?;
+        Ok(both)
+    }
+
+    /// The cards that have not failed, or have joined again.
+    pub fn live_cards(&self) -> Vec<u32> {
+        (0..self.racks.directory.cards).filter(|card| !self.offline.contains(card)).collect()
     }
 
     /// Gives a card of a newly formatted rack a last release, of no price: in its area, in its record on its backup,
@@ -53,6 +71,11 @@ impl WithBook {
         self.hold(call, &reply).map_err(|error| format!("{call:?}: {error}"))?;
         self.note(call, &reply);
         Ok(reply)
+    }
+
+    /// A call that must be accepted.
+    pub fn accepted(&mut self, call: &Call) -> Result<Reply, String> {
+        self.call(call)?.must_be_accepted(call)
     }
 
     /// What demand 3 says of an accepted call's answer.
