@@ -1,6 +1,6 @@
 /*
-** The exported functions called from C: each refusal of documents 01 and 02 with its number and place, and that a
-** refusal keeps memory, directory and buffer. Ends with status 0 if all is as expected.
+** The exported functions called from C: each refusal of documents 01 and 02 with its number and place, that a refusal
+** keeps memory, directory and buffer, and where lost homes go. Ends with status 0 if all is as expected.
 */
 #include <bandsawpink.h>
 #include <stdio.h>
@@ -316,6 +316,34 @@ static void card_calls(void) {
     EXPECT(found.number == RACK_ACCEPTED && found.value == 0 && memcmp(found.desk, zeros, sizeof zeros) == 0);
 }
 
+/*
+** 8 pages on 5 cards, of which card 1 and then card 2 fail: a lost home goes to the card that is home to the fewest
+** pages, the lowest on a tie, and the page can be fetched there once it is the primary.
+*/
+static void new_homes(void) {
+    static const struct {
+        uint32_t card, homes[8][2];
+    } lost[] = {
+        { 1, { { 0, 4 }, { 2, 0 }, { 2, 3 }, { 3, 4 }, { 4, 0 }, { 0, 3 }, { 2, 4 }, { 2, 3 } } },
+        { 2, { { 0, 4 }, { 0, 3 }, { 3, 0 }, { 3, 4 }, { 4, 0 }, { 0, 3 }, { 4, 0 }, { 3, 4 } } },
+    };
+    static uint32_t five[RACK_MEMORY_WORDS(5, 8)], prices[RACK_PAGE_WORDS];
+    const size_t words = RACK_MEMORY_WORDS(5, 8);
+    ACCEPTED(rack_format(five, words, 5, 8, &directory));
+    ACCEPTED(rack_open(five, words, &directory, 2, 1, desk, list, 5));
+    ACCEPTED(rack_steps(five, words, &directory, 2, 19));
+    for (size_t at = 0; at < sizeof lost / sizeof *lost; at++) {
+        ACCEPTED(rack_fail(five, words, &directory, lost[at].card));
+        ACCEPTED(rack_recover(five, words, &directory));
+        for (int page = 0; page < 8; page++) {
+            EXPECT(directory.primary[page] == lost[at].homes[page][0]);
+            EXPECT(directory.secondary[page] == lost[at].homes[page][1]);
+        }
+        ACCEPTED(rack_fetch(five, words, &directory, 1, prices, RACK_PAGE_WORDS));
+        EXPECT(prices[1] == 0 && prices[2] == 250 && prices[3] == 199);
+    }
+}
+
 /* A rack whose card 1 has this last number, as its record on its backup has it, too. */
 static void format_with_last(uint64_t last) {
     uint32_t *const numbers[] = { memory + AREA + STAMP, record, record + 2 };
@@ -523,6 +551,7 @@ int main(void) {
     several_steps();
     all_pages();
     card_calls();
+    new_homes();
     large_numbers();
     moves();
     refused_moves();

@@ -123,6 +123,25 @@ fn a_card_fails_between_two_steps() {
     }
 }
 
+/// 8 pages on 5 cards: a lost home goes to the card that is home to the fewest pages, the lowest on a
+/// tie, and the page can be fetched there once it is the primary.
+#[test]
+fn lost_homes_are_shared_evenly() {
+    let mut rack = Rack::format(5, 8).unwrap();
+    rack.release(2, 1, &DESK, &LIST).unwrap();
+    let rows = [
+        (1, [(0, 4), (2, 0), (2, 3), (3, 4), (4, 0), (0, 3), (2, 4), (2, 3)]),
+        (2, [(0, 4), (0, 3), (3, 0), (3, 4), (4, 0), (0, 3), (4, 0), (3, 4)]),
+    ];
+    for (card, expected) in rows {
+        rack.fail(card).unwrap();
+        rack.recover().unwrap();
+        let homes: Vec<_> = (0..8).map(|page| rack.homes(page).unwrap()).collect();
+        assert_eq!(homes, expected);
+        assert_eq!(rack.fetch(1), Ok(page_1()));
+    }
+}
+
 #[test]
 fn refusals_of_a_desk() {
     let mut rack = rack();
