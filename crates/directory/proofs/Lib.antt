@@ -4,3 +4,4 @@ pub mod Live
 pub mod Table
 pub mod Changes
 pub mod NewHome
+pub mod PageCounts

@@ -7,7 +7,7 @@ use mathlib.Core.Bool.{or-true, or-false}
 use native.Mathlib.Nat.{add-zero}
 use Rattle.laws.specs.Search.{lowest, someBelow, countBelow}
 use Rattle.laws.proofs.Bools.{and-first, and-second, and-rest}
-use Rattle.laws.proofs.Search.{lowest-stops, lowest-agree, some-agree, count-agree, none-below}
+use Rattle.laws.proofs.Search.{Stops, lowest-stops, lowest-agree, some-agree, count-agree, none-below, counted-few}
 use Rattle.directory.specs.Directory.{Directory, Status, liveAt, isLive, primaryOf, secondaryOf, withHomes}
 use Rattle.directory.specs.Directory.{withStatus}
 use Rattle.directory.specs.NewHome.{isHomeOf, pagesAt, mayTake, takesBelow, isFewest, fewestHome, evenHome}
@@ -90,33 +90,54 @@ module _ (marks : List Bool) (cards : ℕ) (count : ℕ → ℕ) (kept : ℕ) wh
   abbrev named : ℕ
   named = fewestHome marks cards count kept
 
+  stops : Stops (isFewest marks cards count kept) 0 cards named
+  stops = lowest-stops (isFewest marks cards count kept) 0 cards
+
   -- where card c may take the page
   module _ (c : ℕ) (below : c < cards) (may : mayTake marks kept c ≡ true) where
-    pub fewest-home-below : named < cards
+    fewest-home-below : named < cards
     fewest-home-below =
-        let stops = lowest-stops (isFewest marks cards count kept) 0 cards in
         elim (decLt named cards) [
           | yes found ↦ found
           | no past ↦
-              absurd (no-fewest (λ e h. stops .missed e (omega arith) (omega arith)) (count c) c below may (omega arith))
+              let none = no-fewest (λ e h. stops .missed e (omega arith) (omega arith)) in
+              absurd (none (count c) c below may (omega arith))
         ]
 
     fewest-home-is : OneOfFewest named
-    fewest-home-is =
-        let found = fewest-home-below in
-        fewest-is named (lowest-stops (isFewest marks cards count kept) 0 cards .hit (omega arith))
+    fewest-home-is = let found = fewest-home-below in fewest-is named (stops .hit (omega arith))
 
-    pub fewest-home-may : mayTake marks kept named ≡ true
+    fewest-home-may : mayTake marks kept named ≡ true
     fewest-home-may = fewest-home-is .may
 
-    pub fewest-home-least : (e : ℕ) → e < cards → mayTake marks kept e ≡ true → count named ≤ count e
+    fewest-home-least : (e : ℕ) → e < cards → mayTake marks kept e ≡ true → count named ≤ count e
     fewest-home-least = fewest-home-is .least
 
-    pub fewest-home-lowest : (e : ℕ) → e < named → mayTake marks kept e ≡ true → count named < count e
+    fewest-home-lowest : (e : ℕ) → e < named → mayTake marks kept e ≡ true → count named < count e
     fewest-home-lowest e lower may-e =
-        let missed = lowest-stops (isFewest marks cards count kept) 0 cards .missed e (omega arith) lower in
-        let fewer = not-fewest e may-e missed in
+        let fewer = not-fewest e may-e (stops .missed e (omega arith) lower) in
         omega (arith, fewer .less, fewest-home-least _ (fewer .below) (fewer .may))
+
+    -- no other card is such
+    pub fewest-home-unique : ((e : ℕ) → e < cards → mayTake marks kept e ≡ true → count c ≤ count e)
+        → ((e : ℕ) → e < c → mayTake marks kept e ≡ true → count c < count e) → c ≡ named
+    fewest-home-unique least lower =
+        let fewer : named < c → ⊥ =
+        λ h. omega (arith, lower named h fewest-home-may, fewest-home-least c below may)
+        in
+        let lower : c < named → ⊥ =
+        λ h. omega (arith, fewest-home-lowest c h may, least named fewest-home-below fewest-home-may)
+        in
+        omega arith
+
+  -- where none may
+  pub fewest-home-none : ((c : ℕ) → c < cards → mayTake marks kept c ≡ false) → cards ≡ named
+  fewest-home-none none =
+      elim (decLt named cards) [
+        | yes found ↦
+            absurd (true≢false (sym (fewest-is named (stops .hit (omega arith)) .may) ∙ none named found))
+        | no past ↦ omega (arith, stops .upto)
+      ]
 
 -- ---- what the rule goes by
 
@@ -143,8 +164,8 @@ module _ (marks marks′ : List Bool) (cards : ℕ) (count count′ : ℕ → �
   fewest-home-agrees =
       lowest-agree (isFewest marks cards count kept) (isFewest marks′ cards count′ kept) cards
       (λ c below.
-        and-agrees _ _ _ _ (may-take-agrees c below)
-        (λ may. ap not (fewer-agrees (count c) (count′ c) (same c below may))))
+      and-agrees _ _ _ _ (may-take-agrees c below)
+      (λ may. ap not (fewer-agrees (count c) (count′ c) (same c below may))))
 
 -- the homes of the pages
 pub pages-at-agrees : (d e : Directory) (c : ℕ) → d .pages ≡ e .pages
@@ -156,6 +177,11 @@ pages-at-agrees d e c pages primary secondary =
     count-agree (isHomeOf d c) (isHomeOf e c) (d .pages)
     (λ page below. rw (primary page below, secondary page below))
     ∙ ap (countBelow (isHomeOf e c)) pages
+
+-- no more than there are
+pages-at-few : (d : Directory) (c : ℕ) → pagesAt d c ≤ d .pages
+unfolding pagesAt
+pages-at-few d c = counted-few {test = isHomeOf d c} {n = d .pages} (record { upto = omega arith; is = refl })
 
 pub even-home-agrees : (d e : Directory) (kept : ℕ) → d .cards ≡ e .cards → d .pages ≡ e .pages
     → ((c : ℕ) → c < d .cards → isLive d c ≡ isLive e c)
@@ -229,6 +255,11 @@ module _ (d : Directory) (page f kept new : ℕ) (below : page < d .pages)
       (home-after new ∙ rw (eq-eqb new new refl) (or-true (eqb kept new)))
       (home-elsewhere new)
 
+  -- which was home to fewer than all
+  pub room-at-new : new ≢ f → new ≢ kept → pagesAt d new < d .pages
+  room-at-new not-lost not-kept =
+      omega (arith, pages-at-few (withHomes d page kept new) new, pages-at-new not-lost not-kept)
+
   -- and as before for every other card but f
   pub pages-at-others : (c : ℕ) → c ≢ f → c ≢ new → pagesAt (withHomes d page kept new) c ≡ pagesAt d c
   unfolding pagesAt
@@ -247,13 +278,11 @@ module _ (d : Directory) (page f kept new : ℕ) (below : page < d .pages)
 
   -- in one
   pub pages-at-moved : (c : ℕ) → c ≢ f → new ≢ kept
-      → pagesAt (withHomes d page kept new) c ≡ pagesAt d c + cond (eqb c new) 1 0
+      → pagesAt (withHomes d page kept new) c ≡ pagesAt d c + cond (eqb new c) 1 0
   pages-at-moved c not-lost not-kept =
-      elim (ℕ-discrete c new) [
-        | yes same ↦
-            rw (eq-eqb c new same)
-            (rw same (pages-at-new (λ e. not-lost (same ∙ e)) not-kept))
-        | no other ↦ rw (ne-eqb c new other, add-zero) (pages-at-others c not-lost other)
+      elim (ℕ-discrete new c) [
+        | yes same ↦ rw (eq-eqb new c same, ← same) (pages-at-new (λ e. not-lost (sym same ∙ e)) not-kept)
+        | no other ↦ rw (ne-eqb new c other, add-zero) (pages-at-others c not-lost (λ e. other (sym e)))
       ]
 
 -- ---- what is claimed of the rules

@@ -2,4 +2,5 @@
 pub mod Live
 pub mod Directory
 pub mod NewHome
+pub mod PageCounts
 pub mod Examples

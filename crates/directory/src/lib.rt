@@ -11,6 +11,8 @@ ghost use Rattle.directory.specs.Directory.{emptyDirectory};
 ghost use Rattle.directory.specs.NewHome.{EvenlyShared, NamesLive, evenHome, nextHome};
 ghost use Rattle.directory.specs.Examples.{examples};
 
+pub mod homes;
+
 pub enum Status {
     Running,
     // Recovery of this card is awaited.
