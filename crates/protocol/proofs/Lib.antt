@@ -9,5 +9,6 @@ pub mod invariant
 pub mod recovery
 pub mod join
 pub mod calls
+pub mod model
 pub mod demands
 pub mod past_limits

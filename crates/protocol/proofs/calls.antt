@@ -1,4 +1,5 @@
 -- Each accepted call answers what the book holds and keeps the invariant; a refused one changes nothing.
+pub mod Formatting
 pub mod Performed
 pub mod Refused
 pub mod Accepted

@@ -4,3 +4,5 @@ pub mod Demand3
 pub mod AlwaysFits
 pub mod ResendsRefused
 pub mod CountsOnce
+pub mod AnswersAsModel
+pub mod AnswersAsBefore

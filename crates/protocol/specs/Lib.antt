@@ -14,6 +14,8 @@ pub mod Calls
 pub mod Book
 pub mod Demand3
 pub mod Demand1
+pub mod Model
+pub mod AnswersAsModel
 pub mod AnswersAsBefore
 pub mod PastLimits
 pub mod Corollaries

@@ -5,6 +5,8 @@
 ghost use Rattle.laws.specs.Examples.{AllHold};
 ghost use Rattle.protocol.specs.Demand1.{Demand1};
 ghost use Rattle.protocol.specs.Demand3.{Demand3, Demand3By, ByAnyRule};
+ghost use Rattle.protocol.specs.AnswersAsModel.{AnswersAsModel, AnswersAsModelBy};
+ghost use Rattle.protocol.specs.AnswersAsBefore.{AnswersAsBefore, AnswersByAnyRule};
 ghost use Rattle.protocol.specs.PastLimits.{PastLimits};
 ghost use Rattle.protocol.specs.Corollaries.{AlwaysFits, AlwaysFitsBy};
 ghost use Rattle.protocol.specs.Corollaries.{ResendsRefused, ResendsRefusedBy};
@@ -30,6 +32,20 @@ pub fn nothing_past_is_read()
 pub fn calls_conform_to_book()
     ensures { λ _. ⌜ Demand3 ⌝ }
     ensures any_rule { λ _. ⌜ ByAnyRule Demand3By ⌝ }
+{}
+
+// Every call so made, refused or not, comes to the reference model's number, place and value, and
+// hands back its words.
+pub fn calls_answer_as_model()
+    ensures { λ _. ⌜ AnswersAsModel ⌝ }
+    ensures any_rule { λ _. ⌜ ByAnyRule AnswersAsModelBy ⌝ }
+{}
+
+// Two racks that get the same calls, one by document 01's rule for new homes and one by that of
+// document 02, request 4, answer alike; so do any two whose rules name live cards.
+pub fn calls_answer_as_before()
+    ensures { λ _. ⌜ AnswersAsBefore ⌝ }
+    ensures any_rule { λ _. ⌜ AnswersByAnyRule ⌝ }
 {}
 
 // No call on a rack so reached is refused with 2.

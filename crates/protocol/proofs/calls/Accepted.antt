@@ -1,5 +1,5 @@
 -- What an accepted call must come to, and a call whose checks all pass.
-use Rattle.laws.proofs.Prelude.{ℕ, _≡_, sym, ap, _∙_, subst, inl, inr, List, Bool, true, true≢false, false≢true}
+use Rattle.laws.proofs.Prelude.{ℕ, _≡_, sym, ap, _∙_, inl, inr, List, Bool, true, true≢false, false≢true}
 use Rattle.directory.specs.declared.Directory.{Directory}
 use Rattle.directory.specs.declared.Status.the-variants.{Running}
 use Rattle.protocol.specs.Checks.{Check, firstRefusal, awaitsRecovery}
@@ -8,7 +8,7 @@ use Rattle.protocol.specs.Calls.{Call}
 use Rattle.protocol.specs.Book.{Book, transition}
 use Rattle.protocol.specs.Demand3.{offlineAfter, Conforms}
 use Rattle.protocol.proofs.invariant.Rack.{RunningRack, AwaitingRack, Rack, LiveOnline}
-use Rattle.protocol.proofs.checks.Outcome.{numbered, Passed, all-passed, when-accepted}
+use Rattle.protocol.proofs.checks.Outcome.{numbered, Passed, by-passed}
 use Rattle.protocol.proofs.checks.ByCall.{Runs}
 
 pub record AcceptedCall (call : Call) (offline : ℕ → Bool) (b : Book) (result : Result) : Type 0 where
@@ -36,9 +36,7 @@ module _ (d : Directory) (m : List ℕ) (b : Book) (offline : ℕ → Bool) (rac
       → (Passed checks → AcceptedCall call offline b done)
       → accepted (resultOf (firstRefusal checks value) done d m words .outcome) ≡ true
       → AcceptedCall call offline b (resultOf (firstRefusal checks value) done d m words)
-  accepted-by-checks call checks value done words same real good ok =
-      let taken = when-accepted (firstRefusal checks value) done d m words same ok in
-      subst (AcceptedCall call offline b) (sym (taken .1)) (good (all-passed checks value real (taken .0)))
+  accepted-by-checks call checks value done words = by-passed (AcceptedCall call offline b) checks value done d m words
 
   pub running-if-passed : Runs d m → RunningRack d m b
   running-if-passed runs = running-rack rack (runs .running)

@@ -14,7 +14,7 @@ use Rattle.protocol.specs.Calls.{recover}
 use Rattle.protocol.specs.Book.{Book, transition}
 use Rattle.protocol.specs.Demand3.{offlineAfter, Conforms}
 use Rattle.protocol.proofs.invariant.Rack.{AwaitingRack, Rack, LiveOnline}
-use Rattle.protocol.proofs.recovery.BeforeRecords.{answers}
+use Rattle.protocol.proofs.recovery.BeforeRecords.{answers-awaited}
 use Rattle.protocol.proofs.recovery.Recovered.{recovers}
 use Rattle.protocol.proofs.recovery.Homes.{recovered-parts}
 use Rattle.protocol.proofs.checks.Outcome.{given-value}
@@ -43,8 +43,7 @@ module _ (d : Directory) (m : List ℕ) (b : Book) (offline : ℕ → Bool) (rac
           })
       recovered f awaiting gives =
           let card : awaitedCard (d .status) ≡ f = rw (awaiting .awaiting) in
-          let release-is : failedRelease d (awaitedCard (d .status)) m ≡ b .last (b .failed) =
-          rw (card, awaiting .failed) (answers d f m b awaiting) in
+          let release-is = answers-awaited d f m b awaiting in
           record {
             conforms = (
               ap (λ (o : Outcome). o .value) gives ∙ ap (λ (r : Release). r .number) release-is,

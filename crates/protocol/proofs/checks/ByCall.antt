@@ -1,6 +1,6 @@
 -- What an accepted call has passed: each of its checks, by name.
-use Rattle.laws.proofs.Prelude.{ℕ, _+_, _<_, _≡_, refl, List, true, false, not, true≢false, arith, eqb-true, ltb-false}
-use Rattle.laws.proofs.Prelude.{leb-false, not-false, length, eqb, leb}
+use Rattle.laws.proofs.Prelude.{ℕ, _+_, _<_, _≡_, refl, List, _++_, true, false, not, true≢false, arith, eqb-true}
+use Rattle.laws.proofs.Prelude.{ltb-false, leb-false, not-false, length, eqb, leb}
 use Rattle.laws.specs.Search.{countBelow}
 use Rattle.laws.proofs.Bools.{neither}
 use Rattle.laws.proofs.Search.{none-below}
@@ -12,7 +12,8 @@ use Rattle.area.specs.Prelude.{pageSize, ownRelease, isOpen}
 use Rattle.diff.specs.Reading.{checkDiff}
 use Rattle.diff.specs.OnlyDiff.{Allowed}
 use Rattle.protocol.specs.Release.{sizeOf}
-use Rattle.protocol.specs.Checks.{outsideLimits, unfitRack, awaitsRecovery, noLiveCard}
+use Rattle.protocol.specs.Checks.{Check, firstRefusal, outsideLimits, unfitRack, awaitsRecovery, fittingChecks}
+use Rattle.protocol.specs.Checks.{noLiveCard}
 use Rattle.protocol.specs.Calls.{openingChecks, stepChecks, fetchChecks, failureChecks, joinChecks, deskChecks}
 use Rattle.protocol.specs.Opening.{sharesWith}
 use Rattle.protocol.specs.Fetch.{inMotion}
@@ -25,11 +26,17 @@ pub record Fits (d : Directory) (m : List ℕ) : Type 0 where
   pub limits : outsideLimits (length m) (d .cards) (d .pages) ≡ false
   pub fit : unfitRack d m ≡ false
 
+-- 1 and 2 pass
+pub after-two : (d : Directory) (m : List ℕ) → Fits d m → (more : List Check) (value : ℕ)
+    → firstRefusal (fittingChecks d m ++ more) value ≡ firstRefusal more value
+unfolding firstRefusal
+after-two d m fits more value = rw (fits .limits, fits .fit)
+
 pub record Runs (d : Directory) (m : List ℕ) : Type 0 where
   pub fits : Fits d m
   pub running : d .status ≡ Running
 
-running-status : (status : Status) → awaitsRecovery status ≡ false → status ≡ Running
+pub running-status : (status : Status) → awaitsRecovery status ≡ false → status ≡ Running
 unfolding awaitsRecovery
 running-status Running e = refl
 running-status (Awaiting f) e = absurd (true≢false e)

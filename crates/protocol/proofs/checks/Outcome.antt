@@ -1,7 +1,7 @@
 -- Checks in order: an accepted call passed all of them, a refused one has the number of the first that it failed and
 -- changes nothing.
-use Rattle.laws.proofs.Prelude.{ℕ, _≡_, refl, sym, _∙_, List, [], _∷_, Bool, true, false, cond, not, _&&_, true≢false}
-use Rattle.laws.proofs.Prelude.{not-true, eqb, eq-eqb}
+use Rattle.laws.proofs.Prelude.{ℕ, _≡_, refl, sym, _∙_, subst, List, [], _∷_, Bool, true, false, cond, not, _&&_}
+use Rattle.laws.proofs.Prelude.{true≢false, not-true, eqb, eq-eqb}
 use Rattle.laws.proofs.Bools.{and-first, and-second}
 use Rattle.answer.specs.declared.Outcome.{Outcome}
 use Rattle.answer.specs.Outcome.{refusedAt, given, refused}
@@ -60,6 +60,15 @@ module _ (o : Outcome) (done : Result) (d : Directory) (m words : List ℕ) (sam
   pub when-refused : accepted (resultOf o done d m words .outcome) ≡ false
       → resultOf o done d m words ≡ record { outcome = o; directory = d; memory = m; words = words }
   when-refused refused = let no′ : accepted o ≡ false = rw outcome-of at refused in rw no′
+
+-- what holds of what is left when all checks pass holds of an accepted call's result
+pub by-passed : (P : Result → Type 0) (cs : List Check) (value : ℕ) (done : Result) (d : Directory) (m words : List ℕ)
+    → done .outcome ≡ firstRefusal cs value → numbered cs ≡ true → (Passed cs → P done)
+    → accepted (resultOf (firstRefusal cs value) done d m words .outcome) ≡ true
+    → P (resultOf (firstRefusal cs value) done d m words)
+by-passed P cs value done d m words same real good ok =
+    let taken = when-accepted (firstRefusal cs value) done d m words same ok in
+    subst P (sym (taken .1)) (good (all-passed cs value real (taken .0)))
 
 -- ---- the number of a refusal
 

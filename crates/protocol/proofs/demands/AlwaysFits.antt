@@ -10,7 +10,7 @@ use Rattle.protocol.specs.Calls.{Call, performBy}
 use Rattle.protocol.specs.Demand1.{isAmong, handedBack}
 use Rattle.protocol.specs.Demand3.{answerTo, ByAnyRule}
 use Rattle.protocol.specs.Corollaries.{AlwaysFitsBy}
-use Rattle.protocol.proofs.checks.ByCall.{Fits}
+use Rattle.protocol.proofs.checks.ByCall.{Fits, after-two}
 use Rattle.protocol.proofs.checks.Outcome.{outcome-of, numbersOf, among}
 use Rattle.protocol.proofs.invariant.Fits.{rack-fits}
 use Rattle.protocol.proofs.calls.Performed.{performed}
@@ -25,16 +25,11 @@ other-number cs value absent same = go (accepted (firstRefusal cs value)) refl
     go false refused = true≢false (sym (among cs value refused) ∙ (rw same absent))
 
 module _ (d : Directory) (m : List ℕ) (fits : Fits d m) where
-  -- 1 and 2 pass
-  after-two : (more : List Check) (value : ℕ) → firstRefusal (fittingChecks d m ++ more) value ≡ firstRefusal more value
-  unfolding firstRefusal
-  after-two more value = rw (fits .limits, fits .fit)
-
   never-unfit : (rule : HomeRule) (call : Call) → performBy rule call d m .outcome .number ≢ unfit
   never-unfit rule call =
       let by = performed rule call d m in
       let o : Outcome = firstRefusal (fittingChecks d m ++ by .more) (by .value) in
-      rw (by .is, outcome-of o (by .done) d m (handedBack call) (by .same), after-two (by .more) (by .value))
+      rw (by .is, outcome-of o (by .done) d m (handedBack call) (by .same), after-two d m fits (by .more) (by .value))
       (other-number (by .more) (by .value) (by .unfit-once))
 
 pub always-fits : ByAnyRule AlwaysFitsBy

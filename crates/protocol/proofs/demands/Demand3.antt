@@ -1,19 +1,15 @@
 -- The proof of demand 3: the invariant holds of a formatted rack, is found again by each call, and each call keeps it.
 use Rattle.laws.proofs.Prelude.{ℕ, _≡_, refl, inl, List, [], _∷_, Bool, true, false, cond, length}
-use Rattle.answer.specs.Outcome.{limits}
 use Rattle.directory.specs.declared.Directory.{Directory}
 use Rattle.directory.specs.NewHome.{HomeRule, NamesLive}
-use Rattle.protocol.specs.Checks.{Check, check, firstRefusal, outsideLimits}
 use Rattle.protocol.specs.Result.{accepted}
-use Rattle.protocol.specs.Formatting.{formatting}
 use Rattle.protocol.specs.Book.{Book, newBook, transitionIf}
 use Rattle.protocol.specs.Demand3.{offlineAfter, Event, Typed, Conforms, answerTo, Always, Everywhere}
 use Rattle.protocol.specs.Demand3.{Demand3By, ByAnyRule}
-use Rattle.protocol.proofs.checks.Limits.{within-limits}
-use Rattle.protocol.proofs.checks.Outcome.{all-passed, when-accepted}
 use Rattle.protocol.proofs.invariant.Rack.{Rack, LiveOnline}
 use Rattle.protocol.proofs.invariant.Found.{rack-found, interference-live}
 use Rattle.protocol.proofs.invariant.Formatted.{formatted}
+use Rattle.protocol.proofs.calls.Formatting.{formatting-accepted}
 use Rattle.protocol.proofs.calls.Refused.{refused-unchanged}
 use Rattle.protocol.proofs.calls.Each.{each-accepted}
 
@@ -47,13 +43,9 @@ module _ (rule : HomeRule) (good : NamesLive rule) (P : Book → Directory → E
           rw (same .directory, same .memory) (rest _ _ _ _ found online)
 
   pub everywhere : Everywhere rule P
-  unfolding formatting
   everywhere m cards pages ok events =
-      let checks : List Check = check (outsideLimits (length m) cards pages) limits ∷ [] in
-      let taken = when-accepted (firstRefusal checks 0) _ _ m [] refl ok in
-      let passed = all-passed checks 0 refl (taken .0) in
-      let start = formatted cards pages (length m) (within-limits (length m) cards pages (passed .0)) in
-      rw (taken .1) (always _ _ _ newBook events (inl start) (λ c live. refl))
+      formatting-accepted (λ d left. Always rule P d left (λ card. false) newBook events) m cards pages
+      (λ limits. always _ _ _ newBook events (inl (formatted cards pages (length m) limits)) (λ c live. refl)) ok
 
 pub demand-3 : ByAnyRule Demand3By
 demand-3 rule good =

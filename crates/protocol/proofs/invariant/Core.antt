@@ -6,7 +6,7 @@ use Rattle.laws.proofs.Prelude.{arith, ℕ-discrete, length}
 use Rattle.directory.specs.declared.Directory.{Directory}
 use Rattle.directory.specs.Directory.{isLive}
 use Rattle.area.specs.Prelude.{AreaIn, load, areaSize, openFlag, deskSize, recordsStart, Release, ownRelease, openList}
-use Rattle.area.proofs.Prelude.{SameOwn, SameRelease, own-kept, open-kept, list-kept, steps-kept, same-own-release, In}
+use Rattle.area.proofs.Prelude.{SameOwn, SameRelease, open-kept, list-kept, steps-kept, same-own-release, In}
 use Rattle.area.proofs.Prelude.{recordRegion}
 use Rattle.diff.specs.declared.Verdict.the-variants.{Good}
 use Rattle.diff.specs.Reading.{readDiff}
@@ -15,7 +15,7 @@ use Rattle.protocol.specs.Release.{sizeOf, stepMemory, countsAt, stepsIn
 use Rattle.protocol.specs.Book.{Opened, none, opened, listPrices, Book, update}
 use Rattle.protocol.proofs.release.Shape.{Shape, shape-kept, area-of-live}
 use Rattle.protocol.proofs.release.WordAfter.{written}
-use Rattle.protocol.proofs.release.Step.{StandsIn, stepWrite, load-step, steps-step, step-keeps}
+use Rattle.protocol.proofs.release.Step.{StandsIn, stepWrite, load-step, steps-step, step-keeps, step-keeps-own}
 use Rattle.protocol.proofs.release.Step.{step-keeps-other, step-keeps-record}
 use Rattle.protocol.proofs.book.Changes.{pricesIn, EightWords, update-each}
 use Rattle.protocol.proofs.claims.Claim.{Disjoint, Claim}
@@ -122,6 +122,9 @@ module _ (d : Directory) (backup : ℕ → ℕ) (old : ℕ → ℕ → ℕ) (T C
     kept : SameRelease (sizeOf d) m m′ c
     kept = step-keeps d (backup c) m c area (standing .stands) few before
 
+    kept-own : (x : ℕ) → ownRelease (sizeOf d) m′ x ≡ ownRelease (sizeOf d) m x
+    kept-own = step-keeps-own d (backup c) m c area (standing .stands) few before
+
     kept-other : (x : ℕ) → x ≢ c → SameOwn (sizeOf d) m m′ x
     kept-other = step-keeps-other d (backup c) m c area (standing .stands) few before
 
@@ -174,11 +177,8 @@ module _ (d : Directory) (backup : ℕ → ℕ) (old : ℕ → ℕ → ℕ) (T C
               (step-numbers r list s (b .last c) (last c) lasts (rw is at (core .numbers c)))
               (λ x other. rw (others x other) (core .numbers x));
           owns = update-each (b .release) c R′ (λ x R. isLive d x ≡ true → Own R (ownRelease (sizeOf d) m′ x) (last x))
-              (λ _. rw (own-kept (sizeOf d) m m′ c kept) (rw is at (core .owns c live)))
-              (λ x other up. rw (
-                own-kept (sizeOf d) m m′ x (same-own-release (sizeOf d) m m′ x (kept-other x other)),
-                others x other,
-              ) (core .owns x up));
+              (λ _. rw (kept-own c) (rw is at (core .owns c live)))
+              (λ x other up. rw (kept-own x, others x other) (core .owns x up));
           tentative = λ t.
               step-tentatives d backup (b .release) (b .price) price m m′ c few r list s is eight before prices
               (λ h p w word. wrote h _ (word .live) (omega (arith, word .page, word .word)) (omega arith))

@@ -1,6 +1,6 @@
 -- A formatted rack runs, and agrees with a new book.
 use Rattle.laws.proofs.Prelude.{ℕ, _+_, zero, suc, _%_, _<_, _≡_, refl, sym, _∙_, _≢_, true, false, true≢false, arith}
-use Rattle.laws.proofs.Prelude.{decLt, lt-ltb, ltb-true, ltb}
+use Rattle.laws.proofs.Prelude.{decLt, lt-ltb, le-ltb, ltb-true, ltb}
 use native.Mathlib.Nat.{mod-lt}
 use Rattle.directory.specs.declared.Directory.{Directory}
 use Rattle.directory.specs.Directory.{nextLive, isLive, primaryOf, secondaryOf, backupOf, formattedMarks}
@@ -27,19 +27,20 @@ module _ (cards pages words : ℕ) (limits : Within words cards pages) where
   d = formattedDirectory cards pages
 
   -- the cards below the number of cards, and no others, are live
-  live-below : (c : ℕ) → c < cards → isLive d c ≡ true
+  pub formatted-live : (c : ℕ) → isLive d c ≡ ltb c cards
   unfolding formattedDirectory
-  live-below c below = table-read (λ c. ltb c cards) 8 c false (omega (arith, limits .cards-most))
-      ∙ lt-ltb c cards below
+  formatted-live c =
+      elim (decLt c 8) [
+        | yes few ↦ table-read (λ c. ltb c cards) 8 c false few
+        | no past ↦ sym (read-past-end (formattedMarks cards) 8 c false (table-length _ 8) (omega arith))
+            ∙ sym (le-ltb c cards (omega (arith, limits .cards-most)))
+      ]
+
+  live-below : (c : ℕ) → c < cards → isLive d c ≡ true
+  live-below c below = formatted-live c ∙ lt-ltb c cards below
 
   below-live : (c : ℕ) → isLive d c ≡ true → c < cards
-  unfolding formattedDirectory
-  below-live c live =
-      elim (decLt c 8) [
-        | yes few ↦ ltb-true c cards (sym (table-read (λ c. ltb c cards) 8 c false few) ∙ live)
-        | no past ↦ absurd (true≢false
-            (sym live ∙ sym (read-past-end (formattedMarks cards) 8 c false (table-length _ 8) (omega arith))))
-      ]
+  below-live c live = ltb-true c cards (sym (formatted-live c) ∙ live)
 
   -- each page's homes
   home-below : (p : ℕ) → p % cards < cards

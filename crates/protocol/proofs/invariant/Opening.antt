@@ -5,8 +5,7 @@ use Rattle.directory.specs.declared.Directory.{Directory}
 use Rattle.directory.specs.Directory.{isLive}
 use Rattle.area.specs.Prelude.{AreaIn, load, pageAt, tentativeHalf, committedHalf, tentative, committed, deskSize}
 use Rattle.area.specs.Prelude.{listSize, pageSize, Release, ownRelease, stepsOf}
-use Rattle.area.proofs.Prelude.{SameOwn, own-kept, own-words-kept, same-own-release, In, NotIn, openRegion}
-use Rattle.area.proofs.Prelude.{recordRegion, listRegion}
+use Rattle.area.proofs.Prelude.{SameOwn, In, NotIn, openRegion, recordRegion, listRegion}
 use Rattle.diff.specs.Prices.{names, appliedAt}
 use Rattle.diff.specs.OnlyDiff.{Allowed}
 use Rattle.diff.proofs.Prices.{names-none, applied-none}
@@ -23,7 +22,7 @@ use Rattle.protocol.proofs.claims.Halves.{tentative-first}
 use Rattle.protocol.proofs.records.Recorded.{Numbers, Own, Recorded, recorded-kept}
 use Rattle.protocol.proofs.invariant.Core.{Core, Standing, Under, standing-kept}
 use Rattle.protocol.proofs.release.Opening.{stored-prices, stored-reads, length-open, load-open, opened-release}
-use Rattle.protocol.proofs.release.Opening.{opened-list, open-word}
+use Rattle.protocol.proofs.release.Opening.{opened-list, open-word, open-keeps-own}
 
 module _ (d : Directory) (backup : ℕ → ℕ) (old : ℕ → ℕ → ℕ) (T C : Type 0) (m : List ℕ) (b : Book)
     (core : Core d backup old T C m b) (c : ℕ) (live : isLive d c ≡ true) (idle : b .release c ≡ none) (r : Release)
@@ -113,9 +112,8 @@ module _ (d : Directory) (backup : ℕ → ℕ) (old : ℕ → ℕ → ℕ) (T C
           go true by-list = absurd (true≢false (sym named-before ∙ free x label far by-list))
           go false by-list = by-list
 
-  own-same : ownRelease (sizeOf d) m′ c ≡ ownRelease (sizeOf d) m c
-  own-same = own-words-kept (sizeOf d) m m′ c same-size
-      (λ o own. elsewhere c o (omega arith) (inr ((λ here. omega arith), (λ here. omega arith))))
+  own-same : (x : ℕ) → ownRelease (sizeOf d) m′ x ≡ ownRelease (sizeOf d) m x
+  own-same = open-keeps-own (sizeOf d) m c r list (omega arith) eight few
 
   open-tentative : Claim d (tentatives d backup) (b .release) (b .price) m
       → Claim d (tentatives d backup) (update (b .release) c R′) (b .price) m′
@@ -167,9 +165,8 @@ module _ (d : Directory) (backup : ℕ → ℕ) (old : ℕ → ℕ → ℕ) (T C
             ((λ _. next), (λ late. absurd (omega arith))) (λ x other. core .numbers x);
         owns = update-each (b .release) c R′
             (λ x R. isLive d x ≡ true → Own R (ownRelease (sizeOf d) m′ x) (b .last x))
-            (λ _. rw (own-same, rw idle at (core .owns c live)) next)
-            (λ x other up. rw (own-kept (sizeOf d) m m′ x (same-own-release (sizeOf d) m m′ x (kept-other x other)))
-            (core .owns x up));
+            (λ _. rw (own-same c, rw idle at (core .owns c live)) next)
+            (λ x other up. rw (own-same x) (core .owns x up));
         tentative = λ t. open-tentative (core .tentative t);
         committed = λ t. open-committed (core .committed t);
         recorded = update-each (b .release) c R′

@@ -4,13 +4,13 @@ use Rattle.laws.proofs.Prelude.{false, false≢true, arith, ℕ-discrete, decLt
 use Rattle.directory.specs.declared.Directory.{Directory}
 use Rattle.directory.specs.Directory.{isLive}
 use Rattle.area.specs.Prelude.{load, Release, ownRelease, tentative, committed, deskSize, recordsStart, pagesStart}
-use Rattle.area.proofs.Prelude.{SameOwn, own-kept, same-own-release, In, NotIn, recordRegion, listRegion}
+use Rattle.area.proofs.Prelude.{SameOwn, In, NotIn, recordRegion, listRegion}
 use Rattle.diff.proofs.Prices.{names-none}
 use Rattle.protocol.specs.Release.{sizeOf, stepMemory, close, countsAt, stepsIn}
 use Rattle.protocol.specs.Book.{Opened, none, opened, listPrices, Book, update, setOpen, stepBook}
 use Rattle.protocol.proofs.release.Shape.{shape-kept, area-of-live}
 use Rattle.protocol.proofs.release.Step.{step-closes}
-use Rattle.protocol.proofs.release.Close.{length-close, load-close, close-own, close-flag}
+use Rattle.protocol.proofs.release.Close.{length-close, load-close, close-keeps-own, close-own, close-flag}
 use Rattle.protocol.proofs.book.Changes.{EightWords, update-same, update-other, update-each, step-book-plain}
 use Rattle.protocol.proofs.book.Changes.{step-book-counts, step-book-closes}
 use Rattle.protocol.proofs.claims.Claim.{Disjoint}
@@ -95,7 +95,8 @@ module _ (d : Directory) (backup : ℕ → ℕ) (old : ℕ → ℕ → ℕ) (T C
           owns = update-each (b .release) c none
               (λ x R. isLive d x ≡ true → Own R (ownRelease (sizeOf d) m′ x) (b .last x))
               (λ _. own-last)
-              (λ x other up. rw (own-kept (sizeOf d) m m′ x (same-own-release (sizeOf d) m m′ x (kept-other x other)))
+              (λ x other up. rw
+              (close-keeps-own (sizeOf d) m c (omega arith) (rw (standing .stands .release) eight) x other)
               (core .owns x up));
           tentative = λ t.
               close-tentatives d backup (b .release) (b .price) m m′ c few (core .eights) (core .disjoint) r list s is

@@ -11,7 +11,7 @@ use Rattle.area.proofs.Prelude.{recorded-is, under-way-yes, under-way-no, In, r
 use Rattle.area.proofs.Prelude.{number-kept}
 use Rattle.protocol.specs.Release.{sizeOf}
 use Rattle.protocol.specs.Recovery.{backupBefore, closeReleases, restoredMemory, keptHome, newHome}
-use Rattle.protocol.specs.Recovery.{copyToNewHomes, movedBelow, failedRelease}
+use Rattle.protocol.specs.Recovery.{copyToNewHomes, movedBelow, failedRelease, awaitedCard}
 use Rattle.protocol.specs.Book.{Book, countOpen, clearOpen}
 use Rattle.protocol.proofs.release.Shape.{area-of-live, shape-kept}
 use Rattle.protocol.proofs.release.WordAfter.{HomeOf}
@@ -74,6 +74,13 @@ module _ (d : Directory) (f : ℕ) (m : List ℕ) (b : Book) (rack : AwaitingRac
       (omega arith)
       few (rack .core .last-eight f) (stamp-kept ∙ rack .stamped)
       (λ j within. record-kept _ (desk-in f (b .last f .number) j within) ∙ rack .desked j within)
+
+  -- for the card whose recovery is awaited, which failed last
+  pub answers-awaited : failedRelease d (awaitedCard (d .status)) m ≡ b .last (b .failed)
+  unfolding awaitedCard
+  answers-awaited =
+      let card : awaitedCard (d .status) ≡ f = rw (rack .awaiting) in
+      rw (card, rack .failed) answers
 
   abbrev forward : Bool
   forward = underWay (sizeOf d) memoryClosed (nextLiveOf d f) f

@@ -1,5 +1,5 @@
 -- The close of a release: the card's own words, and nothing else.
-use Rattle.laws.proofs.Prelude.{ℕ, _+_, _≤_, _<_, _≡_, _∙_, _≢_, _⊎_, List, Bool, false, arith, length, getD}
+use Rattle.laws.proofs.Prelude.{ℕ, _+_, _≤_, _<_, _≡_, _∙_, _≢_, _⊎_, inl, List, Bool, false, arith, length, getD}
 use mathlib.Core.Bool.{and-false}
 use lib.ListN.{length-append}
 use Rattle.directory.specs.Directory.{liveAt}
@@ -8,7 +8,7 @@ use Rattle.area.specs.Prelude.{ownSize, recordsStart, pagesStart, ownRelease, o
 use Rattle.area.proofs.Prelude.{outside-below, outside-fewer, length-store-run, length-clear-run}
 use Rattle.area.proofs.Prelude.{load-store-run-outside, load-store-run-inside, load-clear-run-outside}
 use Rattle.area.proofs.Prelude.{load-clear-run-inside, outside, NotIn, ownRegion, openRegion, listRegion, length-number}
-use Rattle.area.proofs.Prelude.{number-read, desk-read}
+use Rattle.area.proofs.Prelude.{number-read, desk-read, own-words-kept}
 use Rattle.protocol.specs.Release.{close}
 
 module _ (size : ℕ) (m : List ℕ) (c : ℕ) (long : pagesStart ≤ size) where
@@ -38,6 +38,10 @@ module _ (size : ℕ) (m : List ℕ) (c : ℕ) (long : pagesStart ≤ size) wher
         ∙ load-store-run-outside size m c ownStamp own-words h o
         (outside-fewer (omega (arith, length-own))
         (outside ownRegion kept (λ k in-own. omega arith) (omega arith) inside))
+
+    -- the own stamp and desk of another card
+    pub close-keeps-own : (x : ℕ) → x ≢ c → ownRelease size (close size m c) x ≡ ownRelease size m x
+    close-keeps-own x other = own-words-kept size m _ x length-close (λ o own. load-close x o (omega arith) (inl other))
 
     module _ (area : AreaIn (length m) size c) where
       close-word : (j : ℕ) → j < ownSize → load size (close size m c) c (ownStamp + j) ≡ getD own-words j 0

@@ -1,13 +1,14 @@
 -- What an opening makes of the words of an area: the release and its list stand there, and no other word changes.
-use Rattle.laws.proofs.Prelude.{ℕ, suc, _+_, _-_, _≤_, _<_, _≡_, refl, sym, ap, _∙_, _≢_, _⊎_, List, _∷_, _++_, arith}
-use Rattle.laws.proofs.Prelude.{length, getD}
+use Rattle.laws.proofs.Prelude.{ℕ, suc, _+_, _-_, _≤_, _<_, _≡_, refl, sym, ap, _∙_, _≢_, _⊎_, inr, List, _∷_, _++_}
+use Rattle.laws.proofs.Prelude.{arith, length, getD}
 use native.Mathlib.Nat.{zero-add}
 use lib.ListN.{length-append}
 use Rattle.area.specs.Prelude.{AreaIn, load, loadRun, storeRun, releaseNumber, deskSize, openFlag, listStart, listSize}
-use Rattle.area.specs.Prelude.{ownSize, releaseSize, pagesStart, Release, openRelease, openList, releaseWords}
+use Rattle.area.specs.Prelude.{ownSize, releaseSize, pagesStart, Release, ownRelease, openRelease, openList}
+use Rattle.area.specs.Prelude.{releaseWords}
 use Rattle.area.proofs.Prelude.{outside-below, outside-fewer, length-store-run, load-store-run-outside}
 use Rattle.area.proofs.Prelude.{load-store-run-inside, load-run-store-run, load-run-append, outside, NotIn, openRegion}
-use Rattle.area.proofs.Prelude.{listRegion, length-number, number-read, desk-read}
+use Rattle.area.proofs.Prelude.{listRegion, length-number, number-read, desk-read, own-words-kept}
 use Rattle.diff.specs.declared.Verdict.the-variants.{Good}
 use Rattle.diff.specs.Reading.{start, readDiff}
 use Rattle.diff.specs.Prices.{pricesOf}
@@ -62,6 +63,12 @@ module _ (size : ℕ) (m : List ℕ) (c : ℕ) (r : Release) (list : List ℕ) (
       (outside-fewer few (outside listRegion kept (λ k. k .1) (omega arith) inside))
       ∙ load-store-run-outside size m c openFlag head h o
       (outside-fewer (omega (arith, length-head)) (outside openRegion kept (λ k. k .0) (omega arith) inside))
+
+  -- the own stamp and desk of every card
+  pub open-keeps-own : (x : ℕ) → ownRelease size (openMemory size m c r list) x ≡ ownRelease size m x
+  open-keeps-own x =
+      own-words-kept size m _ x length-open
+      (λ o own. load-open x o (omega arith) (inr ((λ here. omega arith), (λ here. omega arith))))
 
   module _ (area : AreaIn (length m) size c) where
     pub open-word : (j : ℕ) → j < releaseSize → load size (openMemory size m c r list) c (openFlag + j) ≡ getD head j 0

@@ -6,10 +6,10 @@ use Rattle.directory.specs.declared.Directory.{Directory}
 use Rattle.directory.specs.Directory.{isLive}
 use Rattle.area.specs.Prelude.{indexOf, AreaIn, load, store, areaSize, deskSize, stepsMade, releaseDesk, numberSize}
 use Rattle.area.specs.Prelude.{recordsStart, recordSize, recordAt, recordStamp, recordDone, pagesStart, pageSize}
-use Rattle.area.specs.Prelude.{tentativeHalf, committedHalf, Release, openRelease, stepsOf, numberWords}
+use Rattle.area.specs.Prelude.{tentativeHalf, committedHalf, Release, ownRelease, openRelease, stepsOf, numberWords}
 use Rattle.area.proofs.Prelude.{index-same-card, index-same-offset, length-store, load-store-same, load-store-elsewhere}
 use Rattle.area.proofs.Prelude.{length-load-run, SameOwn, SameRelease, length-number, In, NotIn, Contains, recordRegion}
-use Rattle.area.proofs.Prelude.{listRegion, records-apart}
+use Rattle.area.proofs.Prelude.{listRegion, records-apart, own-words-kept}
 use Rattle.diff.specs.declared.Price.{Price}
 use Rattle.diff.proofs.Stored.{OnPages, prices-on-pages, price-on-page}
 use Rattle.protocol.specs.Release.{Write, writeOf, noWrite, priceWrite, sizeOf, openPrices, releaseWrites}
@@ -166,6 +166,12 @@ module _ (d : Directory) (backup : ℕ) (m : List ℕ) (c : ℕ) (area : AreaIn 
         apart : Contains (recordRegion c) (writtenRegion w) ⊎ (pagesStart ≤ w .offset) → NotIn (writtenRegion w) o
         apart (inl records) here = records-apart other in-record (omega arith, omega arith)
         apart (inr page) here = omega arith
+
+    -- the own stamp and desk of every card
+    pub step-keeps-own : (x : ℕ)
+        → ownRelease (sizeOf d) (stepMemory d backup m c) x ≡ ownRelease (sizeOf d) m x
+    step-keeps-own x =
+        own-words-kept (sizeOf d) m _ x length-step (λ o own. own-word x o (λ _. omega arith) (inl (omega arith)))
 
     pub step-keeps : SameRelease (sizeOf d) m (stepMemory d backup m c) c
     step-keeps =
