@@ -1,5 +1,5 @@
 -- Fetches and desk questions beside the model.
-use Rattle.laws.proofs.Prelude.{ℕ, _<_, _≡_, refl, ap, _∙_, List, Bool, true, false, cond, length}
+use Rattle.laws.proofs.Prelude.{ℕ, _<_, _≡_, refl, ap, List, Bool, true, false, cond, length}
 use Rattle.directory.specs.declared.Directory.{Directory}
 use Rattle.area.specs.Prelude.{zeros, deskSize, Release}
 use Rattle.protocol.specs.Result.{accepted}
@@ -9,11 +9,10 @@ use Rattle.protocol.specs.Model.{Model, isOpened, modelWords, modelChang
 use Rattle.protocol.proofs.checks.Outcome.{by-passed}
 use Rattle.protocol.proofs.checks.ByCall.{fetch-passed, desk-passed}
 use Rattle.protocol.proofs.invariant.Rack.{RunningRack}
-use Rattle.protocol.proofs.invariant.Running.{none-if-idle}
 use Rattle.protocol.proofs.invariant.Shown.{fetched}
 use Rattle.protocol.proofs.calls.DeskQuestion.{desk-conforms}
 use Rattle.protocol.proofs.model.Agrees.{Agrees, opened-live}
-use Rattle.protocol.proofs.model.Releases.{open-by-book}
+use Rattle.protocol.proofs.model.Releases.{not-opened}
 use Rattle.protocol.proofs.model.Simulation.{Simulates, runs-beside}
 
 module _ (d : Directory) (m : List ℕ) (s : Model) (agrees : Agrees d m s) where
@@ -39,8 +38,7 @@ module _ (d : Directory) (m : List ℕ) (s : Model) (agrees : Agrees d m s) wher
       go true opens =
           rw (opened-live (agrees .rack) c opens) (ap (λ (r : Release). r .desk) (agrees .beside .before c opens))
       go false idle =
-          desk-conforms d m (s .book) rack c real
-          (none-if-idle d m (s .book) rack c (open-by-book d m (s .book) rack c ∙ idle))
+          desk-conforms d m (s .book) rack c real (not-opened (s .book .release c) idle)
 
   pub desk-simulates : (c : ℕ) → accepted (deskQuestion d m c .outcome) ≡ true
       → Simulates s (ask-desk c) (deskQuestion d m c)

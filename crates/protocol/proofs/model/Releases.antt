@@ -1,16 +1,20 @@
 -- What the memory of a running rack has of open releases is what the model's book has, card by card, dead cards too.
-use Rattle.laws.proofs.Prelude.{ℕ, _≡_, refl, List, Bool, true, false, _&&_}
+use Rattle.laws.proofs.Prelude.{ℕ, _≡_, refl, ap, List, Bool, true, false, not, _&&_, true≢false, eqb}
 use Rattle.directory.specs.declared.Directory.{Directory}
 use Rattle.directory.specs.Directory.{isLive}
-use Rattle.area.specs.Prelude.{isOpen}
-use Rattle.diff.specs.declared.Price.{Price}
+use Rattle.area.specs.Prelude.{Release, ownRelease, isOpen}
+use Rattle.diff.specs.Prices.{pricesOf}
 use Rattle.protocol.specs.Release.{sizeOf, openPrices}
-use Rattle.protocol.specs.Opening.{shareWord}
+use Rattle.protocol.specs.Opening.{shareWord, sharesWith}
 use Rattle.protocol.specs.Fetch.{inMotion}
 use Rattle.protocol.specs.Book.{Opened, none, opened, Book}
 use Rattle.protocol.specs.Model.{isOpened, sharesOpened, movesPage}
 use Rattle.protocol.proofs.invariant.Rack.{RunningRack}
-use Rattle.protocol.proofs.invariant.Running.{stands-open, is-open, idle-word}
+use Rattle.protocol.proofs.invariant.Running.{stands-open, is-open, idle-word, own-is-last}
+
+pub not-opened : (R : Opened) → isOpened R ≡ false → R ≡ none
+not-opened none idle = refl
+not-opened (opened r list steps) opens = absurd (true≢false opens)
 
 module _ (d : Directory) (m : List ℕ) (b : Book) (rack : RunningRack d m b) where
   idle : (c : ℕ) → b .release c ≡ none → isOpen (d .live) (sizeOf d) m c ≡ false
@@ -29,17 +33,26 @@ module _ (d : Directory) (m : List ℕ) (b : Book) (rack : RunningRack d m b) wh
       go none is = idle c is
       go (opened r list steps) is = is-open d m b rack c r list steps is
 
+  -- 5 and 6: with none open, the stamp is the last number
+  pub stamp-by-book : (c : ℕ) → isLive d c ≡ true → isOpened (b .release c) ≡ false
+      → ownRelease (sizeOf d) m c .number ≡ b .last c .number
+  stamp-by-book c live none-open =
+      ap (λ (own : Release). own .number) (own-is-last d m b rack c live (not-opened (b .release c) none-open))
+
   -- 8
-  pub shares-by-book : (ps : List Price) (c : ℕ)
-      → isOpen (d .live) (sizeOf d) m c && shareWord (openPrices (d .pages) m c) ps ≡ sharesOpened ps (b .release c)
-  shares-by-book ps c = go (b .release c) refl
+  pub shares-by-book : (c : ℕ) (list : List ℕ) (x : ℕ)
+      → sharesWith (d .live) (d .pages) m c list x
+      ≡ not (eqb x c) && sharesOpened (pricesOf (d .pages) list) (b .release x)
+  unfolding sharesWith
+  shares-by-book c list x = ap (λ (shares : Bool). not (eqb x c) && shares) (go (b .release x) refl)
     where
-      go : (R : Opened) → b .release c ≡ R
-          → isOpen (d .live) (sizeOf d) m c && shareWord (openPrices (d .pages) m c) ps ≡ sharesOpened ps R
-      go none is = rw (idle c is)
-      go (opened r list steps) is =
-          let stands = stands-open d m b rack c r list steps is in
-          rw (is-open d m b rack c r list steps is, stands .1 .stands .prices)
+      go : (R : Opened) → b .release x ≡ R
+          → isOpen (d .live) (sizeOf d) m x && shareWord (openPrices (d .pages) m x) (pricesOf (d .pages) list)
+          ≡ sharesOpened (pricesOf (d .pages) list) R
+      go none is = rw (idle x is)
+      go (opened r open-list steps) is =
+          let stands = stands-open d m b rack x r open-list steps is in
+          rw (is-open d m b rack x r open-list steps is, stands .1 .stands .prices)
 
   -- 10
   pub moves-by-book : (page c : ℕ) → inMotion (d .live) (d .pages) m page c ≡ movesPage page (b .release c)
