@@ -1,12 +1,11 @@
 -- Two racks that get the same calls answer alike, whatever rules for new homes they go by: both answer as one model.
-use Rattle.laws.proofs.Prelude.{ℕ, _≡_, refl, sym, ap, _∙_, List, [], _∷_, Bool, true, false, cond, not, ℕ-discrete}
+use Rattle.laws.proofs.Prelude.{ℕ, _≡_, refl, sym, _∙_, List, [], _∷_, Bool, true, false, cond, not, ℕ-discrete}
 use Rattle.laws.proofs.Prelude.{true≢false}
-use Rattle.directory.specs.NewHome.{HomeRule, NamesLive}
+use Rattle.directory.specs.NewHome.{HomeRule}
 use Rattle.answer.specs.declared.Outcome.{Outcome}
 use Rattle.protocol.specs.Result.{accepted}
 use Rattle.protocol.specs.Calls.{Call, open-release, make-step, fetch-page, fail-card, recover, join-card}
 use Rattle.protocol.specs.Calls.{ask-desk}
-use Rattle.protocol.specs.Book.{update}
 use Rattle.protocol.specs.Demand3.{offlineAfter, Interference, Event}
 use Rattle.protocol.specs.Model.{Model, modelOutcome, modelChange, modelAfter}
 use Rattle.protocol.specs.AnswersAsModel.{Follows}

@@ -1,6 +1,6 @@
 -- The directory after a recovery, by any rule for new homes: marks and limits as they were, each page's homes kept or
 -- replaced.
-use Rattle.laws.proofs.Prelude.{ℕ, zero, suc, _≤_, _<_, _≡_, refl, sym, ap, _∙_, _≢_, Bool, true, false, cond, _||_}
+use Rattle.laws.proofs.Prelude.{ℕ, zero, suc, _≤_, _<_, _≡_, refl, sym, _∙_, _≢_, Bool, true, false, cond, _||_}
 use Rattle.laws.proofs.Prelude.{false≢true, arith, ℕ-discrete, eq-eqb, ne-eqb, length, eqb}
 use lib.ListN.{length-set}
 use Rattle.laws.specs.Search.{inTurn}
