@@ -289,8 +289,10 @@ module _ (d : Directory) (page f kept new : ℕ) (below : page < d .pages)
 
 pub evenly-shared : EvenlyShared
 unfolding evenHome
-evenly-shared d kept other below live apart =
-    let may = may-take (d .live) kept other live apart in
+evenly-shared d kept another =
+    let other = another .card in
+    let below = another .below in
+    let may = may-take (d .live) kept other (another .live) (another .differs) in
     let named = evenHome d kept in
     let takes = fewest-home-may (d .live) (d .cards) (pagesAt d) kept other below may in
     record {
@@ -308,13 +310,16 @@ evenly-shared d kept other below live apart =
 pub even-names-live : NamesLive evenHome
 even-names-live =
     record {
-      live = λ d kept other below live apart. evenly-shared d kept other below live apart .live;
-      differs = λ d kept other below live apart. evenly-shared d kept other below live apart .differs;
+      live = λ d kept another. evenly-shared d kept another .live;
+      differs = λ d kept another. evenly-shared d kept another .differs;
     }
 
 pub next-names-live : NamesLive nextHome
 next-names-live =
     record {
-      live = λ d kept other below live apart. next-live-is-live (d .live) (d .cards) kept other below live;
-      differs = λ d kept other below live apart. next-live-other (d .live) (d .cards) kept other below live apart;
+      live = λ d kept another.
+          next-live-is-live (d .live) (d .cards) kept (another .card) (another .below) (another .live);
+      differs = λ d kept another.
+          next-live-other (d .live) (d .cards) kept (another .card) (another .below) (another .live)
+          (another .differs);
     }

@@ -52,12 +52,17 @@ nextHome d kept = nextLiveOf d kept
 
 -- ---- what is claimed of them
 
+-- a live card other than a given one
+pub record Another (d : Directory) (c : ℕ) : Type 0 where
+  pub card : ℕ
+  pub below : card < d .cards
+  pub live : isLive d card ≡ true
+  pub differs : card ≢ c
+
 -- A rule that names a live card other than the kept home, where there is one.
 pub record NamesLive (rule : HomeRule) : Type 0 where
-  pub live : (d : Directory) (kept other : ℕ) → other < d .cards → isLive d other ≡ true → other ≢ kept
-      → isLive d (rule d kept) ≡ true
-  pub differs : (d : Directory) (kept other : ℕ) → other < d .cards → isLive d other ≡ true → other ≢ kept
-      → rule d kept ≢ kept
+  pub live : (d : Directory) (kept : ℕ) → Another d kept → isLive d (rule d kept) ≡ true
+  pub differs : (d : Directory) (kept : ℕ) → Another d kept → rule d kept ≢ kept
 
 -- The card that is named beside the kept home: it exists, is live and another, no live card but the kept home is home
 -- to fewer pages, and none of lower number to as few.
@@ -69,6 +74,4 @@ pub record Fewest (d : Directory) (kept named : ℕ) : Type 0 where
   pub lowest-such : (c : ℕ) → c < named → isLive d c ≡ true → c ≢ kept → pagesAt d named < pagesAt d c
 
 abbrev pub EvenlyShared : Type 0
-EvenlyShared =
-    (d : Directory) (kept other : ℕ) → other < d .cards → isLive d other ≡ true → other ≢ kept
-    → Fewest d kept (evenHome d kept)
+EvenlyShared = (d : Directory) (kept : ℕ) → Another d kept → Fewest d kept (evenHome d kept)

@@ -14,7 +14,7 @@ use Rattle.protocol.specs.Calls.{recover}
 use Rattle.protocol.specs.Book.{Book, transition}
 use Rattle.protocol.specs.Demand3.{offlineAfter, Conforms}
 use Rattle.protocol.proofs.invariant.Rack.{AwaitingRack, Rack, LiveOnline}
-use Rattle.protocol.proofs.recovery.BeforeRecords.{answers-awaited}
+use Rattle.protocol.proofs.recovery.BeforeRecords.{enough, answers-awaited}
 use Rattle.protocol.proofs.recovery.Recovered.{recovers}
 use Rattle.protocol.proofs.recovery.Homes.{recovered-parts}
 use Rattle.protocol.proofs.checks.Outcome.{given-value}
@@ -57,5 +57,4 @@ module _ (d : Directory) (m : List ℕ) (b : Book) (offline : ℕ → Bool) (rac
           marks card =
               rw card
               (ap (λ (after : Directory). after .live)
-              (recovered-parts rule d f (awaiting .core .shape .few-pages) (awaiting .arrays .primaries)
-              (awaiting .arrays .secondaries)))
+              (recovered-parts rule d f (enough awaiting)))

@@ -5,7 +5,8 @@ use lib.Seq.{set-set, set-getD}
 use Rattle.directory.specs.declared.Directory.{Directory}
 use Rattle.directory.specs.declared.Status.the-variants.{Running, Awaiting}
 use Rattle.directory.specs.Directory.{isLive, primaryOf, secondaryOf, nextLiveOf, backupOf}
-use Rattle.directory.proofs.Live.{next-live-is-live, next-live-other}
+use Rattle.directory.specs.NewHome.{Another}
+use Rattle.directory.proofs.NewHome.{next-names-live}
 use Rattle.area.specs.Prelude.{load, recordStamp, recordDone, recordDesk, loadNumber, deskSize}
 use Rattle.protocol.specs.Release.{sizeOf}
 use Rattle.protocol.specs.Recovery.{backupBefore}
@@ -22,17 +23,24 @@ pub record TwoLive (d : Directory) : Type 0 where
   pub first : isLive d one ≡ true
   pub second : isLive d two ≡ true
 
--- a live card other than c
-pub record Another (d : Directory) (c : ℕ) : Type 0 where
-  pub card : ℕ
-  pub other : card ≢ c
-  pub live : isLive d card ≡ true
-
-pub another : (d : Directory) → TwoLive d → (c : ℕ) → Another d c
-another d pair c =
+-- one of them is another than c
+pub another : (d : Directory) → TwoLive d → ((c : ℕ) → isLive d c ≡ true → c < d .cards) → (c : ℕ) → Another d c
+another d pair below c =
     elim (ℕ-discrete (pair .one) c) [
-      | yes same ↦ record { card = pair .two; other = λ e. pair .differ (same ∙ sym e); live = pair .second }
-      | no elsewhere ↦ record { card = pair .one; other = elsewhere; live = pair .first }
+      | yes same ↦
+          record {
+            card = pair .two;
+            below = below (pair .two) (pair .second);
+            live = pair .second;
+            differs = λ e. pair .differ (same ∙ sym e);
+          }
+      | no elsewhere ↦
+          record {
+            card = pair .one;
+            below = below (pair .one) (pair .first);
+            live = pair .first;
+            differs = elsewhere;
+          }
     ]
 
 -- ---- a directory of its arrays' lengths, within its limits
@@ -89,15 +97,11 @@ pub record AwaitingRack (d : Directory) (f : ℕ) (m : List ℕ) (b : Book) : Ty
 -- ---- the next live card
 
 module _ (d : Directory) (two : TwoLive d) (below : (c : ℕ) → isLive d c ≡ true → c < d .cards) (c : ℕ) where
-  next : Another d c
-  next = another d two c
-
   pub next-is-live : isLive d (nextLiveOf d c) ≡ true
-  next-is-live = next-live-is-live (d .live) (d .cards) c (next .card) (below (next .card) (next .live)) (next .live)
+  next-is-live = next-names-live .live d c (another d two below c)
 
   pub next-is-other : nextLiveOf d c ≢ c
-  next-is-other = next-live-other (d .live) (d .cards) c (next .card) (below (next .card) (next .live)) (next .live)
-      (next .other)
+  next-is-other = next-names-live .differs d c (another d two below c)
 
 -- a mark that is made and unmade
 pub unmarked : (marks : List Bool) (c : ℕ) (mark : Bool) → getD marks c false ≡ mark → (other : Bool)

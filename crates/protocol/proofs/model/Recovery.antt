@@ -10,7 +10,7 @@ use Rattle.protocol.specs.Calls.{recoveryBy, recoveryChecks, recover}
 use Rattle.protocol.specs.Book.{transition}
 use Rattle.protocol.specs.Model.{Model, modelWords, modelChange}
 use Rattle.protocol.proofs.checks.Outcome.{by-passed}
-use Rattle.protocol.proofs.recovery.BeforeRecords.{answers-awaited}
+use Rattle.protocol.proofs.recovery.BeforeRecords.{enough, answers-awaited}
 use Rattle.protocol.proofs.recovery.Homes.{recovered-parts}
 use Rattle.protocol.proofs.calls.Accepted.{awaiting-rack}
 use Rattle.protocol.proofs.model.Agrees.{Beside, Agrees}
@@ -29,8 +29,7 @@ module _ (d : Directory) (m : List ℕ) (s : Model) (agrees : Agrees d m s) (rul
         words = ap (λ (r : Release). r .desk) (answers-awaited d (awaited .0) m (s .book) rack);
         beside = subst (λ (after : Directory). Beside after (recoveredMemory rule d (awaitedCard (d .status)) m)
             (modelChange recover s))
-            (sym (recovered-parts rule d (awaitedCard (d .status)) (rack .core .shape .few-pages)
-            (rack .arrays .primaries) (rack .arrays .secondaries)))
+            (sym (recovered-parts rule d (awaitedCard (d .status)) (enough rack)))
             (record {
               cards = agrees .beside .cards;
               pages = agrees .beside .pages;

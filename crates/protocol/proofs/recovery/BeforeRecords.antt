@@ -4,7 +4,7 @@ use Rattle.laws.proofs.Prelude.{ℕ, _+_, _*_, _≤_, _<_, _≡_, refl, sym, _�
 use Rattle.laws.proofs.Prelude.{subst, arith, ℕ-discrete, length}
 use Rattle.directory.specs.declared.Directory.{Directory}
 use Rattle.directory.specs.Directory.{liveAt, isLive, primaryOf, nextLiveOf}
-use Rattle.directory.specs.NewHome.{HomeRule, NamesLive}
+use Rattle.directory.specs.NewHome.{HomeRule, Another, NamesLive}
 use Rattle.area.specs.Prelude.{load, recordStamp, recordDone, pagesStart, pageSize, underWay, loadNumber, tentative}
 use Rattle.area.specs.Prelude.{committed}
 use Rattle.area.proofs.Prelude.{recorded-is, under-way-yes, under-way-no, In, recordRegion, stamp-in, done-in, desk-in}
@@ -21,9 +21,14 @@ use Rattle.protocol.proofs.invariant.Core.{Core}
 use Rattle.protocol.proofs.recovery.Closing.{close-core-all}
 use Rattle.protocol.proofs.recovery.Restoring.{source, halfWord, RestoredBelow, restored}
 use Rattle.protocol.proofs.recovery.Copying.{BothHalves, HomesCopied, homes-copied}
-use Rattle.protocol.proofs.recovery.Homes.{kept-primary, kept-secondary, MovedBelow, moved-below}
-use Rattle.protocol.proofs.invariant.Rack.{AwaitingRack, Another, another, stampOf, doneOf, next-is-live}
+use Rattle.protocol.proofs.recovery.Homes.{kept-primary, kept-secondary, MovedBelow, moved-below, Covered}
+use Rattle.protocol.proofs.invariant.Rack.{AwaitingRack, another, stampOf, doneOf, next-is-live}
 use Rattle.protocol.proofs.book.Counting.{count-open-last}
+
+pub enough : {d : Directory} {f : ℕ} {m : List ℕ} {b : Book} → AwaitingRack d f m b → Covered d
+enough rack =
+    let few = rack .core .shape .few-pages in
+    (omega (arith, rack .arrays .primaries), omega (arith, rack .arrays .secondaries))
 
 -- ---- the releases closed, the pages restored and copied
 
@@ -160,28 +165,27 @@ module _ (d : Directory) (f : ℕ) (m : List ℕ) (b : Book) (rack : AwaitingRac
       moment = movedBelow rule d f p
 
       moves : MovedBelow rule d f p moment
-      moves =
-          moved-below rule d f (rack .core .shape .few-pages) (rack .arrays .primaries) (rack .arrays .secondaries) p
-          (omega arith)
+      moves = moved-below rule d f (enough rack) p (omega arith)
 
-      other : Another d (keptHome d f p)
-      other = another d (rack .two) (keptHome d f p)
-
-      other-below : other .card < moment .cards
-      other-below = rw (moves .cards) (rack .core .shape .below (other .card) (other .live))
-
-      other-live : isLive moment (other .card) ≡ true
-      other-live = rw (moves .live) (other .live)
+      beside : Another moment (keptHome d f p)
+      beside =
+          let there = another d (rack .two) (rack .core .shape .below) (keptHome d f p) in
+          record {
+            card = there .card;
+            below = rw (moves .cards) (there .below);
+            live = rw (moves .live) (there .live);
+            differs = there .differs;
+          }
 
       pub new-home : isLive d (newHome rule d f p) ≡ true
       unfolding newHome
       new-home =
           subst (λ (marks : List Bool). liveAt marks (rule moment (keptHome d f p)) ≡ true) (moves .live)
-          (good .live moment (keptHome d f p) (other .card) other-below other-live (other .other))
+          (good .live moment (keptHome d f p) beside)
 
       pub new-is-other : newHome rule d f p ≢ keptHome d f p
       unfolding newHome
-      new-is-other = good .differs moment (keptHome d f p) (other .card) other-below other-live (other .other)
+      new-is-other = good .differs moment (keptHome d f p) beside
 
     abbrev memoryCopied : List ℕ
     memoryCopied = copyToNewHomes rule d f memoryRestored

@@ -81,8 +81,11 @@ pub record MovedBelow (rule : HomeRule) (d : Directory) (f n : ℕ) (moved : Dir
       → secondaryOf moved p ≡ cond (lostHome d f p) (newHome rule d f p) (secondaryOf d p)
   pub later : (p : ℕ) → n ≤ p → SameHomes moved d p
 
-module _ (rule : HomeRule) (d : Directory) (f : ℕ) (most : d .pages ≤ 64) (firsts : length (d .primary) ≡ 64)
-    (seconds : length (d .secondary) ≡ 64)
+-- there are homes of either kind for each page
+abbrev pub Covered : Directory → Type 0
+Covered d = (d .pages ≤ length (d .primary)) × (d .pages ≤ length (d .secondary))
+
+module _ (rule : HomeRule) (d : Directory) (f : ℕ) (enough : Covered d)
   where
     moved-more : (n : ℕ) (moved : Directory) → n < d .pages → MovedBelow rule d f n moved
         → MovedBelow rule d f (suc n) (turned rule d f n moved)
@@ -99,14 +102,14 @@ module _ (rule : HomeRule) (d : Directory) (f : ℕ) (most : d .pages ≤ 64) (f
               secondaries = length-set (moved .secondary) n (newHome rule d f n) ∙ below .secondaries;
               first = λ p less. elim (ℕ-discrete p n) [
                 | yes same ↦ rw same (primary-of-moved moved n (keptHome d f n) (newHome rule d f n)
-                    (omega (arith, below .primaries)))
+                    (omega (arith, enough .0, below .primaries)))
                 | no other ↦ primary-of-other moved n (keptHome d f n) (newHome rule d f n) p other
                     ∙ below .first p (omega arith)
               ];
               second = λ p less. elim (ℕ-discrete p n) [
                 | yes same ↦ rw (same, lost)
                     (secondary-of-moved moved n (keptHome d f n) (newHome rule d f n)
-                    (omega (arith, below .secondaries)))
+                    (omega (arith, enough .1, below .secondaries)))
                 | no other ↦ secondary-of-other moved n (keptHome d f n) (newHome rule d f n) p other
                     ∙ below .second p (omega arith)
               ];

@@ -46,13 +46,13 @@ module _ (d : Directory) (f : ℕ) (m : List ℕ) (b : Book) (rack : AwaitingRac
   -- ---- the directory with its homes moved
 
   abbrev homes : Directory
-  homes = movedHomes rule d f (rack .core .shape .few-pages) (rack .arrays .primaries) (rack .arrays .secondaries)
+  homes = movedHomes rule d f (before-records.enough rack)
 
   abbrev d′ : Directory
   d′ = directoryOf (d .cards) (d .pages) (d .live) (homes .primary) (homes .secondary) Running
 
   moves : MovedBelow rule d f (d .pages) homes
-  moves = moved rule d f (rack .core .shape .few-pages) (rack .arrays .primaries) (rack .arrays .secondaries)
+  moves = moved rule d f (before-records.enough rack)
 
   first : (p : ℕ) → p < d .pages → primaryOf d′ p ≡ keptHome d f p
   first p page = moves .first p page
@@ -171,5 +171,5 @@ module _ (d : Directory) (f : ℕ) (m : List ℕ) (b : Book) (rack : AwaitingRac
   pub recovers : RunningRack (recoveredDirectory rule d f) (recoveredMemory rule d f m) bookAfter
   unfolding recoveredMemory
   recovers =
-      rw (recovered-parts rule d f (rack .core .shape .few-pages) (rack .arrays .primaries) (rack .arrays .secondaries))
+      rw (recovered-parts rule d f (before-records.enough rack))
       runs
