@@ -207,6 +207,27 @@ some-count test n = go (someBelow test n) refl
         lt-ltb 0 (countBelow test n) (one-counts test n (lowest test n) below (stops .hit (omega arith)))
     go false missed = le-ltb 0 (countBelow test n) (omega (arith, none-count test n (none-below test n missed)))
 
+-- ---- as many as are counted
+
+-- the highest number below n that passes, with the others below it
+pub record Highest (test : ℕ → Bool) (k n : ℕ) : Type 0 where
+  pub index : ℕ
+  pub below : index < n
+  pub passes : test index ≡ true
+  pub others : k ≤ countBelow test index
+
+pub highest : (test : ℕ → Bool) (k n : ℕ) → suc k ≤ countBelow test n → Highest test k n
+unfolding countBelow
+highest test k zero many = absurd (omega arith)
+highest test k (suc n) many = go (test n) refl many (highest test k n)
+  where
+    go : (here : Bool) → test n ≡ here → suc k ≤ countBelow test n + cond here 1 0
+        → (suc k ≤ countBelow test n → Highest test k n) → Highest test k (suc n)
+    go true here many rest = record { index = n; below = omega arith; passes = here; others = omega arith }
+    go false elsewhere many rest =
+        let h = rest (omega arith) in
+        record { index = h .index; below = omega (arith, h .below); passes = h .passes; others = h .others }
+
 -- ---- a loop that counts: it has passed the numbers below i, and so many passed the test
 
 pub record Counted (test : ℕ → Bool) (n i count : ℕ) : Type 0 where

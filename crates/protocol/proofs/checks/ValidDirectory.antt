@@ -1,23 +1,22 @@
--- What a rack that passes check 2 keeps to: homes that are cards, a card that is live, an awaited card that is dead.
-use Rattle.laws.proofs.Prelude.{ℕ, _<_, _≡_, sym, _∙_, List, Bool, true, false, false≢true, arith, leb-false, ltb-false}
-use Rattle.laws.proofs.Prelude.{ltb-true, lt-ltb, leb, eqb}
-use Rattle.laws.specs.Search.{lowest, someBelow, countBelow}
+-- What a rack that passes check 2 keeps to: homes that are cards, two cards that are live, an awaited card that is dead.
+use Rattle.laws.proofs.Prelude.{ℕ, _<_, _≡_, List, Bool, true, false, false≢true, arith, ℕ-discrete, leb-false}
+use Rattle.laws.proofs.Prelude.{ltb-false, leb, eqb}
+use Rattle.laws.specs.Search.{someBelow, countBelow}
 use Rattle.laws.proofs.Bools.{neither}
-use Rattle.laws.proofs.Search.{none-below, lowest-stops, some-count}
+use Rattle.laws.proofs.Search.{none-below, highest}
 use Rattle.directory.specs.declared.Directory.{Directory}
 use Rattle.directory.specs.declared.Status.{Status}
 use Rattle.directory.specs.declared.Status.the-variants.{Running, Awaiting}
 use Rattle.directory.specs.Directory.{liveAt, isLive, primaryOf, secondaryOf}
+use Rattle.directory.specs.NewHome.{Another}
 use Rattle.protocol.specs.Checks.{fewLive, badHome, badPage, badStatus, unfitRack, awaitsRecovery}
 use Rattle.protocol.specs.Recovery.{awaitedCard}
 
 pub record ValidDirectory (d : Directory) : Type 0 where
   pub primary-in : (p : ℕ) → p < d .pages → primaryOf d p < d .cards
   pub secondary-in : (p : ℕ) → p < d .pages → secondaryOf d p < d .cards
-  -- a card that is live
-  pub up : ℕ
-  pub up-below : up < d .cards
-  pub up-live : isLive d up ≡ true
+  -- two cards are live: beside any card another
+  pub beside : (c : ℕ) → Another d c
   pub awaited : awaitsRecovery (d .status) ≡ true
       → (awaitedCard (d .status) < d .cards) × (isLive d (awaitedCard (d .status)) ≡ false)
 
@@ -32,11 +31,21 @@ homes-in d p passed =
     let homes = neither (badHome (d .cards) (d .live) (d .status) (primaryOf d p)) _ (apart .1) in
     (home-in _ (d .live) (d .status) _ (homes .0), home-in _ (d .live) (d .status) _ (homes .1))
 
-some-live : (marks : List Bool) (cards : ℕ) → fewLive marks cards ≡ false → someBelow (liveAt marks) cards ≡ true
+two-live : (d : Directory) → fewLive (d .live) (d .cards) ≡ false → (c : ℕ) → Another d c
 unfolding fewLive
-some-live marks cards passed =
-    sym (some-count (liveAt marks) cards)
-    ∙ lt-ltb 0 (countBelow (liveAt marks) cards) (omega (arith, ltb-false (countBelow (liveAt marks) cards) 2 passed))
+two-live d passed c =
+    let x = highest (isLive d) 1 (d .cards) (ltb-false (countBelow (isLive d) (d .cards)) 2 passed) in
+    let y = highest (isLive d) 0 (x .index) (x .others) in
+    elim (ℕ-discrete (x .index) c) [
+      | yes same ↦
+          record {
+            card = y .index;
+            below = omega (arith, x .below, y .below);
+            live = y .passes;
+            differs = λ e. omega (arith, y .below);
+          }
+      | no other ↦ record { card = x .index; below = x .below; live = x .passes; differs = other }
+    ]
 
 awaited-in : (cards : ℕ) (marks : List Bool) (status : Status) → badStatus cards marks status ≡ false
     → awaitsRecovery status ≡ true → (awaitedCard status < cards) × (liveAt marks (awaitedCard status) ≡ false)
@@ -55,12 +64,9 @@ valid-directory d m fit =
     let homes : (p : ℕ) → p < d .pages → (primaryOf d p < d .cards) × (secondaryOf d p < d .cards)
     = λ p below. homes-in d p (none-below (badPage d) _ (pages .0) p below)
     in
-    let found = ltb-true (lowest (isLive d) (d .cards)) _ (some-live (d .live) (d .cards) (live .0)) in
     record {
       primary-in = λ p below. homes p below .0;
       secondary-in = λ p below. homes p below .1;
-      up = lowest (isLive d) (d .cards);
-      up-below = found;
-      up-live = lowest-stops (isLive d) 0 (d .cards) .hit (omega arith);
+      beside = two-live d (live .0);
       awaited = awaited-in (d .cards) (d .live) (d .status) (cards .0);
     }

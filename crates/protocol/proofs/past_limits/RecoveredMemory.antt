@@ -1,10 +1,10 @@
 -- The memory and the release that a recovery goes by: nothing past a directory's cards and pages is read for them.
-use Rattle.laws.proofs.Prelude.{ℕ, zero, suc, _<_, _≡_, refl, _∙_, List, Bool, true, false}
+use Rattle.laws.proofs.Prelude.{ℕ, zero, suc, _<_, _≡_, refl, _∙_, List, Bool, true}
 use Rattle.laws.proofs.Search.{in-turn-agree}
 use Rattle.directory.specs.declared.Directory.{Directory}
-use Rattle.directory.specs.Directory.{isLive, primaryOf, secondaryOf, backupOf, markedLive}
+use Rattle.directory.specs.Directory.{primaryOf, secondaryOf, backupOf, markedLive}
 use Rattle.directory.specs.NewHome.{HomeRule}
-use Rattle.directory.proofs.Live.{next-live-below, live-not-dead}
+use Rattle.directory.proofs.Live.{next-live-below}
 use Rattle.directory.proofs.Changes.{live-of-other}
 use Rattle.area.specs.Prelude.{Release, writeOwnRecord}
 use Rattle.protocol.specs.Release.{sizeOf}
@@ -18,18 +18,15 @@ use Rattle.protocol.proofs.past_limits.Directory.{secondary-below, back
 use Rattle.protocol.proofs.past_limits.Writes.{step-memory-below}
 use Rattle.protocol.proofs.past_limits.Changes.{lost-below, kept-below, RuleBelow, new-below}
 
-module _ (rule : HomeRule) (rule-below : RuleBelow rule) (d : Directory) (fit : ValidDirectory d) (f : ℕ)
-    (dead : isLive d f ≡ false) where
+module _ (rule : HomeRule) (rule-below : RuleBelow rule) (d : Directory) (fit : ValidDirectory d) (f : ℕ) where
   -- ---- the open releases run to their close
 
   -- the backup before the failure is a card that the rack has
   backup-real : (c : ℕ) → backupBefore d f c < d .cards
   backup-real c =
-      next-live-below (markedLive d f .live) (d .cards) c (fit .up) (fit .up-below)
-      (live-of-other d f true (fit .up) other ∙ fit .up-live)
-    where
-      other : fit .up ≡ f → ⊥
-      other same = live-not-dead (fit .up-live) (rw same dead)
+      let other = fit .beside f in
+      next-live-below (markedLive d f .live) (d .cards) c (other .card) (other .below)
+      (live-of-other d f true (other .card) (other .differs) ∙ other .live)
 
   times-below : (backup c : ℕ) → backup < d .cards → (n : ℕ) (m : List ℕ)
       → stepTimes (belowLimits d) backup c n m ≡ stepTimes d backup c n m

@@ -1,10 +1,8 @@
 -- A recovery reads nothing past a directory's cards and pages, and keeps what stands there.
-use Rattle.laws.proofs.Prelude.{ℕ, _≡_, refl, ap, List, false, not-false}
+use Rattle.laws.proofs.Prelude.{ℕ, _≡_, refl, ap, List}
 use Rattle.directory.specs.declared.Directory.{Directory}
-use Rattle.directory.specs.Directory.{isLive}
 use Rattle.directory.specs.NewHome.{HomeRule}
 use Rattle.area.specs.Prelude.{zeros, deskSize, Release}
-use Rattle.protocol.specs.Checks.{awaitsRecovery}
 use Rattle.protocol.specs.Recovery.{awaitedCard, recoveryChecks, recoveryBy, failedRelease}
 use Rattle.protocol.specs.PastLimits.{belowLimits}
 use Rattle.protocol.proofs.checks.Outcome.{Passed, SameChecks, none, more}
@@ -21,11 +19,8 @@ module _ (rule : HomeRule) (rule-below : RuleBelow rule) (d : Directory) (m : Li
   abbrev f : ℕ
   f = awaitedCard (d .status)
 
-  dead : Passed (recoveryChecks d m) → isLive d f ≡ false
-  dead p = valid-directory d m (p .1 .0) .awaited (not-false (awaitsRecovery (d .status)) (p .1 .1 .0)) .1
-
   same-release : Passed (recoveryChecks d m) → failedRelease (belowLimits d) f m ≡ failedRelease d f m
-  same-release p = release-below rule rule-below d (valid-directory d m (p .1 .0)) f (dead p) m
+  same-release p = release-below rule rule-below d (valid-directory d m (p .1 .0)) f m
 
   pub recovery-below : CallBelow d (recoveryBy rule (belowLimits d) m) (recoveryBy rule d m)
   unfolding recoveryBy
@@ -35,7 +30,7 @@ module _ (rule : HomeRule) (rule-below : RuleBelow rule) (d : Directory) (m : Li
       (λ p.
       record {
         directory = recovered-same rule rule-below f d;
-        memory = recovered-below rule rule-below d (valid-directory d m (p .1 .0)) f (dead p) m;
+        memory = recovered-below rule rule-below d (valid-directory d m (p .1 .0)) f m;
         words = ap (λ (r : Release). r .desk) (same-release p);
         kept = recovered-kept rule rule-below f d;
       })

@@ -25,9 +25,10 @@ module _ (d : Directory) (m : List ℕ) (c : ℕ) where
   memory-below : ValidDirectory d
       → stepMemory (belowLimits d) (backupOf (belowLimits d) c) m c ≡ stepMemory d (backupOf d c) m c
   memory-below fit =
+      let other = fit .beside c in
       rw (next-below d c)
       (step-memory-below d fit (backupOf d c)
-      (next-live-below (d .live) (d .cards) c (fit .up) (fit .up-below) (fit .up-live)) m c)
+      (next-live-below (d .live) (d .cards) c (other .card) (other .below) (other .live)) m c)
 
   pub step-below : CallBelow d (step (belowLimits d) m c) (step d m c)
   unfolding step
