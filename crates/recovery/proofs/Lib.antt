@@ -1,5 +1,4 @@
 -- Laws on recovery and join that the proofs of several modules cite.
 pub mod Kept
 pub mod Marks
-pub mod Recovering
 pub mod Turns

@@ -1,12 +1,16 @@
 // Recovery of a failed card, and a dead card that joins again: what they write in the memory of a
 // rack that passed its checks; which calls are refused is decided above.
 ghost use Rattle.laws.specs.Prelude.{_≡_, _<_, length};
+ghost use Rattle.directory.specs.Directory.{withStatus};
+ghost use Rattle.directory.specs.NewHome.{evenHome};
+ghost use Rattle.directory.specs.declared.Status.the-variants.{Running};
 ghost use Rattle.area.specs.Prelude.{deskSize};
 ghost use Rattle.protocol.specs.Recovery.{failedRelease, recoveredMemory, recoveredDirectory};
 ghost use Rattle.protocol.specs.Join.{joinedMemory};
-ghost use Rattle.release.specs.Stepping.{HomesIn};
 ghost use Rattle.recovery.specs.Closing.{ReleasesIn, recordOf, recoveredClosed};
-ghost use Rattle.recovery.specs.Rack.{RackIn, SomeLive, marksOf, rackOf};
+ghost use Rattle.recovery.specs.Rack.{RackIn, SomeLive, TwoLive, FailedIn, HomesOf};
+use directory::Directory;
+use directory::Status;
 
 mod closing;
 mod homes;
@@ -14,90 +18,111 @@ mod joining;
 mod records;
 mod restoring;
 
-// Recovers a rack whose releases are closed: reads the failed card's record, rolls all pages
-// forward or back, gives those that lost a home their new ones, and writes the records. Gives the
-// release that the record tells.
-fn recover_closed(
-    memory: &mut [u32],
-    cards: u32,
-    pages: u32,
-    live: [bool; 8],
-    primary: &mut [u32],
-    secondary: &mut [u32],
-    failed: u32,
-    desk: &mut [u32],
-) -> u64
-    requires { ⌜ RackIn live cards pages (length (now memory)) ⌝ }
-    requires { ⌜ HomesIn live pages (now primary) (now secondary) (length (now memory)) ⌝ }
-    requires { ⌜ SomeLive live cards ⌝ }
-    requires { ⌜ (failed < 8) × (length (now desk) ≡ deskSize) ⌝ }
-    ensures number { λ r. ⌜ r
-        ≡ recordOf (marksOf cards pages live) failed (now (memory .entry)) .number ⌝ }
-    ensures desk { λ _. ⌜ now (desk .exit)
-        ≡ recordOf (marksOf cards pages live) failed (now (memory .entry)) .desk ⌝ }
-    ensures memory { λ _. ⌜ now (memory .exit)
-        ≡ recoveredClosed (rackOf cards pages live (now (primary .entry)) (now (secondary .entry)))
-        failed (now (memory .entry)) ⌝ }
-    ensures homes { λ _. ⌜ rackOf cards pages live (now (primary .exit)) (now (secondary .exit))
-        ≡ recoveredDirectory
-        (rackOf cards pages live (now (primary .entry)) (now (secondary .entry))) failed ⌝ }
-{
-    let size = area::layout::area_size(pages);
-    let at = failed as usize;
-    let holder = directory::next_live_after(&live, cards, failed) as usize;
-    let number = area::records::load_record(memory, size, holder, at, desk);
-    let forward = area::records::under_way(memory, size, holder, at);
-    restoring::restore_pages(memory, pages, &live, primary, secondary, forward);
-    homes::move_homes(memory, cards, pages, &live, primary, secondary, failed);
-    records::write_records(memory, cards, pages, live, failed, number, desk);
-    number
+// What a recovery gives beside the failed card's desk: the directory from then on, and the failed
+// card's stamp.
+pub struct Recovered {
+    pub directory: Directory,
+    pub number: u64,
 }
 
-// Recovers a failed card: closes the open releases, restores the copies and writes the records.
-// Gives the failed card's stamp, and its desk, and stores the new homes where the old ones stood.
-pub fn recover_memory(
+// The directory with its status running. A field that is an enum is not stored to: the struct is
+// made anew.
+fn running(directory: Directory) -> Directory
+    ensures { λ r. ⌜ r ≡ withStatus directory Running ⌝ }
+{
+    let live = directory.live;
+    let primary = directory.primary;
+    let secondary = directory.secondary;
+    Directory {
+        cards: directory.cards,
+        pages: directory.pages,
+        live,
+        primary,
+        secondary,
+        status: Status::Running,
+    }
+}
+
+// Recovers a rack whose releases are closed: reads the failed card's record, rolls all pages
+// forward or back, gives those that lost a home their new ones, and writes the records.
+fn recover_closed(
     memory: &mut [u32],
-    cards: u32,
-    pages: u32,
-    live: [bool; 8],
-    primary: &mut [u32],
-    secondary: &mut [u32],
+    directory: Directory,
     failed: u32,
     desk: &mut [u32],
-) -> u64
-    requires { ⌜ RackIn live cards pages (length (now memory)) ⌝ }
-    requires { ⌜ HomesIn live pages (now primary) (now secondary) (length (now memory)) ⌝ }
-    requires { ⌜ SomeLive live cards ⌝ }
-    requires { ⌜ (failed < 8) × (length (now desk) ≡ deskSize) ⌝ }
-    requires { ⌜ ReleasesIn live cards pages (now memory) ⌝ }
-    ensures number { λ r. ⌜ r
-        ≡ failedRelease (rackOf cards pages live (now (primary .entry)) (now (secondary .entry)))
-        failed (now (memory .entry)) .number ⌝ }
+) -> Recovered
+    requires { ⌜ RackIn directory (length (now memory)) ⌝ }
+    requires { ⌜ HomesOf directory (length (now memory)) ⌝ }
+    requires { ⌜ TwoLive directory ⌝ }
+    requires { ⌜ FailedIn directory failed ⌝ }
+    requires { ⌜ length (now desk) ≡ deskSize ⌝ }
+    ensures directory { λ r. ⌜ r .directory ≡ recoveredDirectory evenHome directory failed ⌝ }
+    ensures number { λ r. ⌜ r .number
+        ≡ recordOf directory failed (now (memory .entry)) .number ⌝ }
     ensures desk { λ _. ⌜ now (desk .exit)
-        ≡ failedRelease (rackOf cards pages live (now (primary .entry)) (now (secondary .entry)))
-        failed (now (memory .entry)) .desk ⌝ }
+        ≡ recordOf directory failed (now (memory .entry)) .desk ⌝ }
     ensures memory { λ _. ⌜ now (memory .exit)
-        ≡ recoveredMemory (rackOf cards pages live (now (primary .entry)) (now (secondary .entry)))
-        failed (now (memory .entry)) ⌝ }
-    ensures homes { λ _. ⌜ rackOf cards pages live (now (primary .exit)) (now (secondary .exit))
-        ≡ recoveredDirectory
-        (rackOf cards pages live (now (primary .entry)) (now (secondary .entry))) failed ⌝ }
+        ≡ recoveredClosed directory failed (now (memory .entry)) ⌝ }
 {
-    closing::close_releases(memory, cards, pages, live, primary, secondary, failed);
-    recover_closed(memory, cards, pages, live, primary, secondary, failed, desk)
+    let size = area::layout::area_size(directory.pages);
+    let at = failed as usize;
+    let holder = directory.next_live(failed) as usize;
+    let number = area::records::load_record(memory, size, holder, at, desk);
+    let forward = area::records::under_way(memory, size, holder, at);
+    let header = directory.header();
+    restoring::restore_pages(
+        memory,
+        header,
+        &directory.primary,
+        &directory.secondary,
+        forward,
+    );
+    let moved = homes::move_homes(memory, directory, failed);
+    records::write_records(memory, directory, failed, number, desk);
+    let recovered = running(moved);
+    Recovered {
+        directory: recovered,
+        number,
+    }
+}
+
+// Recovers a failed card: closes the open releases, restores the copies, gives pages that lost a
+// home a new one, and writes the records. Gives the failed card's stamp, and its desk.
+pub fn recover_memory(
+    memory: &mut [u32],
+    directory: Directory,
+    failed: u32,
+    desk: &mut [u32],
+) -> Recovered
+    requires { ⌜ RackIn directory (length (now memory)) ⌝ }
+    requires { ⌜ HomesOf directory (length (now memory)) ⌝ }
+    requires { ⌜ TwoLive directory ⌝ }
+    requires { ⌜ FailedIn directory failed ⌝ }
+    requires { ⌜ length (now desk) ≡ deskSize ⌝ }
+    requires { ⌜ ReleasesIn directory (now memory) ⌝ }
+    ensures directory { λ r. ⌜ r .directory ≡ recoveredDirectory evenHome directory failed ⌝ }
+    ensures number { λ r. ⌜ r .number
+        ≡ failedRelease directory failed (now (memory .entry)) .number ⌝ }
+    ensures desk { λ _. ⌜ now (desk .exit)
+        ≡ failedRelease directory failed (now (memory .entry)) .desk ⌝ }
+    ensures memory { λ _. ⌜ now (memory .exit)
+        ≡ recoveredMemory evenHome directory failed (now (memory .entry)) ⌝ }
+{
+    closing::close_releases(memory, directory, failed);
+    recover_closed(memory, directory, failed, desk)
 }
 
 // Makes a dead card's area what it must be once the card is live: its own stamp and desk, and the
 // records that it then holds.
-pub fn join_memory(memory: &mut [u32], cards: u32, pages: u32, live: [bool; 8], joining: u32)
-    requires { ⌜ RackIn live cards pages (length (now memory)) ⌝ }
-    requires { ⌜ SomeLive live cards ⌝ }
-    requires { ⌜ joining < cards ⌝ }
+pub fn join_memory(memory: &mut [u32], directory: Directory, joining: u32)
+    requires { ⌜ RackIn directory (length (now memory)) ⌝ }
+    requires { ⌜ SomeLive directory ⌝ }
+    requires { ⌜ joining < directory .cards ⌝ }
     ensures { λ _. ⌜ now (memory .exit)
-        ≡ joinedMemory (marksOf cards pages live) joining (now (memory .entry)) ⌝ }
+        ≡ joinedMemory directory joining (now (memory .entry)) ⌝ }
 {
-    let marks = records::marked(live, joining);
-    joining::reset_area(memory, cards, pages, &live, joining);
-    joining::copy_dead_records(memory, cards, pages, &live, joining);
-    records::write_own_records(memory, cards, pages, &live, &marks, &marks, joining);
+    let after = directory.mark_live(joining);
+    joining::reset_area(memory, directory, joining);
+    joining::copy_dead_records(memory, directory, joining);
+    records::write_own_records(memory, &directory.live, after, after, joining);
 }

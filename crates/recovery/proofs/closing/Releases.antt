@@ -1,9 +1,7 @@
 -- A release run to its close: its steps fall one by one, and what other cards' releases stand in is left as it was.
-use Rattle.laws.proofs.Prelude.{ℕ, zero, suc, _+_, _<_, _≤_, _≡_, sym, _∙_, _≢_, List, true, false, arith, length, set}
-use Rattle.laws.proofs.Bools.{by-cond, and-first}
+use Rattle.laws.proofs.Prelude.{ℕ, zero, suc, _+_, _<_, _≤_, _≡_, refl, sym, _∙_, _≢_, List, true, false, arith, length}
+use Rattle.laws.proofs.Bools.{by-cond}
 use Rattle.directory.specs.declared.Directory.{Directory}
-use Rattle.directory.specs.Directory.{liveAt}
-use Rattle.directory.proofs.Live.{next-live-below}
 use Rattle.area.specs.Prelude.{AreaIn, isOpen}
 use Rattle.area.proofs.Prelude.{area-in, SameOwn, same-own-release, is-open-kept}
 use Rattle.protocol.specs.Release.{sizeOf, stepMemory}
@@ -11,10 +9,10 @@ use Rattle.protocol.specs.Recovery.{backupBefore, stepTimes, runToClose}
 use Rattle.release.specs.Stepping.{CardIn, GoodRelease, StepsLeft, leftOf}
 use Rattle.release.proofs.Kept.{step-keeps-others}
 use Rattle.release.proofs.Left.{same-own, same-then, good-kept, counted, all-left, left-after}
-use Rattle.recovery.specs.Rack.{RackIn}
-use Rattle.recovery.specs.Closing.{ReleasesIn}
-use Rattle.recovery.proofs.Kept.{rack-card}
-use Rattle.recovery.proofs.Marks.{covers-marked}
+use Rattle.recovery.specs.Rack.{RackIn, SomeLive}
+use Rattle.recovery.specs.Closing.{ReleasesIn, closeWith}
+use Rattle.recovery.proofs.Kept.{rack-card, next-below}
+use Rattle.recovery.proofs.Marks.{marked-some}
 use Rattle.recovery.proofs.Turns.{Turned, turn-none, turn-more}
 
 module _ (d : Directory) (backup : ℕ) (c : ℕ) (few : c < 8) where
@@ -32,34 +30,36 @@ module _ (d : Directory) (backup : ℕ) (c : ℕ) (few : c < 8) where
 
 -- ---- a release run to its close
 
-module _ (d : Directory) (f c : ℕ) (few : c < 8) (m : List ℕ) (area : AreaIn (length m) (sizeOf d) c)
-    (good : isOpen (d .live) (sizeOf d) m c ≡ true → GoodRelease (d .pages) m c) where
-  pub run-keeps-others : (x : ℕ) → x ≢ c → SameOwn (sizeOf d) m (runToClose d f c m) x
-  unfolding runToClose
-  run-keeps-others x other =
+module _ (d : Directory) (backup c : ℕ) (m : List ℕ) where
+  pub close-opened : isOpen (d .live) (sizeOf d) m c ≡ true
+      → stepTimes d backup c (leftOf (d .pages) m c) m ≡ closeWith d backup c m
+  unfolding closeWith
+  close-opened opened = rw opened
+
+  pub close-shut : isOpen (d .live) (sizeOf d) m c ≡ false → m ≡ closeWith d backup c m
+  unfolding closeWith
+  close-shut shut = rw shut
+
+  close-keeps-others : c < 8 → AreaIn (length m) (sizeOf d) c
+      → (isOpen (d .live) (sizeOf d) m c ≡ true → GoodRelease (d .pages) m c)
+      → (x : ℕ) → x ≢ c → SameOwn (sizeOf d) m (closeWith d backup c m) x
+  unfolding closeWith
+  close-keeps-others few area good x other =
       by-cond (λ (m′ : List ℕ). SameOwn (sizeOf d) m m′ x) (isOpen (d .live) (sizeOf d) m c) _ _
       (λ opened.
       let all = counted (d .pages) m c (good opened) in
-      times-keep-others d (backupBefore d f c) c few _ m area (λ _. all-left all (omega arith)) x other)
+      times-keep-others d backup c few _ m area (λ _. all-left all (omega arith)) x other)
       (λ _. same-own (sizeOf d) m x)
 
-module _ (d : Directory) (f c : ℕ) (m : List ℕ) where
-  pub run-opened : isOpen (d .live) (sizeOf d) m c ≡ true
-      → stepTimes d (backupBefore d f c) c (leftOf (d .pages) m c) m ≡ runToClose d f c m
-  unfolding runToClose
-  run-opened opened = rw opened
+-- the backup from before the failure is a card
+pub backup-in : (d : Directory) (f c : ℕ) {words : ℕ} → RackIn d words → SomeLive d → f < 8
+    → CardIn (d .live) words (sizeOf d) (backupBefore d f c)
+backup-in d f c rack some small = rack-card rack (next-below (marked-some d f some (omega arith)) c)
 
-  pub run-shut : isOpen (d .live) (sizeOf d) m c ≡ false → m ≡ runToClose d f c m
-  unfolding runToClose
-  run-shut shut = rw shut
-
-  -- the backup from before the failure is a card
-  pub backup-in : {words : ℕ} → RackIn (d .live) (d .cards) (d .pages) words → f < 8 → c < d .cards
-      → isOpen (d .live) (sizeOf d) m c ≡ true → CardIn (d .live) words (sizeOf d) (backupBefore d f c)
-  unfolding isOpen
-  backup-in rack small below opened =
-      let up = covers-marked (d .live) f (omega arith) .live-too c (and-first (liveAt (d .live) c) _ opened) in
-      rack-card rack (next-live-below (set (d .live) f true) (d .cards) c c below up)
+-- with it, a release is run to its close as recovery does
+closes-before : (d : Directory) (f c : ℕ) (m : List ℕ) → closeWith d (backupBefore d f c) c m ≡ runToClose d f c m
+unfolding closeWith runToClose
+closes-before d f c m = refl
 
 -- ---- a loop of them
 
@@ -72,21 +72,20 @@ module _ {d : Directory} {f : ℕ} {before : List ℕ} where
   pub closed-none : Closed d f before 0 before
   closed-none = record { turned = turn-none; later = λ x _. same-own (sizeOf d) before x }
 
-  module _ (releases : ReleasesIn (d .live) (d .cards) (d .pages) before) {i : ℕ} {m : List ℕ}
-      (far : Closed d f before i m) (below : i < d .cards) where
+  module _ (releases : ReleasesIn d before) {i : ℕ} {m : List ℕ} (far : Closed d f before i m) (below : i < d .cards) where
     pub closed-good : isOpen (d .live) (sizeOf d) m i ≡ true → GoodRelease (d .pages) m i
     closed-good opened =
         let same = far .later i (omega arith) in
         let kept = is-open-kept (sizeOf d) before m i (same-own-release (sizeOf d) before m i same) (d .live) in
         good-kept (d .pages) before m i same (releases .good i below (sym kept ∙ opened))
 
-    pub closed-more : {next : List ℕ} → RackIn (d .live) (d .cards) (d .pages) (length before)
-        → length next ≡ length m → next ≡ runToClose d f i m → Closed d f before (i + 1) next
+    pub closed-more : {next : List ℕ} → RackIn d (length before) → length next ≡ length m
+        → next ≡ closeWith d (backupBefore d f i) i m → Closed d f before (i + 1) next
     closed-more rack same made =
         let area = area-in (sizeOf d) below (far .turned .same ∙ rack .whole) in
         record {
-          turned = turn-more (far .turned) below same made;
+          turned = turn-more (far .turned) below same (made ∙ closes-before d f i m);
           later = λ x above. rw made
               (same-then (far .later x (omega arith))
-              (run-keeps-others d f i (omega arith) m area closed-good x (λ e. omega arith)));
+              (close-keeps-others d (backupBefore d f i) i m (omega arith) area closed-good x (λ e. omega arith)));
         }

@@ -1,113 +1,135 @@
--- Homes moved page by page, in the arrays where they stand: a page's own are there until its turn.
-use Rattle.laws.proofs.Prelude.{ℕ, zero, suc, _+_, _<_, _≤_, _≡_, refl, sym, ap, _∙_, List, Bool, true, false, cond}
-use Rattle.laws.proofs.Prelude.{arith, length}
-use lib.Seq.{getD-set-other}
-use Rattle.laws.specs.Search.{inTurn}
-use Rattle.laws.proofs.Bools.{by-cond}
-use Rattle.laws.proofs.Search.{in-turn-none, in-turn-more}
+-- Homes moved page by page: how far it is, and where a page gets its new home.
+use Rattle.laws.proofs.Prelude.{ℕ, _+_, _<_, _≤_, _≡_, refl, sym, _∙_, inl, inr, List, Bool, true, false, cond, _||_}
+use Rattle.laws.proofs.Prelude.{_⊎_, arith, length, eqb, eqb-true}
+use lib.ListN.{length-set}
+use native.Mathlib.Numerals.{add-one}
 use Rattle.directory.specs.declared.Directory.{Directory}
-use Rattle.directory.specs.declared.Status.the-variants.{Running}
-use Rattle.directory.specs.Directory.{primaryOf, secondaryOf, withStatus}
-use Rattle.protocol.specs.Recovery.{lostHome, keptHome, newHome, copyToNewHome, moveHome, recoveredDirectory}
-use Rattle.recovery.specs.Rack.{homesOnly, rackOf}
+use Rattle.directory.specs.Directory.{isLive, primaryOf, secondaryOf, withHomes, table}
+use Rattle.directory.specs.NewHome.{pagesAt, evenHome, Fewest}
+use Rattle.directory.specs.PageCounts.{countAt, oneMore, CountsRight}
+use Rattle.directory.proofs.Live.{live-not-dead}
+use Rattle.directory.proofs.Table.{table-length}
+use Rattle.directory.proofs.NewHome.{Keeps, room-at-new, evenly-shared}
+use Rattle.directory.proofs.PageCounts.{counts-right-at-first, counts-right-moved}
+use Rattle.area.specs.Prelude.{copyRun, pageAt, storedPageSize}
+use Rattle.protocol.specs.Release.{sizeOf}
+use Rattle.protocol.specs.Recovery.{lostHome, keptHome, newHome, copyToNewHome, movedBelow}
+use Rattle.protocol.proofs.recovery.Homes.{Covered, MovedBelow, moved-none, moved-below, moved-turn}
+use Rattle.recovery.specs.Rack.{TwoLive}
 use Rattle.recovery.proofs.Turns.{Turned, turn-none, turn-more}
 
--- a directory as far as recovery looks at it, all but its status: with these homes, or its own
-abbrev pub withArrays : Directory → List ℕ → List ℕ → Directory
-withArrays d primary secondary = rackOf (d .cards) (d .pages) (d .live) primary secondary
+-- the pages below i have their copies and homes, and the counts are right
+pub record Moves (d : Directory) (f : ℕ) (before : List ℕ) (i : ℕ) (m counts : List ℕ) (moved : Directory) : Type 0
+  where
+    pub copied : Turned (copyToNewHome evenHome d f) (d .pages) before i m
+    pub homes : moved ≡ movedBelow evenHome d f i
+    pub long : length counts ≡ 8
+    pub right : CountsRight moved counts
 
-abbrev pub rack : Directory → Directory
-rack d = withArrays d (d .primary) (d .secondary)
-
--- ---- the status stays out of it
-
-choose : (lost : Bool) (x y : Directory) → cond lost (withStatus x Running) (withStatus y Running)
-    ≡ withStatus (cond lost x y) Running
-choose true x y = refl
-choose false x y = refl
-
-module _ (d : Directory) (f : ℕ) where
-  same-move : (i : ℕ) (moved : Directory)
-      → moveHome (rack d) f i (withStatus moved Running) ≡ withStatus (moveHome d f i moved) Running
-  unfolding moveHome lostHome keptHome newHome
-  same-move i moved = choose (lostHome d f i) _ _
-
-  same-moves : (n : ℕ) → inTurn (moveHome (rack d) f) n (rack d) ≡ withStatus (inTurn (moveHome d f) n d) Running
-  unfolding inTurn
-  same-moves zero = refl
-  same-moves (suc n) = ap (moveHome (rack d) f n) (same-moves n) ∙ same-move n _
-
-  pub all-moved : inTurn (moveHome (rack d) f) (d .pages) (rack d) ≡ recoveredDirectory d f
-  unfolding recoveredDirectory
-  all-moved = same-moves (d .pages)
-
--- ---- one page after the other
-
--- the homes of one page are the same
-abbrev SameHomes : Directory → Directory → ℕ → Type 0
-SameHomes d e page = (primaryOf d page ≡ primaryOf e page) × (secondaryOf d page ≡ secondaryOf e page)
-
-unmoved : (d : Directory) (f n x : ℕ) → n ≤ x → SameHomes (inTurn (moveHome d f) n d) d x
-unfolding inTurn moveHome
-unmoved d f zero x past = (refl, refl)
-unmoved d f (suc n) x past =
-    let moved = inTurn (moveHome d f) n d in
-    let before = unmoved d f n x (omega arith) in
-    by-cond (λ (next : Directory). SameHomes next d x) (lostHome d f n) _ _
-    (λ _. (
-      getD-set-other (moved .primary) n x (keptHome d f n) 0 (λ e. omega arith) ∙ before .0,
-      getD-set-other (moved .secondary) n x (newHome d f n) 0 (λ e. omega arith) ∙ before .1,
-    ))
-    (λ _. before)
-
--- the pages below i are moved
-pub record Moved (d : Directory) (f : ℕ) (before : List ℕ) (i : ℕ) (m primary secondary : List ℕ) : Type 0 where
-  pub copied : Turned (copyToNewHome d f) (d .pages) before i m
-  pub homes : withArrays d primary secondary ≡ inTurn (moveHome d f) i d
-  pub primaries : length primary ≡ length (d .primary)
-  pub secondaries : length secondary ≡ length (d .secondary)
-
-pub moved-none : (d : Directory) (f : ℕ) (before : List ℕ) → rack d ≡ d
-    → Moved d f before 0 before (d .primary) (d .secondary)
-moved-none d f before runs =
+pub moves-none : {d : Directory} {f : ℕ} {before counts : List ℕ} → d .cards ≤ 8 → counts ≡ table (pagesAt d) 8
+    → Moves d f before 0 before counts d
+moves-none {d} {f} few counted =
     record {
       copied = turn-none;
-      homes = runs ∙ sym (in-turn-none (moveHome d f) d);
-      primaries = refl;
-      secondaries = refl;
+      homes = sym (moved-none evenHome d f);
+      long = rw counted (table-length (pagesAt d) 8);
+      right = rw counted (counts-right-at-first d few);
     }
 
-module _ {d : Directory} {f : ℕ} {before : List ℕ} {i : ℕ} {m primary secondary : List ℕ}
-    (far : Moved d f before i m primary secondary) where
-  same-homes : SameHomes (withArrays d primary secondary) d i
-  same-homes =
-      let stand = unmoved d f i i (omega arith) in (
-        ap (λ (e : Directory). primaryOf e i) (far .homes) ∙ stand .0,
-        ap (λ (e : Directory). secondaryOf e i) (far .homes) ∙ stand .1,
-      )
+module _ {d : Directory} {f : ℕ} {before : List ℕ} {i : ℕ} {m counts : List ℕ} {moved : Directory}
+    (far : Moves d f before i m counts moved) (below : i < d .pages) (enough : Covered d) where
+  pub moves-so-far : MovedBelow evenHome d f i moved
+  moves-so-far = rw (far .homes) (moved-below evenHome d f enough i (omega arith))
 
-  pub same-kept : keptHome (homesOnly primary secondary) f i ≡ keptHome (homesOnly (d .primary) (d .secondary)) f i
-  unfolding keptHome
-  same-kept = rw (same-homes .0, same-homes .1)
+  -- the new home of a page, chosen by the directory as it stands at the page's turn
+  pub chosen-home : {kept next : ℕ} → kept ≡ keptHome d f i → next ≡ evenHome moved kept → next ≡ newHome evenHome d f i
+  unfolding newHome
+  chosen-home keeps chosen = rw (chosen, keeps, far .homes)
 
-  same-copy : copyToNewHome (withArrays d primary secondary) f i m ≡ copyToNewHome d f i m
-  unfolding copyToNewHome lostHome keptHome newHome
-  same-copy = rw (same-homes .0, same-homes .1)
+  module _ (two : TwoLive d) where
+    abbrev kept : ℕ
+    kept = keptHome d f i
 
-  same-turn : (e : Directory) → moveHome (withArrays d primary secondary) f i e ≡ moveHome d f i e
-  unfolding moveHome lostHome keptHome newHome
-  same-turn e = rw (same-homes .0, same-homes .1)
+    abbrev new : ℕ
+    new = newHome evenHome d f i
 
-  pub moved-more : {next primary′ secondary′ : List ℕ} → i < d .pages → length next ≡ length m
-      → length primary′ ≡ length primary → length secondary′ ≡ length secondary
-      → next ≡ copyToNewHome (withArrays d primary secondary) f i m
-      → withArrays d primary′ secondary′
-      ≡ moveHome (withArrays d primary secondary) f i (withArrays d primary secondary)
-      → Moved d f before (i + 1) next primary′ secondary′
-  moved-more below long first second copied moved =
+    fewest : Fewest moved kept new
+    fewest =
+        let other = two kept in
+        let shared =
+        evenly-shared moved kept
+        (record {
+          card = other .card;
+          below = rw (moves-so-far .cards) (other .below);
+          live = rw (moves-so-far .live) (other .live);
+          differs = other .differs;
+        }) in
+        rw (chosen-home refl refl) at shared
+
+    pub new-below : new < d .cards
+    new-below = rw (moves-so-far .cards) at (fewest .below)
+
+    -- a page that lost a home
+    module _ (dead : isLive d f ≡ false) (lost : lostHome d f i ≡ true) (few : d .cards ≤ 8) where
+      keeps : Keeps moved i f kept
+      unfolding lostHome keptHome
+      keeps =
+          let stand = moves-so-far .later i (omega arith) in
+          rw (stand .0, stand .1) (go (eqb (primaryOf d i) f) refl lost)
+        where
+          go : (was : Bool) → eqb (primaryOf d i) f ≡ was → was || eqb (secondaryOf d i) f ≡ true
+              → ((primaryOf d i ≡ f) × (secondaryOf d i ≡ cond was (secondaryOf d i) (primaryOf d i)))
+              ⊎ ((primaryOf d i ≡ cond was (secondaryOf d i) (primaryOf d i)) × (secondaryOf d i ≡ f))
+          go true is _ = inl (eqb-true (primaryOf d i) f is, refl)
+          go false is lost = inr (refl, eqb-true (secondaryOf d i) f lost)
+
+      gone : isLive moved f ≡ false
+      gone = rw (moves-so-far .live) dead
+
+      in-primary : i < length (moved .primary)
+      in-primary = omega (arith, enough .0, moves-so-far .primaries)
+
+      in-secondary : i < length (moved .secondary)
+      in-secondary = omega (arith, enough .1, moves-so-far .secondaries)
+
+      in-pages : i < moved .pages
+      in-pages = omega (arith, moves-so-far .pages)
+
+      pub room : d .pages ≤ 64 → countAt counts new < 64
+      room most =
+          omega (
+            arith,
+            far .right .right new (fewest .below) (fewest .live),
+            room-at-new moved i f kept new in-pages in-primary in-secondary keeps
+                (λ e. live-not-dead (fewest .live) (rw e gone)) (fewest .differs),
+            moves-so-far .pages,
+          )
+
+      pub moves-more : {next counts′ : List ℕ} {moved′ : Directory} → length next ≡ length m
+          → next ≡ copyRun (sizeOf d) m kept (pageAt i) new (pageAt i) storedPageSize
+          → moved′ ≡ withHomes moved i kept new → counts′ ≡ oneMore counts new
+          → Moves d f before (i + 1) next counts′ moved′
+      unfolding copyToNewHome
+      moves-more same copied moves counted =
+          record {
+            copied = turn-more (far .copied) below same (copied ∙ rw lost);
+            homes = moves
+                ∙ rw (add-one, moved-turn evenHome d f i (rw (far .homes) at (moves-so-far .later i (omega arith))), lost, ← far .homes);
+            long = rw counted (length-set counts new _ ∙ far .long);
+            right =
+                rw (moves, counted)
+                (counts-right-moved moved counts (far .right) i f kept new in-pages in-primary in-secondary keeps gone
+                (fewest .differs) (omega (arith, far .long, moves-so-far .cards)));
+          }
+
+  -- a page that lost none
+  pub moves-same : lostHome d f i ≡ false → Moves d f before (i + 1) m counts moved
+  unfolding copyToNewHome
+  moves-same whole =
       record {
-        copied = turn-more (far .copied) below long (copied ∙ same-copy);
-        homes = moved ∙ same-turn _ ∙ rw (in-turn-more (moveHome d f) i d, far .homes);
-        primaries = first ∙ far .primaries;
-        secondaries = second ∙ far .secondaries;
+        copied = turn-more (far .copied) below refl (rw whole);
+        homes = far .homes
+            ∙ rw (add-one, moved-turn evenHome d f i (rw (far .homes) at (moves-so-far .later i (omega arith))), whole);
+        long = far .long;
+        right = far .right;
       }

@@ -1,19 +1,13 @@
 -- Rests on its tests, which are the definition's in the same order.
 use borrow.Author.Tests.{eq-eqb, ne-eqb}
-use Rattle.protocol.specs.Recovery.{lostHome}
-use borrow.Author.Needs.{needs}
 use Rattle.recovery.proofs.homes.lost_home.Statement.{statement}
 use Rattle.recovery.proofs.homes.lost_home.Tie as tie
 
 returns : tie.Need-returns
-unfolding lostHome
 returns c = rw (eq-eqb _ _ (c .if1 .taken))
 
 returns-2 : tie.Need-returns-2
-unfolding lostHome
-returns-2 c = rw (ne-eqb _ _ (c .before .if1 .left))
+returns-2 c = rw (ne-eqb _ _ (c .if1 .left))
 
 pub lost-home-spec : {M : Type 1} → statement M
-lost-home-spec =
-    tie.close
-    (tie.spec (λ c. search needs) (λ c. search needs) returns (λ c. search needs) (λ c. search needs) returns-2)
+lost-home-spec = tie.close (tie.spec returns returns-2)

@@ -1,39 +1,36 @@
--- Rests on the two tests, and on `next-live-below`: a live card's backup is one of the cards.
+-- Rests on the two tests, and on `next-below`: the backup by the directory `after` is one of its cards.
 use mathlib.Core.Path.{sym, _∙_}
 use native.Mathlib.Omega.{arith}
 use borrow.Author.Tests.{eq-eqb, ne-eqb}
 use borrow.Author.Needs.{needs}
 use Rattle.memory.proofs.Index.{area-in}
-use Rattle.directory.proofs.Live.{next-live-below}
 use Rattle.area.specs.Record.{writeOwnRecord}
+use Rattle.recovery.proofs.Kept.{next-in}
 use Rattle.recovery.proofs.records.write_own_record.Statement.{statement}
 use Rattle.recovery.proofs.records.write_own_record.Tie as tie
 
 copy-own-record-requires : tie.Need-copy-own-record-requires
 copy-own-record-requires c κs =
-    let start = c .before .before .before .before .before .before .before .before .before .before .before in
-    let a = start .args in
-    let live = start .pre .1 .0 .live-too (a .card) (c .before .before .before .before .before .if1 .taken) in
-    let below = next-live-below (a .after .now) (a .cards) (a .card) (a .card) (start .pre .1 .1) live in
-    rw (c .area-size .ensures, c .before .before .next-live-after2 .ensures) (
-      (omega arith, area-in _ below (start .pre .0 .whole)),
-      (omega arith, area-in _ (start .pre .1 .1) (start .pre .0 .whole)),
-    )
+    let start = c .before .before .before .before .before .before .before .before .before in
+    let rack = start .pre .0 in
+    let below = start .pre .1 .1 .0 in
+    rw (c .area-size .ensures, c .before .before .backup2 .ensures)
+    (next-in rack (start .pre .1 .0) (start .args .card), (omega (arith, rack .eight), area-in _ below (rack .whole)))
 
 returns : tie.Need-returns
 unfolding writeOwnRecord
 returns c =
-    let due = c .before .before .before .before .before .before in
-    let is = eq-eqb _ _ (sym (due .before .next-live-after .ensures) ∙ due .if2 .taken) in
     let size = c .before .before .before in
     let next = size .before .before in
+    let due = next .before in
+    let is = eq-eqb _ _ (sym (due .before .backup .ensures) ∙ due .if2 .taken) in
     rw (due .before .before .if1 .taken, is)
-    (rw (size .area-size .ensures, next .next-live-after2 .ensures) at (c .before .before .copy-own-record .ensures))
+    (rw (size .area-size .ensures, next .backup2 .ensures) at (c .before .before .copy-own-record .ensures))
 
 returns-2 : tie.Need-returns-2
 unfolding writeOwnRecord
 returns-2 c =
-    let other = ne-eqb _ _ (λ e. c .if2 .left (c .before .next-live-after .ensures ∙ e)) in
+    let other = ne-eqb _ _ (λ e. c .if2 .left (c .before .backup .ensures ∙ e)) in
     rw (c .before .before .if1 .taken, other)
 
 returns-3 : tie.Need-returns-3

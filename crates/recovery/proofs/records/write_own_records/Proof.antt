@@ -2,9 +2,9 @@
 use Prim.Native.Nat.{_-_}
 use native.Mathlib.Omega.{arith}
 use borrow.Author.Needs.{needs}
-use Rattle.directory.specs.Live.{nextLive}
-use Rattle.area.specs.Layout.{areaSize}
+use Rattle.directory.specs.Directory.{backupOf}
 use Rattle.area.specs.Record.{writeOwnRecord}
+use Rattle.protocol.specs.Release.{sizeOf}
 use Rattle.recovery.specs.Rack.{backedBy}
 use Rattle.recovery.proofs.Kept.{rack-kept}
 use Rattle.recovery.proofs.Turns.{Turned, turn-none, turn-more, turn-all}
@@ -12,12 +12,11 @@ use Rattle.recovery.proofs.records.write_own_records.Statement.{stateme
 use Rattle.recovery.proofs.records.write_own_records.Tie as tie
 
 abbrev Inv-loop : tie.InvT-loop
-Inv-loop memory₀ cards pages live before after backup card₀ memory card =
-    Turned (writeOwnRecord (areaSize pages) (backedBy live before cards backup) (nextLive after cards)) cards memory₀
-    card memory
+Inv-loop memory₀ live before after backup card₀ card-end memory card =
+    Turned (writeOwnRecord (sizeOf after) (backedBy live before backup) (backupOf after)) card-end memory₀ card memory
 
 abbrev μ-loop : tie.MeasureT-loop
-μ-loop memory₀ cards pages live before after backup card₀ memory card = cards - card
+μ-loop memory₀ live before after backup card₀ card-end memory card = card-end - card
 
 pub write-own-records-spec : {M : Type 1} → statement M
 write-own-records-spec =

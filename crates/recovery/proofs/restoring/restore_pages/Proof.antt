@@ -2,19 +2,19 @@
 use Prim.Native.Nat.{_-_}
 use native.Mathlib.Omega.{arith}
 use borrow.Author.Needs.{needs}
+use Rattle.directory.specs.Directory.{directoryBy}
 use Rattle.protocol.specs.Recovery.{restorePage, restorePages}
 use Rattle.release.proofs.Callers.{homes-kept}
-use Rattle.recovery.specs.Rack.{rackOf}
 use Rattle.recovery.proofs.Turns.{Turned, turn-none, turn-more, turn-all}
 use Rattle.recovery.proofs.restoring.restore_pages.Statement.{statement}
 use Rattle.recovery.proofs.restoring.restore_pages.Tie as tie
 
 abbrev Inv-loop : tie.InvT-loop
-Inv-loop memory₀ pages live primary secondary forward page₀ memory page =
-    Turned (restorePage (rackOf 0 pages live primary secondary) forward) pages memory₀ page memory
+Inv-loop memory₀ header primary secondary forward page₀ page-end memory page =
+    Turned (restorePage (directoryBy header primary secondary) forward) page-end memory₀ page memory
 
 abbrev μ-loop : tie.MeasureT-loop
-μ-loop memory₀ pages live primary secondary forward page₀ memory page = pages - page
+μ-loop memory₀ header primary secondary forward page₀ page-end memory page = page-end - page
 
 returns : tie.Need-returns Inv-loop μ-loop
 unfolding restorePages
