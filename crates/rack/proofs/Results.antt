@@ -4,6 +4,7 @@ use Rattle.laws.proofs.Bools.{by-cond}
 use Rattle.answer.specs.declared.Outcome.{Outcome}
 use Rattle.answer.specs.Outcome.{given}
 use Rattle.directory.specs.declared.Directory.{Directory}
+use Rattle.directory.specs.NewHome.{evenHome}
 use Rattle.directory.specs.Directory.{backupOf, markedLive}
 use Rattle.area.specs.Prelude.{zeros, deskSize, Release}
 use Rattle.protocol.specs.Release.{sizeOf, stepMemory}
@@ -132,7 +133,8 @@ module _ (d : Directory) (m : List ℕ) where
     failed = awaitedCard (d .status)
 
     abbrev done : Outcome → Result
-    done o = resultIs o (recoveredDirectory d failed) (recoveredMemory d failed m) (failedRelease d failed m .desk)
+    done o = resultIs o (recoveredDirectory evenHome d failed) (recoveredMemory evenHome d failed m)
+        (failedRelease d failed m .desk)
 
     abbrev stamp : ℕ
     stamp = failedRelease d failed m .number

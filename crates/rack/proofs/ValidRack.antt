@@ -4,8 +4,7 @@ use Rattle.laws.specs.Search.{someBelow}
 use Rattle.laws.proofs.Bools.{neither, and-first, and-second}
 use Rattle.laws.proofs.Search.{none-below}
 use Rattle.directory.specs.declared.Directory.{Directory}
-use Rattle.directory.specs.Directory.{liveAt, primaryOf, secondaryOf, nextLiveOf}
-use Rattle.directory.proofs.Live.{next-live-below}
+use Rattle.directory.specs.Directory.{liveAt, isLive, primaryOf, secondaryOf, nextLiveOf}
 use Rattle.area.specs.Prelude.{load, areaSize, openFlag, isOpen}
 use Rattle.protocol.specs.Release.{sizeOf}
 use Rattle.protocol.specs.Checks.{fewLive, badPage, badStatus, badCard, unfitRack, awaitsRecovery}
@@ -15,15 +14,17 @@ use Rattle.protocol.proofs.checks.ValidDirectory.{valid-directory}
 use Rattle.protocol.proofs.checks.Limits.{Within, within-limits}
 use Rattle.release.specs.Stepping.{CardIn, HomesIn, GoodRelease}
 use Rattle.release.proofs.Callers.{card-in, good-release}
-use Rattle.recovery.specs.Rack.{RackIn, SomeLive}
+use Rattle.recovery.specs.Rack.{RackIn, TwoLive}
+use Rattle.recovery.proofs.Kept.{some-live, next-below}
 
 pub record ValidRack (d : Directory) (m : List ℕ) : Type 0 where
   pub within : Within (length m) (d .cards) (d .pages)
   pub primary-below : (p : ℕ) → p < d .pages → primaryOf d p < d .cards
   pub secondary-below : (p : ℕ) → p < d .pages → secondaryOf d p < d .cards
-  pub some : SomeLive (d .live) (d .cards)
+  pub beside : TwoLive d
   pub next-below : (c : ℕ) → nextLiveOf d c < d .cards
-  pub awaited : awaitsRecovery (d .status) ≡ true → awaitedCard (d .status) < d .cards
+  pub awaited : awaitsRecovery (d .status) ≡ true
+      → (awaitedCard (d .status) < d .cards) × (isLive d (awaitedCard (d .status)) ≡ false)
   pub good : (c : ℕ) → c < d .cards → isOpen (d .live) (sizeOf d) m c ≡ true → GoodRelease (d .pages) m c
 
 -- ---- each part of check 2
@@ -50,9 +51,9 @@ valid-rack {d} {m} fits =
       within = within-limits _ _ _ (fits .limits);
       primary-below = keeps .primary-in;
       secondary-below = keeps .secondary-in;
-      some = record { card = keeps .up; below = keeps .up-below; up = keeps .up-live };
-      next-below = λ c. next-live-below (d .live) (d .cards) c (keeps .up) (keeps .up-below) (keeps .up-live);
-      awaited = λ awaits. keeps .awaited awaits .0;
+      beside = keeps .beside;
+      next-below = next-below (some-live (keeps .beside));
+      awaited = keeps .awaited;
       good = λ c below.
           open-good (d .live) (d .pages) m c (none-below (badCard (d .live) (d .pages) m) _ (cards .1) c below);
     }
@@ -75,7 +76,7 @@ module _ (d : Directory) (m : List ℕ) where
       }
 
   -- what recovery and join rely on
-  pub rack-in : ValidRack d m → length (d .live) ≡ 8 → RackIn (d .live) (d .cards) (d .pages) (length m)
+  pub rack-in : ValidRack d m → length (d .live) ≡ 8 → RackIn d (length m)
   rack-in fit marks =
       let w = fit .within in
       record { few = w .pages-most; eight = w .cards-most; marks = marks; whole = w .whole }

@@ -268,35 +268,14 @@ pub fn recover_card(memory: &mut [u32], directory: Directory) -> DeskReply
     if refusal.number != 0 {
         return refused_recovery(directory, refusal);
     }
-    let cards = header.cards;
-    let pages = header.pages;
-    let live = header.live;
     let status = header.status;
-    let mut primary = directory.primary;
-    let mut secondary = directory.secondary;
     let failed = awaited_card(status);
     let mut desk = [0u32; area::layout::DESK_SIZE];
-    let number = recovery::recover_memory(
-        memory,
-        cards,
-        pages,
-        live,
-        &mut primary,
-        &mut secondary,
-        failed,
-        &mut desk,
-    );
-    let recovered = Directory {
-        cards,
-        pages,
-        live,
-        primary,
-        secondary,
-        status: Status::Running,
-    };
-    let answer = Answer::Given(number);
+    let recovered = recovery::recover_memory(memory, directory, failed, &mut desk);
+    let running = recovered.directory;
+    let answer = Answer::Given(recovered.number);
     DeskReply {
-        directory: recovered,
+        directory: running,
         answer,
         desk,
     }
@@ -323,8 +302,7 @@ pub fn join_card(memory: &mut [u32], directory: Directory, card: u32) -> Reply
     if first.number != 0 {
         return Reply { directory, answer };
     }
-    let live = header.live;
-    recovery::join_memory(memory, header.cards, header.pages, live, card);
+    recovery::join_memory(memory, directory, card);
     let joined = directory.mark_live(card);
     Reply {
         directory: joined,

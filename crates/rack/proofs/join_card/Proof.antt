@@ -1,8 +1,8 @@
 -- Rests on its checks: an accepted join finds a dead card, and no release open.
-use mathlib.Core.Path.{_≡_, refl, _∙_}
+use mathlib.Core.Path.{_≡_, refl}
 use borrow.Author.Needs.{needs, length-unmapped}
 use lib.ListN.{length}
-use Rattle.recovery.proofs.Marks.{same-joined}
+use Rattle.recovery.proofs.Kept.{some-live}
 use Rattle.rack.proofs.ValidRack.{valid-rack, rack-in}
 use Rattle.rack.proofs.Results.{join-facts, join-refused, join-accepted}
 use Rattle.rack.proofs.join_card.Statement.{statement}
@@ -20,7 +20,7 @@ returns c =
 
 join-memory-requires : tie.Need-join-memory-requires
 join-memory-requires c κs =
-    let test = c .before .before in
+    let test = c .before in
     let first = test .before .before .before in
     let taken = first .before .before .before .before .before .before .before in
     let start = taken .before .before in
@@ -31,22 +31,19 @@ join-memory-requires c κs =
     let reached = rw (taken .header .ensures) at (first .join .ensures) in
     let passed = join-facts d (a .memory .now) (a .card) reached (test .if1 .left) in
     let fit = valid-rack (passed .runs .fits) in
-    rw (taken .header .ensures) (rack-in d (a .memory .now) fit marks, (fit .some, passed .below))
+    (rack-in d (a .memory .now) fit marks, (some-live (fit .beside), passed .below))
 
 returns-2 : tie.Need-returns-2
 returns-2 c =
     let joining = c .before .before .before in
-    let test = joining .before .before .before in
+    let test = joining .before .before in
     let answered = test .before .before in
     let first = answered .before in
     let taken = first .before .before .before .before .before .before .before in
     let a = taken .before .before .args in
-    let d = a .t2 in
-    let m = a .memory .now in
     let reached = rw (taken .header .ensures) at (first .join .ensures) in
-    let joined = rw (taken .header .ensures) at (joining .join-memory .ensures) in
-    rw (join-accepted d m (a .card) reached (test .if1 .left))
-    (answered .answer-of .ensures, (c .mark-live .ensures, joined ∙ same-joined d (a .card) m))
+    rw (join-accepted (a .t2) (a .memory .now) (a .card) reached (test .if1 .left))
+    (answered .answer-of .ensures, (c .mark-live .ensures, joining .join-memory .ensures))
 
 pub join-card-spec : {M : Type 1} → statement M
 join-card-spec =

@@ -1,10 +1,9 @@
 -- Rests on its checks: an accepted recovery finds two live cards, homes that are cards and releases that read well.
-use mathlib.Core.Path.{_≡_, refl, ap, _∙_}
+use mathlib.Core.Path.{_≡_, refl, ap}
 use native.Mathlib.Omega.{arith}
 use borrow.Author.Needs.{needs, length-unmapped}
 use lib.ListN.{length}
 use Rattle.answer.specs.declared.Answer.the-variants.{Given}
-use Rattle.recovery.proofs.Recovering.{failed-by-rack, memory-by-rack, directory-by-rack}
 use Rattle.rack.proofs.ValidRack.{valid-rack, rack-in, homes-in}
 use Rattle.rack.proofs.Results.{recovery-facts, recovery-refused, recovery-accepted}
 use Rattle.rack.proofs.recover_card.Statement.{statement}
@@ -23,8 +22,8 @@ returns c =
 
 recover-memory-requires : tie.Need-recover-memory-requires
 recover-memory-requires c κs =
-    let awaiting = c .before .before .before .before in
-    let test = awaiting .before .before .before .before in
+    let awaiting = c .before .before in
+    let test = awaiting .before in
     let first = test .before .before in
     let taken = first .before .before .before .before .before .before .before in
     let start = taken .before .before in
@@ -39,33 +38,29 @@ recover-memory-requires c κs =
     let passed = recovery-facts d m reached (test .if1 .left) in
     let fit = valid-rack (passed .0) in
     let failed = rw (taken .header .ensures) at (awaiting .awaited-card .ensures) in
-    let below = rw (← failed) at (fit .awaited (passed .1)) in
+    let dead = rw (← failed) at (fit .awaited (passed .1)) in
+    let below = dead .0 in
     let eight = fit .within .cards-most in
     let homes = homes-in d m fit marks primaries secondaries in
-    rw (taken .header .ensures)
-    (rack-in d m fit marks, (homes, (fit .some, ((omega arith, search needs), record { good = fit .good }))))
+    (rack-in d m fit marks, (homes, (fit .beside, ((omega arith, dead .1), (search needs, record { good = fit .good })))))
 
 returns-2 : tie.Need-returns-2
 returns-2 c =
-    let recovering = c .before .before .before .before .before in
-    let awaiting = recovering .before .before .before .before .before in
-    let test = awaiting .before .before .before .before in
+    let recovering = c .before .before .before .before in
+    let awaiting = recovering .before .before .before in
+    let test = awaiting .before in
     let first = test .before .before in
     let taken = first .before .before .before .before .before .before .before in
     let a = taken .before .before .args in
     let d = a .t2 in
-    let m = a .memory .now in
     let reached = rw (taken .header .ensures) at (first .recovery .ensures) in
     let failed = rw (taken .header .ensures) at (awaiting .awaited-card .ensures) in
-    let done = rw (failed, taken .header .ensures) at (recovering .recover-memory .ensures) in
-    let answer-outcome = rw (failed-by-rack d _ m) at (done .0) in
-    let desk = rw (failed-by-rack d _ m) at (done .1 .0) in
-    rw (recovery-accepted d m reached (test .if1 .left), taken .header .ensures)
-    (ap Given answer-outcome, (done .1 .1 .1 ∙ directory-by-rack d _, (desk, done .1 .1 .0 ∙ memory-by-rack d _ m)))
+    let done = rw failed at (recovering .recover-memory .ensures) in
+    rw (recovery-accepted d (a .memory .now) reached (test .if1 .left))
+    (ap Given (done .1 .0), (done .0, (done .1 .1 .0, done .1 .1 .1)))
 
 pub recover-card-spec : {M : Type 1} → statement M
 recover-card-spec =
     tie.close
     (tie.spec (λ c κs. search needs) (λ c κs. search needs) (λ c κs. search needs) (λ c. search needs) returns
-    (λ c κs. search needs) (λ c. search needs) (λ c. search needs) (λ c. search needs) recover-memory-requires
-    (λ c. search needs) returns-2)
+    (λ c κs. search needs) (λ c. search needs) recover-memory-requires (λ c. search needs) returns-2)
