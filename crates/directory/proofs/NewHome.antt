@@ -1,4 +1,5 @@
--- Laws of the card that becomes home to a page that lost one: what each rule names, and what it goes by.
+-- Laws of the card that becomes home to a page that lost one: what each rule names and what it goes by, and the number
+-- of a card's pages once the page has moved.
 use Rattle.laws.proofs.Prelude.{ℕ, zero, suc, _+_, _<_, _≤_, _≡_, refl, sym, ap, _∙_, _≢_, _⊎_, List, Bool, true}
 use Rattle.laws.proofs.Prelude.{false, cond, true≢false, not, _&&_, _||_, length, ltb, eqb, ℕ-discrete, decLt, arith}
 use Rattle.laws.proofs.Prelude.{ne-eqb, eq-eqb, ltb-true, ltb-false, not-true, not-false}
@@ -6,7 +7,7 @@ use mathlib.Core.Logic.{⊎-elim}
 use mathlib.Core.Bool.{or-true, or-false}
 use native.Mathlib.Nat.{add-zero}
 use Rattle.laws.specs.Search.{lowest, someBelow, countBelow}
-use Rattle.laws.proofs.Bools.{and-first, and-second, and-rest}
+use Rattle.laws.proofs.Bools.{and-first, and-second, and-both, and-rest}
 use Rattle.laws.proofs.Search.{Stops, lowest-stops, lowest-agree, some-agree, count-agree, none-below, counted-few}
 use Rattle.directory.specs.Directory.{Directory, Status, liveAt, isLive, primaryOf, secondaryOf, withHomes}
 use Rattle.directory.specs.Directory.{withStatus}
@@ -19,7 +20,7 @@ use Rattle.directory.proofs.Changes.{primary-of-moved, secondary-of-mov
 
 module _ (marks : List Bool) (kept c : ℕ) where
   pub may-take : liveAt marks c ≡ true → c ≢ kept → mayTake marks kept c ≡ true
-  may-take live other = rw (live, ne-eqb c kept other)
+  may-take live other = and-both (liveAt marks c) (not (eqb c kept)) live (ap not (ne-eqb c kept other))
 
   pub taker-live : mayTake marks kept c ≡ true → liveAt marks c ≡ true
   taker-live may = and-first (liveAt marks c) (not (eqb c kept)) may
@@ -75,7 +76,7 @@ module _ (marks : List Bool) (cards : ℕ) (count : ℕ → ℕ) (kept : ℕ) wh
       let some = someBelow (takesBelow marks count kept (count c)) cards in
       some-fewer (count c) (not-false some (and-rest (mayTake marks kept c) (not some) may other))
 
-  -- where none is one of the fewest, none may take the page: cards with fewer and fewer pages come to an end
+  -- where none is one of the fewest, none may take the page: for each that may, another that may has fewer
   no-fewest : ((c : ℕ) → c < cards → isFewest marks cards count kept c ≡ false)
       → (n c : ℕ) → c < cards → mayTake marks kept c ≡ true → count c ≤ n → ⊥
   no-fewest none zero c below may few =
@@ -146,7 +147,7 @@ and-agrees : (a b x y : Bool) → a ≡ b → (a ≡ true → x ≡ y) → (a &&
 and-agrees true b x y same agree = rw (← same) (agree refl)
 and-agrees false b x y same agree = rw (← same)
 
--- the marks below the cards, and the counts of those that may take the page
+-- by marks and counts: the marks below the cards, and the counts of those that may take the page
 module _ (marks marks′ : List Bool) (cards : ℕ) (count count′ : ℕ → ℕ) (kept : ℕ)
     (alike : (c : ℕ) → c < cards → liveAt marks c ≡ liveAt marks′ c)
     (same : (c : ℕ) → c < cards → mayTake marks kept c ≡ true → count c ≡ count′ c) where
@@ -167,7 +168,10 @@ module _ (marks marks′ : List Bool) (cards : ℕ) (count count′ : ℕ → �
       and-agrees _ _ _ _ (may-take-agrees c below)
       (λ may. ap not (fewer-agrees (count c) (count′ c) (same c below may))))
 
--- the homes of the pages
+-- the number of a card's pages: the homes below the pages
+home-agrees : (a a′ b b′ c : ℕ) → a ≡ a′ → b ≡ b′ → (eqb a c || eqb b c) ≡ (eqb a′ c || eqb b′ c)
+home-agrees a a′ b b′ c first second = rw (first, second)
+
 pub pages-at-agrees : (d e : Directory) (c : ℕ) → d .pages ≡ e .pages
     → ((page : ℕ) → page < d .pages → primaryOf d page ≡ primaryOf e page)
     → ((page : ℕ) → page < d .pages → secondaryOf d page ≡ secondaryOf e page)
@@ -175,14 +179,10 @@ pub pages-at-agrees : (d e : Directory) (c : ℕ) → d .pages ≡ e .pages
 unfolding pagesAt
 pages-at-agrees d e c pages primary secondary =
     count-agree (isHomeOf d c) (isHomeOf e c) (d .pages)
-    (λ page below. rw (primary page below, secondary page below))
+    (λ page below. home-agrees _ _ _ _ c (primary page below) (secondary page below))
     ∙ ap (countBelow (isHomeOf e c)) pages
 
--- no more than there are
-pages-at-few : (d : Directory) (c : ℕ) → pagesAt d c ≤ d .pages
-unfolding pagesAt
-pages-at-few d c = counted-few {test = isHomeOf d c} {n = d .pages} (record { upto = omega arith; is = refl })
-
+-- the rule for even shares: both
 pub even-home-agrees : (d e : Directory) (kept : ℕ) → d .cards ≡ e .cards → d .pages ≡ e .pages
     → ((c : ℕ) → c < d .cards → isLive d c ≡ isLive e c)
     → ((page : ℕ) → page < d .pages → primaryOf d page ≡ primaryOf e page)
@@ -201,6 +201,10 @@ even-home-of-status d status kept =
     even-home-agrees (withStatus d status) d kept refl refl (λ c below. refl) (λ page below. refl) (λ page below. refl)
 
 -- ---- the number of a card's pages after a page has moved
+
+pages-at-few : (d : Directory) (c : ℕ) → pagesAt d c ≤ d .pages
+unfolding pagesAt
+pages-at-few d c = counted-few {test = isHomeOf d c} {n = d .pages} (record { upto = omega arith; is = refl })
 
 -- tests that agree but at i, which only the second passes
 count-one-more : (test test′ : ℕ → Bool) (n i : ℕ) → i < n → test i ≡ false → test′ i ≡ true
@@ -234,17 +238,15 @@ module _ (d : Directory) (page f kept new : ℕ) (below : page < d .pages)
 
   home-after : (c : ℕ) → isHomeOf (withHomes d page kept new) c page ≡ (eqb kept c || eqb new c)
   home-after c =
-      rw (
-        primary-of-moved d page kept new in-primary,
-        secondary-of-moved d page kept new in-secondary,
-      )
+      home-agrees _ _ _ _ c
+      (primary-of-moved d page kept new in-primary)
+      (secondary-of-moved d page kept new in-secondary)
 
   home-elsewhere : (c other : ℕ) → other ≢ page → isHomeOf (withHomes d page kept new) c other ≡ isHomeOf d c other
   home-elsewhere c other apart =
-      rw (
-        primary-of-other d page kept new other apart,
-        secondary-of-other d page kept new other apart,
-      )
+      home-agrees _ _ _ _ c
+      (primary-of-other d page kept new other apart)
+      (secondary-of-other d page kept new other apart)
 
   -- it counts for its new home
   pub pages-at-new : new ≢ f → new ≢ kept → pagesAt (withHomes d page kept new) new ≡ pagesAt d new + 1
@@ -276,7 +278,7 @@ module _ (d : Directory) (page f kept new : ℕ) (below : page < d .pages)
             | no apart ↦ home-elsewhere c other apart
           ]
 
-  -- in one
+  -- both in one
   pub pages-at-moved : (c : ℕ) → c ≢ f → new ≢ kept
       → pagesAt (withHomes d page kept new) c ≡ pagesAt d c + cond (eqb new c) 1 0
   pages-at-moved c not-lost not-kept =
