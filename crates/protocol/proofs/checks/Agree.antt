@@ -1,7 +1,7 @@
 -- Checks of two lists that agree, one by one, in their tests and places.
-use Rattle.laws.proofs.Prelude.{ℕ, _≡_, refl, List, _∷_, Bool, false}
+use Rattle.laws.proofs.Prelude.{ℕ, _<_, _≡_, refl, List, _∷_, Bool, false}
 use Rattle.laws.specs.Search.{lowest, someBelow}
-use Rattle.laws.proofs.Search.{lowest-same}
+use Rattle.laws.proofs.Search.{lowest-agree}
 use Rattle.protocol.specs.Checks.{Check, check, checkAt}
 use Rattle.protocol.proofs.checks.Outcome.{SameChecks, more}
 
@@ -19,9 +19,10 @@ module _ {number : ℕ} {cs xs : List Check} where
   by-test same rest = by-place same refl rest
 
   -- at the lowest number below a bound that passes a test, and refusing if there is one
-  pub by-lowest : {n n′ : ℕ} {test test′ : ℕ → Bool} → n ≡ n′ → ((i : ℕ) → test i ≡ test′ i) → SameChecks cs xs
+  pub by-lowest : {n n′ : ℕ} {test test′ : ℕ → Bool} → n ≡ n′ → ((i : ℕ) → i < n′ → test i ≡ test′ i)
+      → SameChecks cs xs
       → SameChecks (checkAt (someBelow test n) number (lowest test n) ∷ cs)
       (checkAt (someBelow test′ n′) number (lowest test′ n′) ∷ xs)
   by-lowest {n} {n′} {test} {test′} bound same rest =
-      let found = lowest-same test test′ same 0 n′ in
+      let found = lowest-agree test test′ n′ same in
       by-place (rw (bound, found)) (rw (bound, found)) (λ _. rest)

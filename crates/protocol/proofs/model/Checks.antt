@@ -59,7 +59,7 @@ module _ (d : Directory) (m : List ℕ) (s : Model) (agrees : Agrees d m s) wher
       by-place (ap (λ (pages : ℕ). ltb 0 (checkDiff pages list .number)) (agrees .beside .pages))
       (ap (λ (pages : ℕ). checkDiff pages list .value) (agrees .beside .pages)) (λ _.
       by-lowest (agrees .beside .cards)
-      (λ x. rw (← agrees .beside .pages) (shares-by-book d m (s .book) rack c list x)) none))))))
+      (λ x _. rw (← agrees .beside .pages) (shares-by-book d m (s .book) rack c list x)) none))))))
 
   pub step-checks : (c : ℕ) → SameChecks (drop 2 (stepChecks d m c)) (modelChecks s (make-step c))
   unfolding modelChecks
@@ -71,7 +71,7 @@ module _ (d : Directory) (m : List ℕ) (s : Model) (agrees : Agrees d m s) wher
   unfolding modelChecks
   fetch-checks page buffer =
       if-running (λ rack. by-test (ap (λ (pages : ℕ). leb pages page) (agrees .beside .pages)) (λ _.
-      by-lowest (agrees .beside .cards) (moves-by-book d m (s .book) rack page) (by-test refl (λ _. none))))
+      by-lowest (agrees .beside .cards) (λ x _. moves-by-book d m (s .book) rack page x) (by-test refl (λ _. none))))
 
   pub failure-checks : (c : ℕ) → SameChecks (drop 2 (failureChecks d m c)) (modelChecks s (fail-card c))
   unfolding modelChecks

@@ -1,13 +1,12 @@
 -- Check 2, and the checks that calls share, read nothing past a directory's cards and pages.
 use Rattle.laws.proofs.Prelude.{ℕ, _<_, _≡_, refl, ap, List, _∷_, _++_, Bool, not, _&&_, arith, ltb}
-use Rattle.laws.specs.Search.{lowest, someBelow}
-use Rattle.laws.proofs.Search.{lowest-agree, some-agree, count-agree}
+use Rattle.laws.proofs.Search.{some-agree, count-agree}
 use Rattle.answer.specs.Outcome.{unfit, noCard}
 use Rattle.directory.specs.declared.Directory.{Directory}
 use Rattle.directory.specs.declared.Status.{Status}
 use Rattle.directory.specs.declared.Status.the-variants.{Running, Awaiting}
 use Rattle.directory.specs.Directory.{liveAt, primaryOf, secondaryOf, awaitsCard}
-use Rattle.protocol.specs.Checks.{fewLive, badHome, badPage, badStatus, badCard, unfitRack, Check, check, checkAt}
+use Rattle.protocol.specs.Checks.{fewLive, badHome, badPage, badStatus, badCard, unfitRack, Check, check}
 use Rattle.protocol.specs.Checks.{fittingChecks, runningChecks, noLiveCard}
 use Rattle.protocol.specs.PastLimits.{belowLimits}
 use Rattle.protocol.proofs.checks.ByCall.{live-card}
@@ -67,13 +66,3 @@ module _ (d : Directory) (m : List ℕ) where
       → SameChecks (check (noLiveCard (belowLimits d) c) noCard ∷ cs) (check (noLiveCard d c) noCard ∷ xs)
   live-then c rest =
       more (ap (λ (none : Bool). check none noCard) (real-below d not c)) (λ is. rest (live-card d c is .0))
-
-  -- the lowest card that passes a test, and whether there is one
-  pub lowest-then : {test test′ : ℕ → Bool} (number : ℕ) {cs xs : List Check}
-      → ((x : ℕ) → x < d .cards → test x ≡ test′ x) → SameChecks cs xs
-      → SameChecks (checkAt (someBelow test (d .cards)) number (lowest test (d .cards)) ∷ cs)
-      (checkAt (someBelow test′ (d .cards)) number (lowest test′ (d .cards)) ∷ xs)
-  lowest-then number agree rest =
-      more
-      (ap (λ (found : ℕ). checkAt (ltb found (d .cards)) number found) (lowest-agree _ _ (d .cards) agree))
-      (λ _. rest)

@@ -1,6 +1,6 @@
 -- Opening a release reads nothing past a directory's cards and pages.
 use Rattle.laws.proofs.Prelude.{ℕ, _<_, _≡_, refl, ap, List, [], Bool}
-use Rattle.answer.specs.Outcome.{releaseOpen, wordInUse}
+use Rattle.answer.specs.Outcome.{releaseOpen}
 use Rattle.directory.specs.declared.Directory.{Directory}
 use Rattle.area.specs.Prelude.{Release}
 use Rattle.protocol.specs.Release.{sizeOf}
@@ -8,8 +8,9 @@ use Rattle.protocol.specs.Checks.{check}
 use Rattle.protocol.specs.Opening.{sharesWith, openingChecks, opening}
 use Rattle.protocol.specs.PastLimits.{belowLimits}
 use Rattle.protocol.proofs.checks.Outcome.{SameChecks, none, more}
+use Rattle.protocol.proofs.checks.Agree.{by-lowest}
 use Rattle.protocol.proofs.past_limits.Directory.{marksBelow, open-below}
-use Rattle.protocol.proofs.past_limits.Checks.{running-then, live-then, lowest-then}
+use Rattle.protocol.proofs.past_limits.Checks.{running-then, live-then}
 use Rattle.protocol.proofs.past_limits.Call.{CallBelow, below-by-checks, same-directory}
 
 module _ (d : Directory) (m : List ℕ) (c : ℕ) where
@@ -24,7 +25,7 @@ module _ (d : Directory) (m : List ℕ) (c : ℕ) where
       running-then d m
       (live-then d m c (λ real.
       more (ap (λ (taken : Bool). check taken releaseOpen) (open-below d (sizeOf d) m c real)) (λ _.
-      more refl (λ _. more refl (λ _. more refl (λ _. lowest-then d m wordInUse (shares-below list) none))))))
+      more refl (λ _. more refl (λ _. more refl (λ _. by-lowest refl (shares-below list) none))))))
 
   pub opening-below : (r : Release) (list : List ℕ)
       → CallBelow d (opening (belowLimits d) m c r list) (opening d m c r list)

@@ -1,6 +1,5 @@
 -- The calls that only read, fetches and desk questions, read nothing past a directory's cards and pages.
 use Rattle.laws.proofs.Prelude.{ℕ, _<_, _≡_, refl, List, leb-false, length}
-use Rattle.answer.specs.Outcome.{pageInMotion}
 use Rattle.directory.specs.declared.Directory.{Directory}
 use Rattle.area.specs.Prelude.{zeros, deskSize}
 use Rattle.protocol.specs.Release.{sizeOf}
@@ -8,8 +7,9 @@ use Rattle.protocol.specs.Fetch.{inMotion, fetchChecks, committedPage, f
 use Rattle.protocol.specs.DeskQuestion.{deskChecks, deskOf, deskQuestion}
 use Rattle.protocol.specs.PastLimits.{belowLimits}
 use Rattle.protocol.proofs.checks.Outcome.{SameChecks, none, more}
+use Rattle.protocol.proofs.checks.Agree.{by-lowest}
 use Rattle.protocol.proofs.past_limits.Directory.{marksBelow, live-below, open-below, next-below, primary-below}
-use Rattle.protocol.proofs.past_limits.Checks.{running-then, lowest-then}
+use Rattle.protocol.proofs.past_limits.Checks.{running-then}
 use Rattle.protocol.proofs.past_limits.Call.{CallBelow, below-by-checks, same-directory}
 
 module _ (d : Directory) (m : List ℕ) where
@@ -23,7 +23,7 @@ module _ (d : Directory) (m : List ℕ) where
   fetch-checks : (page room : ℕ) → SameChecks (fetchChecks (belowLimits d) m page room) (fetchChecks d m page room)
   fetch-checks page room =
       running-then d m
-      (more refl (λ _. lowest-then d m pageInMotion (motion-below page) (more refl (λ _. none))))
+      (more refl (λ _. by-lowest refl (motion-below page) (more refl (λ _. none))))
 
   page-below : (page : ℕ) → page < d .pages → committedPage (belowLimits d) m page ≡ committedPage d m page
   unfolding committedPage
