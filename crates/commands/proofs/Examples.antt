@@ -5,6 +5,7 @@ use Rattle.laws.specs.Examples.{AllHold, sameWords, failuresFrom, Claims}
 use Rattle.laws.specs.Text.{bytesOf}
 use Rattle.laws.proofs.Examples.{all-hold}
 use Rattle.directory.specs.Directory.{formattedDirectory, emptyDirectory, tableFrom, nextLive}
+use Rattle.directory.specs.NewHome.{pagesAt, isFewest, evenHome}
 use Rattle.area.specs.Prelude.{load, store, loadRun, overwrite, storeRun, clearRun, copyRun, zeros, ownRelease}
 use Rattle.area.specs.Prelude.{openRelease, openList, stepsOf, isOpen, recordedRelease, underWay, settledRecord}
 use Rattle.area.specs.Prelude.{writeRecord, writeOwnRecord, numberWords, numberAt}

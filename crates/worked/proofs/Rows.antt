@@ -8,6 +8,7 @@ use Rattle.answer.specs.declared.Outcome.{Outcome}
 use Rattle.answer.specs.Outcome.{refusedAt, numberUsed}
 use Rattle.directory.specs.declared.Directory.{Directory}
 use Rattle.directory.specs.Directory.{formattedDirectory, emptyDirectory, tableFrom, nextLive}
+use Rattle.directory.specs.NewHome.{pagesAt, isFewest, evenHome}
 use Rattle.area.specs.Prelude.{load, store, loadRun, overwrite, storeRun, clearRun, copyRun, zeros, Release, ownRelease}
 use Rattle.area.specs.Prelude.{openRelease, openList, stepsOf, isOpen, recordedRelease, underWay, settledRecord}
 use Rattle.area.specs.Prelude.{writeRecord, writeOwnRecord, numberWords, numberAt}
