@@ -4,6 +4,7 @@ use Rattle.laws.proofs.Prelude.{ℕ, zero, suc, _+_, _<_, _≡_, refl, List, []
 use Rattle.laws.proofs.Prelude.{length}
 use Rattle.laws.proofs.Bools.{by-cond}
 use Rattle.directory.specs.declared.Directory.{Directory}
+use Rattle.directory.specs.NewHome.{evenHome}
 use Rattle.protocol.specs.Checks.{firstRefusal}
 use Rattle.protocol.specs.Result.{Result, accepted}
 use Rattle.protocol.specs.Step.{step, stepChecks}
@@ -78,7 +79,7 @@ module _ (d : Directory) (card : ℕ) where
           → StoppedAfter m (suc left) made
           (steppedTo made (step d m card .outcome) (step d m card .directory) (step d m card .memory))
       stops refused _ =
-          let kept = refused-unchanged (make-step card) d m refused in
+          let kept = refused-unchanged evenHome (make-step card) d m refused in
           record {
             more = 0;
             in-all = omega arith;

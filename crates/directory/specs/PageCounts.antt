@@ -1,6 +1,5 @@
--- Counts of pages, one for each card, kept while homes are given out: what the functions of the module `homes` do
--- with them.
--- Assumes nothing: these are definitions.
+-- Inner contracts only. Counts of pages, one for each card, kept while homes are given out: what the functions of the
+-- module `homes` do with them.
 use Rattle.laws.specs.Prelude.{ℕ, _+_, _<_, _≤_, _≡_, List, Bool, true, cond, _&&_, _||_, length, getD, set, ltb}
 use Rattle.laws.specs.Prelude.{eqb}
 use Rattle.directory.specs.Directory.{Directory, isLive}

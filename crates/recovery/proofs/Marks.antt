@@ -1,16 +1,17 @@
--- A directory with one card more marked live: it is a rack with a live card too, and a card that joins is the backup of
--- those before it.
+-- A directory with one card more marked live, as before its failure or after its join: what recovery and join write by
+-- it.
 use Rattle.laws.proofs.Prelude.{ℕ, _<_, _≡_, refl, _∙_, List, Bool, true, false, cond, ℕ-discrete, length, eqb-true}
 use lib.ListN.{length-set}
 use Rattle.laws.specs.Search.{inTurn}
 use Rattle.laws.proofs.Bools.{and-second}
 use Rattle.directory.specs.declared.Directory.{Directory}
-use Rattle.directory.specs.Directory.{isLive, backupOf, markedLive}
+use Rattle.directory.specs.Directory.{headerOf, isLive, backupOf, markedLive}
 use Rattle.directory.proofs.Changes.{live-of-marked-live, live-of-other}
-use Rattle.area.specs.Prelude.{ownRelease, writeRecord, writeOwnRecord}
+use Rattle.area.specs.Prelude.{Release, ownRelease, settledRecord, writeRecord, writeOwnRecord}
 use Rattle.protocol.specs.Release.{sizeOf}
+use Rattle.protocol.specs.Recovery.{writeFailed, writeRecords}
 use Rattle.protocol.specs.Join.{resetArea, copyDeadRecord, joinedMemory}
-use Rattle.recovery.specs.Rack.{RackIn, SomeLive, backedBy}
+use Rattle.recovery.specs.Rack.{RackIn, SomeLive, storeFailed, backedBy}
 use Rattle.recovery.proofs.Turns.{in-turn-same}
 
 module _ (d : Directory) (x : ℕ) where
@@ -36,6 +37,15 @@ module _ (d : Directory) (x : ℕ) where
           | no other ↦ live-of-other d x true (some .card) other ∙ some .up
         ];
       }
+
+  -- ---- the records after a failure, by the directory before it
+
+  pub records-by-marks : {before : Directory} {stored : List ℕ} (r : Release) (m : List ℕ) → before ≡ marked
+      → stored ≡ inTurn (storeFailed (headerOf d) x (settledRecord r)) (d .cards) m
+      → inTurn (writeOwnRecord (sizeOf d) (backedBy (d .live) before x) (backupOf d)) (d .cards) stored
+      ≡ writeRecords d x r m
+  unfolding writeRecords writeFailed writeRecord
+  records-by-marks r m is wrote = rw (is, wrote)
 
   -- ---- the memory after a join, by the directory after it
 

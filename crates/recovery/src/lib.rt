@@ -121,8 +121,9 @@ pub fn join_memory(memory: &mut [u32], directory: Directory, joining: u32)
     ensures { λ _. ⌜ now (memory .exit)
         ≡ joinedMemory directory joining (now (memory .entry)) ⌝ }
 {
+    let live = directory.live;
     let after = directory.mark_live(joining);
     joining::reset_area(memory, directory, joining);
     joining::copy_dead_records(memory, directory, joining);
-    records::write_own_records(memory, &directory.live, after, after, joining);
+    records::write_own_records(memory, &live, after, after, joining);
 }

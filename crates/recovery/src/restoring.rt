@@ -11,14 +11,7 @@ use directory::Header;
 
 // At a live home of a page, copies one half of the page to the other; at a dead one, nothing. A
 // half is named by its place in the page.
-fn copy_at_home(
-    memory: &mut [u32],
-    header: Header,
-    home: u32,
-    page: usize,
-    from: usize,
-    to: usize,
-)
+fn copy_at_home(memory: &mut [u32], header: Header, home: u32, page: usize, from: usize, to: usize)
     requires { ⌜ CardIn (header .live) (length (now memory)) (areaSize (header .pages)) home ⌝ }
     requires { ⌜ (page < header .pages) × (header .pages ≤ 64) ⌝ }
     requires { ⌜ (from + pageSize ≤ storedPageSize) × (to + pageSize ≤ storedPageSize) ⌝ }

@@ -69,8 +69,7 @@ returns c =
     let says = rw (size .area-size .ensures, next .next-live .ensures) at (read .load-record .ensures) in
     let forward = rw (size .area-size .ensures, next .next-live .ensures) at (way .under-way .ensures) in
     let pages = rw (forward, taken .header .ensures) at (restored .restore-pages .ensures) in
-    let homes = rw pages at (moved .move-homes .ensures .0) in
-    (
+    let homes = rw pages at (moved .move-homes .ensures .0) in (
       rw (moved .move-homes .ensures .1) at (c .running .ensures),
       (says .0, (says .1, rw (homes, says .0, says .1) at (written .write-records .ensures))),
     )

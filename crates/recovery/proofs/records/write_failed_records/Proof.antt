@@ -20,7 +20,7 @@ write-failed-requires c κs =
     let turn = c .before .before in
     let pre = turn .before .before .before .before .pre in
     let rack = rack-kept (pre .0) (turn .loop .inv .same) in
-    rw (turn .before .header .ensures) 
+    rw (turn .before .header .ensures)
     (rack-card rack (c .before .loop-test .taken), (rack .few, pre .1 .0, pre .1 .1))
 
 returns : tie.Need-returns Inv-loop μ-loop
