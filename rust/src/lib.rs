@@ -214,6 +214,19 @@ impl Rack {
 
     /// Recovers the card that failed. A page that lost a home gets as secondary the live card, other
     /// than its primary, that is home to the fewest pages at that moment, and of several the lowest.
+    ///
+    /// ```
+    /// use bandsawpink::{Rack, Refusal};
+    ///
+    /// let mut rack = Rack::format(4, 2)?;
+    /// assert_eq!([rack.homes(0), rack.homes(1)], [Some((0, 1)), Some((1, 2))]);
+    ///
+    /// // card 3 is home to no page, card 2 to one
+    /// rack.fail(0)?;
+    /// rack.recover()?;
+    /// assert_eq!([rack.homes(0), rack.homes(1)], [Some((1, 3)), Some((1, 2))]);
+    /// # Ok::<(), Refusal>(())
+    /// ```
     pub fn recover(&mut self) -> Result<Recovered, Refusal> {
         let words = self.memory.len();
         // SAFETY: see above.

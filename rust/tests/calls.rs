@@ -142,6 +142,28 @@ fn lost_homes_are_shared_evenly() {
     }
 }
 
+/// 64 pages on 8 cards, of which five fail one after the other: the three that stay carry 42 or 43 pages
+/// each. Of 4 cards, a page that lost its home on card 0 goes to card 3, which is home to none.
+#[test]
+fn failures_one_after_the_other_leave_even_counts() {
+    let mut rack = Rack::format(8, 64).unwrap();
+    for card in 3..8 {
+        rack.fail(card).unwrap();
+        rack.recover().unwrap();
+    }
+    let mut counts = [0; 8];
+    for (primary, secondary) in (0..64).map(|page| rack.homes(page).unwrap()) {
+        counts[primary as usize] += 1;
+        counts[secondary as usize] += 1;
+    }
+    assert_eq!(counts, [42, 43, 43, 0, 0, 0, 0, 0]);
+
+    let mut rack = Rack::format(4, 2).unwrap();
+    rack.fail(0).unwrap();
+    rack.recover().unwrap();
+    assert_eq!([rack.homes(0), rack.homes(1)], [Some((1, 3)), Some((1, 2))]);
+}
+
 #[test]
 fn refusals_of_a_desk() {
     let mut rack = rack();

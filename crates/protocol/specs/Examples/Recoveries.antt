@@ -84,7 +84,7 @@ recoveryExamples =
     -- By document 01's rule each would go to the next live card after its primary.
     ∷ computed (directoryWords (recoveredDirectory nextHome eightPages 1))
     (1 ∷ 0 ∷ 1 ∷ 1 ∷ 1 ∷ 0 ∷ 2 ∷ 2 ∷ 3 ∷ 4 ∷ 0 ∷ 2 ∷ 2 ∷ 2 ∷ 3 ∷ 3 ∷ 4 ∷ 0 ∷ 2 ∷ 3 ∷ 3 ∷ 0 ∷ [])
-    -- Four cards and two pages, card 0 failed: both pages lost their home there, and do not go to one card.
+    -- Four cards and two pages, card 0 failed: page 0 goes to card 3, which is home to none, and page 1 lost nothing.
     ∷ computed (directoryWords (recoveredDirectory evenHome (failedZero (formattedDirectory 4 2)) 0))
     (0 ∷ 1 ∷ 1 ∷ 1 ∷ 1 ∷ 1 ∷ 3 ∷ 2 ∷ 0 ∷ [])
     -- Rolled forward, each live home of each page has the tentative words in both halves, and card 2, the new home of

@@ -72,7 +72,8 @@ module _ {d : Directory} {f : ℕ} {before : List ℕ} where
   pub closed-none : Closed d f before 0 before
   closed-none = record { turned = turn-none; later = λ x _. same-own (sizeOf d) before x }
 
-  module _ (releases : ReleasesIn d before) {i : ℕ} {m : List ℕ} (far : Closed d f before i m) (below : i < d .cards) where
+  module _ (releases : ReleasesIn d before) {i : ℕ} {m : List ℕ} (far : Closed d f before i m)
+      (below : i < d .cards) where
     pub closed-good : isOpen (d .live) (sizeOf d) m i ≡ true → GoodRelease (d .pages) m i
     closed-good opened =
         let same = far .later i (omega arith) in

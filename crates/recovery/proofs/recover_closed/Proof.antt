@@ -44,7 +44,8 @@ write-records-requires : tie.Need-write-records-requires
 write-records-requires c κs =
     let moved = c .before .before .before in
     let restored = moved .before .before .before .before in
-    let read = restored .before .before .before .before .before .before .before .before .before .before .before .before in
+    let way = restored .before .before .before .before .before .before .before .before .before in
+    let read = way .before .before .before in
     let pre = read .before .before .before .before .before .before .before .before .pre in
     let same = moved .memory2 .given ∙ restored .memory .given in
     (rack-kept (pre .0) same, (some-live (pre .1 .1 .0), (pre .1 .1 .1 .0 .0, read .desk .given ∙ pre .1 .1 .1 .1)))
@@ -53,7 +54,8 @@ same-length-2 : tie.Need-same-length-2
 same-length-2 c =
     let moved = c .before .before .before .before .before .before .before in
     let restored = moved .before .before .before .before in
-    restored .before .before .before .before .before .before .before .before .before .before .before .before .desk .given
+    let way = restored .before .before .before .before .before .before .before .before .before in
+    way .before .before .before .desk .given
 
 returns : tie.Need-returns
 unfolding recoveredClosed recoveredDirectory

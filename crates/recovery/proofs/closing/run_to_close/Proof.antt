@@ -35,7 +35,7 @@ returns c =
     let opened = (rw (size .area-size .ensures) at (sym (test .before .is-open .ensures))) ∙ test .if1 .taken in
     let made = c .before .before .make-steps .ensures in
     let all = made .0 ∙ all-asked (d .pages) m (a .card) (start .pre .1 .1 .1 opened) in
-    (rw (all, says .backup .ensures) at (made .1)) ∙ close-opened d _ (a .card) m opened
+    rw (made .1, all, says .backup .ensures) (close-opened d _ (a .card) m opened)
 
 returns-2 : tie.Need-returns-2
 returns-2 c =
