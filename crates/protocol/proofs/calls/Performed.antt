@@ -18,13 +18,15 @@ pub record Performed (rule : HomeRule) (call : Call) (d : Directory) (m : List �
   pub more : List Check
   pub value : ℕ
   pub done : Result
-  pub is : performBy rule call d m ≡ resultOf (firstRefusal (fittingChecks d m ++ more) value) done d m (handedBack call)
+  pub is : performBy rule call d m
+      ≡ resultOf (firstRefusal (fittingChecks d m ++ more) value) done d m (handedBack call)
   pub same : done .outcome ≡ firstRefusal (fittingChecks d m ++ more) value
   pub numbers : numbersOf (fittingChecks d m ++ more) ≡ refusalsOf call
   pub unfit-once : isAmong (numbersOf more) unfit ≡ false
 
 -- a call by all its checks, of which the first two are 1 and 2
-by-checks : (rule : HomeRule) (call : Call) (d : Directory) (m : List ℕ) (checks : List Check) (value : ℕ) (done : Result)
+by-checks : (rule : HomeRule) (call : Call) (d : Directory) (m : List ℕ) (checks : List Check) (value : ℕ)
+    (done : Result)
     → performBy rule call d m
     ≡ resultOf (firstRefusal (fittingChecks d m ++ drop 2 checks) value) done d m (handedBack call)
     → done .outcome ≡ firstRefusal (fittingChecks d m ++ drop 2 checks) value
@@ -48,7 +50,8 @@ performed rule (open-release card r list) d m =
 performed rule (make-step card) d m = by-checks rule (make-step card) d m (stepChecks d m card) 0 _ refl refl refl refl
 performed rule (fetch-page page buffer) d m =
     by-checks rule (fetch-page page buffer) d m (fetchChecks d m page (length buffer)) 0 _ refl refl refl refl
-performed rule (fail-card card) d m = by-checks rule (fail-card card) d m (failureChecks d m card) 0 _ refl refl refl refl
+performed rule (fail-card card) d m =
+    by-checks rule (fail-card card) d m (failureChecks d m card) 0 _ refl refl refl refl
 performed rule recover d m = by-checks rule recover d m (recoveryChecks d m) _ _ refl refl refl refl
 performed rule (join-card card) d m = by-checks rule (join-card card) d m (joinChecks d m card) 0 _ refl refl refl refl
 performed rule (ask-desk card) d m = by-checks rule (ask-desk card) d m (deskChecks d m card) 0 _ refl refl refl refl

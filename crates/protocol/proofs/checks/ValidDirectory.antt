@@ -1,4 +1,4 @@
--- What a rack that passes check 2 keeps to: homes that are cards, two cards that are live, an awaited card that is dead.
+-- What a rack that passes check 2 keeps to: homes that are cards, two live cards, an awaited card that is dead.
 use Rattle.laws.proofs.Prelude.{ℕ, _<_, _≡_, List, Bool, true, false, false≢true, arith, ℕ-discrete, leb-false}
 use Rattle.laws.proofs.Prelude.{ltb-false, leb, eqb}
 use Rattle.laws.specs.Search.{someBelow, countBelow}

@@ -39,7 +39,8 @@ module _ (rule : HomeRule) (good : NamesLive rule) (d : Directory) (m : List ℕ
     where
       go : (taken : Bool) → accepted (performBy rule call d m .outcome) ≡ taken
           → (performBy rule call d m .words ≡ cond taken (modelWords s call) (handedBack call))
-          × Agrees (performBy rule call d m .directory) (performBy rule call d m .memory) (cond taken (modelChange call s) s)
+          × Agrees (performBy rule call d m .directory) (performBy rule call d m .memory)
+          (cond taken (modelChange call s) s)
       go true ok =
           let after =
           each-accepted d m (s .book) _ (agrees .rack) (model-online (agrees .beside)) rule good call typed ok in

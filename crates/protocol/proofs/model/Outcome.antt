@@ -6,8 +6,8 @@ use Rattle.area.specs.Prelude.{Release}
 use Rattle.protocol.specs.Checks.{Check, firstRefusal, fittingChecks, awaitsRecovery}
 use Rattle.protocol.specs.Result.{Result, resultOf}
 use Rattle.protocol.specs.Recovery.{failedRelease, awaitedCard}
-use Rattle.protocol.specs.Calls.{opening, step, fetch, failure, recoveryBy, join, deskQuestion, Call, open-release}
-use Rattle.protocol.specs.Calls.{make-step, fetch-page, fail-card, recover, join-card, ask-desk, performBy}
+use Rattle.protocol.specs.Calls.{opening, step, fetch, failure, recoveryBy, join, deskQuestion, Call}
+use Rattle.protocol.specs.Calls.{open-release, make-step, fetch-page, fail-card, recover, join-card, ask-desk, performBy}
 use Rattle.protocol.specs.Model.{Model, modelChecks, modelValue, modelOutcome}
 use Rattle.protocol.proofs.checks.Outcome.{SameChecks, first-agree, outcome-of, Passed}
 use Rattle.protocol.proofs.checks.ByCall.{after-two}

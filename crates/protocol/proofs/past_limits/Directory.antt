@@ -1,5 +1,6 @@
 -- What a directory says of its cards and pages is the same once the marks and homes past them are cut off.
-use Rattle.laws.proofs.Prelude.{ℕ, _<_, _≡_, refl, ap, _∙_, List, Bool, true, false, _||_, arith, decLt, le-leb, take, leb}
+use Rattle.laws.proofs.Prelude.{ℕ, _<_, _≡_, refl, ap, _∙_, List, Bool, true, false, _||_, arith, decLt, le-leb, take}
+use Rattle.laws.proofs.Prelude.{leb}
 use native.Mathlib.Nat.{le-refl}
 use lib.Seq.{getD-take, take-take}
 use Rattle.laws.proofs.Lists.{take-set}

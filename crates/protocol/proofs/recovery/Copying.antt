@@ -43,14 +43,16 @@ module _ (rule : HomeRule) (d : Directory) (f page : ℕ) (m : List ℕ) where
   copies-not whole = rw whole
 
   module _ (lost : lostHome d f page ≡ true) (fits : page < d .pages) where
-    elsewhere : {A : Type 0} (h o : ℕ) → (h ≢ newHome rule d f page) ⊎ A → (A → NotIn (pageRegion page) o) → o < sizeOf d
+    elsewhere : {A : Type 0} (h o : ℕ) → (h ≢ newHome rule d f page) ⊎ A → (A → NotIn (pageRegion page) o)
+        → o < sizeOf d
         → load (sizeOf d) (copyToNewHome rule d f page m) h o ≡ load (sizeOf d) m h o
     elsewhere h o apart known inside =
         rw (copies lost)
         (load-copy-run-outside (sizeOf d) m _ _ _ _ storedPageSize h o
         (outside (pageRegion page) apart known (omega arith) inside))
 
-    copied-low : (h o : ℕ) → o < pagesStart → load (sizeOf d) (copyToNewHome rule d f page m) h o ≡ load (sizeOf d) m h o
+    copied-low : (h o : ℕ) → o < pagesStart
+        → load (sizeOf d) (copyToNewHome rule d f page m) h o ≡ load (sizeOf d) m h o
     copied-low h o low = elsewhere h o (inr low) (λ _ here. omega arith) (omega arith)
 
     copied-elsewhere : (h p o : ℕ) → p < d .pages → o < storedPageSize → (h ≢ newHome rule d f page) ⊎ (p ≢ page)
@@ -74,7 +76,8 @@ pub record HomesCopied (rule : HomeRule) (d : Directory) (f : ℕ) (price : ℕ 
   pub same-length : length m′ ≡ length m
   pub low : (h o : ℕ) → o < pagesStart → load (sizeOf d) m′ h o ≡ load (sizeOf d) m h o
   pub stays : (h p : ℕ) → p < d .pages → BothHalves (sizeOf d) price m h p → BothHalves (sizeOf d) price m′ h p
-  pub new : (p : ℕ) → p < n → p < d .pages → lostHome d f p ≡ true → BothHalves (sizeOf d) price m′ (newHome rule d f p) p
+  pub new : (p : ℕ) → p < n → p < d .pages → lostHome d f p ≡ true
+      → BothHalves (sizeOf d) price m′ (newHome rule d f p) p
 
 module _ (rule : HomeRule) (d : Directory) (f : ℕ) (price : ℕ → ℕ) (m : List ℕ) (shape : Shape d m)
     (kept-live : (p : ℕ) → p < d .pages → lostHome d f p ≡ true → isLive d (keptHome d f p) ≡ true)

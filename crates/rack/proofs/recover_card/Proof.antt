@@ -41,8 +41,10 @@ recover-memory-requires c κs =
     let dead = rw (← failed) at (fit .awaited (passed .1)) in
     let below = dead .0 in
     let eight = fit .within .cards-most in
-    let homes = homes-in d m fit marks primaries secondaries in
-    (rack-in d m fit marks, (homes, (fit .beside, ((omega arith, dead .1), (search needs, record { good = fit .good })))))
+    let homes = homes-in d m fit marks primaries secondaries in (
+      rack-in d m fit marks,
+      (homes, (fit .beside, ((omega arith, dead .1), (search needs, record { good = fit .good })))),
+    )
 
 returns-2 : tie.Need-returns-2
 returns-2 c =

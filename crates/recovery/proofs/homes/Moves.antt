@@ -14,7 +14,7 @@ use Rattle.directory.proofs.PageCounts.{counts-right-at-first, counts-right-mov
 use Rattle.area.specs.Prelude.{copyRun, pageAt, storedPageSize}
 use Rattle.protocol.specs.Release.{sizeOf}
 use Rattle.protocol.specs.Recovery.{lostHome, keptHome, newHome, copyToNewHome, movedBelow}
-use Rattle.protocol.proofs.recovery.Homes.{Covered, MovedBelow, moved-none, moved-below, moved-turn}
+use Rattle.protocol.proofs.recovery.Homes.{SameHomes, Covered, MovedBelow, moved-none, moved-below, moved-turn}
 use Rattle.recovery.specs.Rack.{TwoLive}
 use Rattle.recovery.proofs.Turns.{Turned, turn-none, turn-more}
 
@@ -40,6 +40,10 @@ module _ {d : Directory} {f : ℕ} {before : List ℕ} {i : ℕ} {m counts : Lis
     (far : Moves d f before i m counts moved) (below : i < d .pages) (enough : Covered d) where
   pub moves-so-far : MovedBelow evenHome d f i moved
   moves-so-far = rw (far .homes) (moved-below evenHome d f enough i (omega arith))
+
+  -- the page has its homes still
+  still : SameHomes (movedBelow evenHome d f i) d i
+  still = rw (far .homes) at (moves-so-far .later i (omega arith))
 
   -- the new home of a page, chosen by the directory as it stands at the page's turn
   pub chosen-home : {kept next : ℕ} → kept ≡ keptHome d f i → next ≡ evenHome moved kept → next ≡ newHome evenHome d f i
@@ -113,8 +117,7 @@ module _ {d : Directory} {f : ℕ} {before : List ℕ} {i : ℕ} {m counts : Lis
       moves-more same copied moves counted =
           record {
             copied = turn-more (far .copied) below same (copied ∙ rw lost);
-            homes = moves
-                ∙ rw (add-one, moved-turn evenHome d f i (rw (far .homes) at (moves-so-far .later i (omega arith))), lost, ← far .homes);
+            homes = moves ∙ rw (add-one, moved-turn evenHome d f i still, lost, ← far .homes);
             long = rw counted (length-set counts new _ ∙ far .long);
             right =
                 rw (moves, counted)
@@ -128,8 +131,7 @@ module _ {d : Directory} {f : ℕ} {before : List ℕ} {i : ℕ} {m counts : Lis
   moves-same whole =
       record {
         copied = turn-more (far .copied) below refl (rw whole);
-        homes = far .homes
-            ∙ rw (add-one, moved-turn evenHome d f i (rw (far .homes) at (moves-so-far .later i (omega arith))), whole);
+        homes = far .homes ∙ rw (add-one, moved-turn evenHome d f i still, whole);
         long = far .long;
         right = far .right;
       }

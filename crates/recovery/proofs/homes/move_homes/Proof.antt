@@ -10,8 +10,8 @@ use Rattle.release.proofs.Callers.{homes-kept}
 use Rattle.recovery.proofs.Kept.{rack-kept, rack-card}
 use Rattle.recovery.proofs.Turns.{turn-all}
 use Rattle.recovery.proofs.homes.Cards.{kept-in, homes-cover}
-use Rattle.recovery.proofs.homes.Moves.{Moves, moves-none, moves-so-far, chosen-home, new-below, room, moves-more}
-use Rattle.recovery.proofs.homes.Moves.{moves-same}
+use Rattle.recovery.proofs.homes.Moves.{Moves, moves-none, moves-so-far, chosen-home, new-below, room}
+use Rattle.recovery.proofs.homes.Moves.{moves-more, moves-same}
 use Rattle.recovery.proofs.homes.move_homes.Statement.{statement}
 use Rattle.recovery.proofs.homes.move_homes.Tie as tie
 
@@ -107,8 +107,8 @@ returns c =
 pub move-homes-spec : {M : Type 1} → statement M
 move-homes-spec =
     tie.close
-    (tie.spec Inv-loop μ-loop (λ c κs. search needs) (λ c κs. c .before .before .pre .0 .few) loop-holds (λ c. omega arith)
-    (λ c. search needs) (λ c. search needs) (λ c. search needs) (λ c. search needs) (λ c κs. search needs)
+    (tie.spec Inv-loop μ-loop (λ c κs. search needs) (λ c κs. c .before .before .pre .0 .few) loop-holds
+    (λ c. omega arith) (λ c. search needs) (λ c. search needs) (λ c. search needs) (λ c. search needs) (λ c κs. search needs)
     (λ c κs. search needs) even-home-requires (λ c. search needs) (λ c. search needs) copy-page-requires
     (λ c κs. search needs) (λ c. search needs) count-home-requires (λ c. omega arith) (λ c. omega arith) loop-again
     (λ c. c .before .loop .inv .copied .same) returns)
