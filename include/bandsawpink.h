@@ -318,16 +318,17 @@ rack_answer rack_fail(const uint32_t *memory, size_t words, rack_directory *dire
 ** Recovers the card that failed: releases that are open on live cards are run to their close, the
 ** failed card's release is completed if it counted and taken back if not, and each page gets two
 ** live homes. A page whose primary failed takes its secondary as primary; one that lost a home gets
-** as secondary the live card, other than its primary, that is home to the fewest pages at that
-** moment, as primary or secondary, and of several the lowest. Pages are taken in rising order, and
-** each choice counts in the next; the other pages stay. Gives the failed card's stamp and its desk,
-** which say which of its releases was the last to count: 0 and a desk of zeros if none ever did.
-** Refusals: 1, 2, 12.
+** as secondary the live card, other than its primary, that is home, as primary or secondary, to the
+** fewest pages at that moment, and of several the one of lowest number. Pages are taken in rising
+** order, and each choice counts in the next; the other pages stay. Gives the failed card's stamp
+** and its desk, which say which of its releases was the last to count: 0 and a desk of zeros if
+** none ever did. Refusals: 1, 2, 12.
 */
 rack_desk_answer rack_recover(uint32_t *memory, size_t words, rack_directory *directory);
 
 /*
-** A dead card joins again: its memory is made anew, with its stamp and desk. Pages do not move.
+** A dead card joins again: its memory is made anew, with its stamp and desk. Pages do not move: it
+** is home to none until a later recovery gives it some.
 ** Gives 0. Refusals: 1, 2, 11, 3, 14, 15.
 */
 rack_answer rack_join(uint32_t *memory, size_t words, rack_directory *directory, uint32_t card);

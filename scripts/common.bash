@@ -178,7 +178,7 @@ prove_and_keep() ( # NAME FILE MADE
     log=out/$1.log
     crates=$(crates_of "$1" | wc -l)
     sources=$(sources_of "$1" "$2") || fail "$2 is not built: not all sources can be read"
-    say "$2 is to be built: proving $crates crates, which takes about three minutes on two cores if all are new; log: $log"
+    say "$2 is to be built: proving $crates crates, which takes about four minutes on two cores if all are new; log: $log"
     if ! "prove_$1" < /dev/null 2>&1 | show_progress "$crates" > "$log"; then
         sed '/^rt: .* NOT PROVED/q' "$log" | tail -n 20 >&2 # those above the first crate that is not proved
         fail "$2 is not built: not all is proved; log: $log"

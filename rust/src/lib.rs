@@ -213,7 +213,9 @@ impl Rack {
     }
 
     /// Recovers the card that failed. A page that lost a home gets as secondary the live card, other
-    /// than its primary, that is home to the fewest pages at that moment, and of several the lowest.
+    /// than its primary, that is home, as primary or secondary, to the fewest pages at that moment, and
+    /// of several the one of lowest number. Pages are taken in rising order, and each choice counts in
+    /// the next.
     ///
     /// ```
     /// use bandsawpink::{Rack, Refusal};

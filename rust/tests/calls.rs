@@ -142,8 +142,7 @@ fn lost_homes_are_shared_evenly() {
     }
 }
 
-/// 64 pages on 8 cards, of which five fail one after the other: the three that stay carry 42 or 43 pages
-/// each. Of 4 cards, a page that lost its home on card 0 goes to card 3, which is home to none.
+/// 64 pages on 8 cards, of which five fail one after the other: the three that stay carry 42 or 43 each.
 #[test]
 fn failures_one_after_the_other_leave_even_counts() {
     let mut rack = Rack::format(8, 64).unwrap();
@@ -157,7 +156,12 @@ fn failures_one_after_the_other_leave_even_counts() {
         counts[secondary as usize] += 1;
     }
     assert_eq!(counts, [42, 43, 43, 0, 0, 0, 0, 0]);
+}
 
+/// 2 pages on 4 cards: the home that page 0 lost on card 0 goes to card 3, which is home to none, and not to
+/// card 2, the next live card after the primary.
+#[test]
+fn a_lost_home_goes_to_the_card_that_is_home_to_no_page() {
     let mut rack = Rack::format(4, 2).unwrap();
     rack.fail(0).unwrap();
     rack.recover().unwrap();

@@ -1,31 +1,35 @@
 -- Laws of the card that becomes home to a page that lost one: what each rule names and what it goes by, and the number
 -- of a card's pages once the page has moved.
 use Rattle.laws.proofs.Prelude.{ℕ, zero, suc, _+_, _<_, _≤_, _≡_, refl, sym, ap, _∙_, _≢_, _⊎_, List, Bool, true}
-use Rattle.laws.proofs.Prelude.{false, cond, true≢false, not, _&&_, _||_, length, ltb, eqb, ℕ-discrete, decLt, arith}
+use Rattle.laws.proofs.Prelude.{false, cond, true≢false, not, _||_, length, ltb, eqb, ℕ-discrete, decLt, arith}
 use Rattle.laws.proofs.Prelude.{ne-eqb, eq-eqb, ltb-true, ltb-false, not-true, not-false}
 use mathlib.Core.Logic.{⊎-elim}
 use mathlib.Core.Bool.{or-true, or-false}
 use native.Mathlib.Nat.{add-zero}
 use Rattle.laws.specs.Search.{lowest, someBelow, countBelow}
-use Rattle.laws.proofs.Bools.{and-first, and-second, and-both, and-rest}
-use Rattle.laws.proofs.Search.{Stops, lowest-stops, lowest-agree, some-agree, count-agree, none-below, counted-few}
-use Rattle.directory.specs.Directory.{Directory, Status, liveAt, isLive, primaryOf, secondaryOf, withHomes}
-use Rattle.directory.specs.Directory.{withStatus}
-use Rattle.directory.specs.NewHome.{isHomeOf, pagesAt, mayTake, takesBelow, isFewest, fewestHome, evenHome}
+use Rattle.laws.proofs.Bools.{and-first, and-second, and-both, and-rest, and-agrees}
+use Rattle.laws.proofs.Search.{Stops, lowest-stops, lowest-agree, some-agree, count-agree, count-one-more, none-below}
+use Rattle.laws.proofs.Search.{counted-few}
+use Rattle.directory.specs.Directory.{Directory, liveAt, isLive, primaryOf, secondaryOf, withHomes}
+use Rattle.directory.specs.NewHome.{isHomeIn, pagesAt, mayTake, isFewer, isFewest, fewestHome, evenHome}
 use Rattle.directory.specs.NewHome.{nextHome, NamesLive, EvenlyShared}
 use Rattle.directory.proofs.Live.{next-live-is-live, next-live-other}
 use Rattle.directory.proofs.Changes.{primary-of-moved, secondary-of-moved, primary-of-other, secondary-of-other}
 
+-- card c is home to a page of the directory
+abbrev isHomeOf : Directory → ℕ → ℕ → Bool
+isHomeOf d c page = isHomeIn (d .primary) (d .secondary) c page
+
 -- ---- a card that may take the page
 
 module _ (marks : List Bool) (kept c : ℕ) where
-  pub may-take : liveAt marks c ≡ true → c ≢ kept → mayTake marks kept c ≡ true
+  may-take : liveAt marks c ≡ true → c ≢ kept → mayTake marks kept c ≡ true
   may-take live other = and-both (liveAt marks c) (not (eqb c kept)) live (ap not (ne-eqb c kept other))
 
   pub taker-live : mayTake marks kept c ≡ true → liveAt marks c ≡ true
   taker-live may = and-first (liveAt marks c) (not (eqb c kept)) may
 
-  pub taker-other : mayTake marks kept c ≡ true → c ≢ kept
+  taker-other : mayTake marks kept c ≡ true → c ≢ kept
   taker-other may same =
       let other = not-true (eqb c kept) (and-second (liveAt marks c) (not (eqb c kept)) may) in
       true≢false (sym (eq-eqb c kept same) ∙ other)
@@ -39,12 +43,12 @@ module _ (marks : List Bool) (cards : ℕ) (count : ℕ → ℕ) (kept : ℕ) wh
     may : mayTake marks kept c ≡ true
     less : count c < n
 
-  some-fewer : (n : ℕ) → someBelow (takesBelow marks count kept n) cards ≡ true
-      → Fewer n (lowest (takesBelow marks count kept n) cards)
+  some-fewer : (n : ℕ) → someBelow (isFewer marks count kept n) cards ≡ true
+      → Fewer n (lowest (isFewer marks count kept n) cards)
   some-fewer n some =
-      let first = lowest (takesBelow marks count kept n) cards in
+      let first = lowest (isFewer marks count kept n) cards in
       let below : first < cards = ltb-true first cards some in
-      let passes = lowest-stops (takesBelow marks count kept n) 0 cards .hit (omega arith) in
+      let passes = lowest-stops (isFewer marks count kept n) 0 cards .hit (omega arith) in
       record {
         below = below;
         may = and-first (mayTake marks kept first) (ltb (count first) n) passes;
@@ -59,7 +63,7 @@ module _ (marks : List Bool) (cards : ℕ) (count : ℕ → ℕ) (kept : ℕ) wh
   fewest-is : (c : ℕ) → isFewest marks cards count kept c ≡ true → OneOfFewest c
   unfolding isFewest
   fewest-is c fewest =
-      let test = takesBelow marks count kept (count c) in
+      let test = isFewer marks count kept (count c) in
       let none = and-second (mayTake marks kept c) (not (someBelow test cards)) fewest in
       record {
         may = and-first (mayTake marks kept c) (not (someBelow test cards)) fewest;
@@ -70,10 +74,10 @@ module _ (marks : List Bool) (cards : ℕ) (count : ℕ → ℕ) (kept : ℕ) wh
 
   -- a card that may take the page is one of the fewest, or another has fewer
   not-fewest : (c : ℕ) → mayTake marks kept c ≡ true → isFewest marks cards count kept c ≡ false
-      → Fewer (count c) (lowest (takesBelow marks count kept (count c)) cards)
+      → Fewer (count c) (lowest (isFewer marks count kept (count c)) cards)
   unfolding isFewest
   not-fewest c may other =
-      let some = someBelow (takesBelow marks count kept (count c)) cards in
+      let some = someBelow (isFewer marks count kept (count c)) cards in
       some-fewer (count c) (not-false some (and-rest (mayTake marks kept c) (not some) may other))
 
   -- where none is one of the fewest, none may take the page: for each that may, another that may has fewer
@@ -142,11 +146,6 @@ module _ (marks : List Bool) (cards : ℕ) (count : ℕ → ℕ) (kept : ℕ) wh
 
 -- ---- what the rule goes by
 
--- two conjunctions, where the second parts agree if the first part holds
-and-agrees : (a b x y : Bool) → a ≡ b → (a ≡ true → x ≡ y) → (a && x) ≡ (b && y)
-and-agrees true b x y same agree = rw (← same) (agree refl)
-and-agrees false b x y same agree = rw (← same)
-
 -- by marks and counts: the marks below the cards, and the counts of those that may take the page
 module _ (marks marks′ : List Bool) (cards : ℕ) (count count′ : ℕ → ℕ) (kept : ℕ)
     (alike : (c : ℕ) → c < cards → liveAt marks c ≡ liveAt marks′ c)
@@ -155,9 +154,9 @@ module _ (marks marks′ : List Bool) (cards : ℕ) (count count′ : ℕ → �
   may-take-agrees c below = rw (alike c below)
 
   fewer-agrees : (n n′ : ℕ) → n ≡ n′
-      → someBelow (takesBelow marks count kept n) cards ≡ someBelow (takesBelow marks′ count′ kept n′) cards
+      → someBelow (isFewer marks count kept n) cards ≡ someBelow (isFewer marks′ count′ kept n′) cards
   fewer-agrees n n′ e =
-      some-agree (takesBelow marks count kept n) (takesBelow marks′ count′ kept n′) cards
+      some-agree (isFewer marks count kept n) (isFewer marks′ count′ kept n′) cards
       (λ c below. and-agrees _ _ _ _ (may-take-agrees c below) (λ may. rw (same c below may, e)))
 
   pub fewest-home-agrees : fewestHome marks cards count kept ≡ fewestHome marks′ cards count′ kept
@@ -172,7 +171,7 @@ module _ (marks marks′ : List Bool) (cards : ℕ) (count count′ : ℕ → �
 home-agrees : (a a′ b b′ c : ℕ) → a ≡ a′ → b ≡ b′ → (eqb a c || eqb b c) ≡ (eqb a′ c || eqb b′ c)
 home-agrees a a′ b b′ c first second = rw (first, second)
 
-pub pages-at-agrees : (d e : Directory) (c : ℕ) → d .pages ≡ e .pages
+pages-at-agrees : (d e : Directory) (c : ℕ) → d .pages ≡ e .pages
     → ((page : ℕ) → page < d .pages → primaryOf d page ≡ primaryOf e page)
     → ((page : ℕ) → page < d .pages → secondaryOf d page ≡ secondaryOf e page)
     → pagesAt d c ≡ pagesAt e c
@@ -194,30 +193,11 @@ even-home-agrees d e kept cards pages live primary secondary =
     (λ c below may. pages-at-agrees d e c pages primary secondary)
     ∙ ap (λ (n : ℕ). fewestHome (e .live) n (pagesAt e) kept) cards
 
--- and not the status
-pub even-home-of-status : (d : Directory) (status : Status) (kept : ℕ)
-    → evenHome (withStatus d status) kept ≡ evenHome d kept
-even-home-of-status d status kept =
-    even-home-agrees (withStatus d status) d kept refl refl (λ c below. refl) (λ page below. refl) (λ page below. refl)
-
 -- ---- the number of a card's pages after a page has moved
 
 pages-at-few : (d : Directory) (c : ℕ) → pagesAt d c ≤ d .pages
 unfolding pagesAt
 pages-at-few d c = counted-few {test = isHomeOf d c} {n = d .pages} (record { upto = omega arith; is = refl })
-
--- tests that agree but at i, which only the second passes
-count-one-more : (test test′ : ℕ → Bool) (n i : ℕ) → i < n → test i ≡ false → test′ i ≡ true
-    → ((j : ℕ) → j ≢ i → test′ j ≡ test j) → countBelow test′ n ≡ countBelow test n + 1
-unfolding countBelow
-count-one-more test test′ zero i below fail pass agree = absurd (omega arith)
-count-one-more test test′ (suc n) i below fail pass agree =
-    elim (ℕ-discrete n i) [
-      | yes same ↦
-          rw (same, fail, pass) (omega (arith, count-agree test′ test i (λ j h. agree j (omega arith))))
-      | no other ↦
-          rw (agree n other) (omega (arith, count-one-more test test′ n i (omega arith) fail pass agree))
-    ]
 
 -- a page's homes, in either order: f, which it lost, and the one that it keeps
 abbrev pub Keeps : Directory → ℕ → ℕ → ℕ → Type 0
@@ -249,7 +229,7 @@ module _ (d : Directory) (page f kept new : ℕ) (below : page < d .pages)
       (secondary-of-other d page kept new other apart)
 
   -- it counts for its new home
-  pub pages-at-new : new ≢ f → new ≢ kept → pagesAt (withHomes d page kept new) new ≡ pagesAt d new + 1
+  pages-at-new : new ≢ f → new ≢ kept → pagesAt (withHomes d page kept new) new ≡ pagesAt d new + 1
   unfolding pagesAt
   pages-at-new not-lost not-kept =
       count-one-more (isHomeOf d new) (isHomeOf (withHomes d page kept new) new) (d .pages) page below
@@ -263,7 +243,7 @@ module _ (d : Directory) (page f kept new : ℕ) (below : page < d .pages)
       omega (arith, pages-at-few (withHomes d page kept new) new, pages-at-new not-lost not-kept)
 
   -- and as before for every other card but f
-  pub pages-at-others : (c : ℕ) → c ≢ f → c ≢ new → pagesAt (withHomes d page kept new) c ≡ pagesAt d c
+  pages-at-others : (c : ℕ) → c ≢ f → c ≢ new → pagesAt (withHomes d page kept new) c ≡ pagesAt d c
   unfolding pagesAt
   pages-at-others c not-lost not-new =
       count-agree (isHomeOf (withHomes d page kept new) c) (isHomeOf d c) (d .pages) at

@@ -21,7 +21,7 @@ use Rattle.directory.proofs.NewHome.{pages-at-moved}
 
 -- ---- one page more
 
-pub one-more-at : (counts : List ℕ) (home c : ℕ) → c < length counts
+one-more-at : (counts : List ℕ) (home c : ℕ) → c < length counts
     → countAt (oneMore counts home) c ≡ countAt counts c + cond (eqb home c) 1 0
 one-more-at counts home c within =
     elim (ℕ-discrete c home) [

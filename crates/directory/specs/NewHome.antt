@@ -19,9 +19,6 @@ isHomeIn primary secondary c page = eqb (getD primary page 0) c || eqb (getD sec
 abbrev pub pagesIn : List ℕ → List ℕ → ℕ → ℕ → ℕ
 pagesIn primary secondary pages c = countBelow (isHomeIn primary secondary c) pages
 
-abbrev pub isHomeOf : Directory → ℕ → ℕ → Bool
-isHomeOf d c page = isHomeIn (d .primary) (d .secondary) c page
-
 unfoldable pub pagesAt : Directory → ℕ → ℕ
 pagesAt d c = pagesIn (d .primary) (d .secondary) (d .pages) c
 
@@ -29,14 +26,14 @@ pagesAt d c = pagesIn (d .primary) (d .secondary) (d .pages) c
 abbrev pub mayTake : List Bool → ℕ → ℕ → Bool
 mayTake marks kept c = liveAt marks c && not (eqb c kept)
 
--- and home to fewer pages than n; `count` is the number of each card's pages
-abbrev pub takesBelow : List Bool → (ℕ → ℕ) → ℕ → ℕ → ℕ → Bool
-takesBelow marks count kept n c = mayTake marks kept c && ltb (count c) n
+-- such a card that is home to fewer pages than n; `count` is the number of each card's pages
+abbrev pub isFewer : List Bool → (ℕ → ℕ) → ℕ → ℕ → ℕ → Bool
+isFewer marks count kept n c = mayTake marks kept c && ltb (count c) n
 
 -- one of those that are home to the fewest
 unfoldable pub isFewest : List Bool → ℕ → (ℕ → ℕ) → ℕ → ℕ → Bool
 isFewest marks cards count kept c =
-    mayTake marks kept c && not (someBelow (takesBelow marks count kept (count c)) cards)
+    mayTake marks kept c && not (someBelow (isFewer marks count kept (count c)) cards)
 
 -- the lowest of them; `cards` if there is none
 abbrev pub fewestHome : List Bool → ℕ → (ℕ → ℕ) → ℕ → ℕ
@@ -64,8 +61,8 @@ pub record NamesLive (rule : HomeRule) : Type 0 where
   pub live : (d : Directory) (kept : ℕ) → Another d kept → isLive d (rule d kept) ≡ true
   pub differs : (d : Directory) (kept : ℕ) → Another d kept → rule d kept ≢ kept
 
--- The card that is named beside the kept home: it exists, is live and another, no live card but the kept home is home
--- to fewer pages, and none of lower number to as few.
+-- What is claimed of the named card: the rack has it, it is live, and it is not the kept home; no live card but the
+-- kept home is home to fewer pages, and none of lower number to as few.
 pub record Fewest (d : Directory) (kept named : ℕ) : Type 0 where
   pub below : named < d .cards
   pub live : isLive d named ≡ true

@@ -32,7 +32,7 @@ fn count_page(counts: &mut [u32], primary: u32, secondary: u32)
 }
 
 // The number of pages that each card is home to, over homes that are lent.
-pub fn count_homes(primary: &[u32], secondary: &[u32], pages: u32) -> [u32; 8]
+fn count_homes(primary: &[u32], secondary: &[u32], pages: u32) -> [u32; 8]
     requires { ⌜ PagesWithin pages (now primary) (now secondary) ⌝ }
     ensures { λ r. ⌜ r ≡ table (pagesIn (now (primary .entry)) (now (secondary .entry)) pages) 8 ⌝ }
 {
@@ -72,7 +72,7 @@ fn fewer_of(live: &[bool], counts: &[u32], cards: u32, kept: u32, found: u32, ca
 
 // The live card other than `kept` whose count is the least, the lowest number on a tie, or `cards`
 // if there is none; over marks and counts that are lent.
-pub fn fewest_home(live: &[bool], counts: &[u32], cards: u32, kept: u32) -> u32
+fn fewest_home(live: &[bool], counts: &[u32], cards: u32, kept: u32) -> u32
     requires { ⌜ (cards ≤ length (now live)) × (cards ≤ length (now counts)) ⌝ }
     ensures { λ r. ⌜ r
         ≡ fewestHome (now (live .entry)) cards (countAt (now (counts .entry))) kept ⌝ }

@@ -58,9 +58,8 @@ fn first_live(marks: &[bool], from: u32, cards: u32) -> u32
     cards
 }
 
-// The next live card after `card`, over marks that are lent: loops use this and not the method,
-// which copies a directory.
-pub fn next_live_after(marks: &[bool], cards: u32, card: u32) -> u32
+// The next live card after `card`, over marks that are lent.
+fn next_live_after(marks: &[bool], cards: u32, card: u32) -> u32
     ensures { λ r. ⌜ r ≡ nextLive (now (marks .entry)) cards card ⌝ }
 {
     if card < cards {

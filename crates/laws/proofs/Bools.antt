@@ -24,3 +24,8 @@ and-rest a b first e = rw first at e
 pub neither : (a b : Bool) → a || b ≡ false → (a ≡ false) × (b ≡ false)
 neither true b e = absurd (true≢false e)
 neither false b e = (refl, e)
+
+-- two conjunctions, where the second parts agree if the first part holds
+pub and-agrees : (a b x y : Bool) → a ≡ b → (a ≡ true → x ≡ y) → (a && x) ≡ (b && y)
+and-agrees true b x y same agree = rw (← same) (agree refl)
+and-agrees false b x y same agree = rw (← same)

@@ -43,6 +43,19 @@ module _ (test test′ : ℕ → Bool) where
   count-agree zero agree = refl
   count-agree (suc n) agree = rw (agree n (omega arith), count-agree n (λ i below. agree i (omega arith)))
 
+-- tests that agree but at i, which only the second passes
+pub count-one-more : (test test′ : ℕ → Bool) (n i : ℕ) → i < n → test i ≡ false → test′ i ≡ true
+    → ((j : ℕ) → j ≢ i → test′ j ≡ test j) → countBelow test′ n ≡ countBelow test n + 1
+unfolding countBelow
+count-one-more test test′ zero i below fail pass agree = absurd (omega arith)
+count-one-more test test′ (suc n) i below fail pass agree =
+    elim (ℕ-discrete n i) [
+      | yes same ↦
+          rw (same, fail, pass) (omega (arith, count-agree test′ test i (λ j h. agree j (omega arith))))
+      | no other ↦
+          rw (agree n other) (omega (arith, count-one-more test test′ n i (omega arith) fail pass agree))
+    ]
+
 -- tests that agree everywhere
 pub lowest-same : (test test′ : ℕ → Bool) → ((i : ℕ) → test i ≡ test′ i) → (i n : ℕ)
     → lowestFrom test i n ≡ lowestFrom test′ i n

@@ -9,20 +9,20 @@ use Rattle.protocol.specs.Calls.{Call, formatting}
 use Rattle.protocol.specs.Demand3.{offlineAfter, Interference, Event, Typed, answerTo}
 
 -- a rack between two calls
-pub record Between : Type 0 where
+pub record RackState : Type 0 where
   pub directory : Directory
   -- the memory that the last call left
   pub left : List ℕ
   pub offline : ℕ → Bool
 
 -- as formatting leaves it
-abbrev pub formattedRack : List ℕ → ℕ → ℕ → Between
+abbrev pub formattedRack : List ℕ → ℕ → ℕ → RackState
 formattedRack m cards pages =
     let result : Result = formatting m cards pages in
     record { directory = result .directory; left = result .memory; offline = λ card. false }
 
 -- and after a call
-abbrev pub afterCall : HomeRule → Between → Event → Between
+abbrev pub afterCall : HomeRule → RackState → Event → RackState
 afterCall rule rack e =
     let result : Result = answerTo rule (rack .directory) e in
     record {
@@ -43,11 +43,11 @@ first e = record { call = e .call; found = e .found }
 abbrev pub second : TwoEvents → Event
 second e = record { call = e .call; found = e .found′ }
 
-abbrev pub Undisturbed : Between → List ℕ → Type 0
+abbrev pub Undisturbed : RackState → List ℕ → Type 0
 Undisturbed rack found = Interference (rack .directory) (rack .offline) (rack .left) found
 
 -- at each call: the same number, place and value, and the same words of a page or a desk
-unfoldable pub SameAnswers : HomeRule → HomeRule → Between → Between → List TwoEvents → Type 0
+unfoldable pub SameAnswers : HomeRule → HomeRule → RackState → RackState → List TwoEvents → Type 0
 SameAnswers rule rule′ rack rack′ [] = Unit {0}
 SameAnswers rule rule′ rack rack′ (e ∷ es) =
     let result : Result = answerTo rule (rack .directory) (first e) in

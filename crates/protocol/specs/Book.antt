@@ -1,7 +1,7 @@
--- The book (document 01, "The book of demand 3"): the reference model of the rack. It is told each call and whether it
--- was accepted; it sees neither memory nor directory nor an answer.
+-- The book (document 01, "The book of demand 3"). It is told each call and whether it was accepted; it sees neither
+-- memory nor directory nor an answer.
 -- Assumes nothing: these are definitions.
-use Rattle.laws.specs.Prelude.{ℕ, suc, List, Bool, cond, length, ltb, eqb}
+use Rattle.laws.specs.Prelude.{ℕ, suc, List, [], Bool, cond, length, ltb, eqb}
 use Rattle.laws.specs.Search.{inTurn}
 use Rattle.area.specs.Prelude.{zeros, deskSize, Release}
 use Rattle.diff.specs.declared.Price.{Price}
@@ -43,6 +43,11 @@ update f card a other = cond (eqb other card) a (f other)
 -- the prices of a list; a rack has at most 64 pages
 abbrev pub listPrices : List ℕ → List Price
 listPrices list = pricesOf 64 list
+
+-- the prices of an open release; none, where none is open
+abbrev pub pricesIn : Opened → List Price
+pricesIn none = []
+pricesIn (opened r list steps) = listPrices list
 
 -- ---- what accepted calls do to it
 

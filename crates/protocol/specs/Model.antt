@@ -1,8 +1,9 @@
--- The reference model of the whole rack: the book, and beside it the cards and pages, which cards are live, and the
--- card whose recovery is awaited. It has no memory, no homes and no records. Each call's checks, its answer and its
--- change stand here over that state; document 01, "What the rack refuses, by who caused it", has the same order.
+-- The reference model of the whole rack: the book, and beside it the cards and pages, which cards are live, the card
+-- whose recovery is awaited, and what each card told before its open release. It has no memory, no homes and no records.
+-- Each call's checks, its answer and its change stand here over that state; document 01, "What the rack refuses, by who
+-- caused it", has the same order.
 -- Assumes nothing: these are definitions.
-use Rattle.laws.specs.Prelude.{ℕ, _+_, List, [], _∷_, _++_, Bool, true, false, cond, not, _&&_, _||_, length, ltb, leb}
+use Rattle.laws.specs.Prelude.{ℕ, _+_, _*_, List, [], _∷_, _++_, Bool, true, false, cond, not, _&&_, _||_, length, ltb, leb}
 use Rattle.laws.specs.Prelude.{eqb}
 use Rattle.laws.specs.Search.{lowest, someBelow, countBelow}
 use Rattle.answer.specs.declared.Outcome.{Outcome}
@@ -12,17 +13,14 @@ use Rattle.answer.specs.Outcome.{joinWhileOpen}
 use Rattle.directory.specs.declared.Status.{Status}
 use Rattle.directory.specs.declared.Status.the-variants.{Running, Awaiting}
 use Rattle.area.specs.Prelude.{pageSize, Release}
-use Rattle.diff.specs.declared.Price.{Price}
-use Rattle.diff.specs.Prices.{pricesOf}
+use Rattle.diff.specs.Prices.{pricesOf, names}
 use Rattle.diff.specs.Reading.{checkDiff}
 use Rattle.protocol.specs.Release.{countsAt}
 use Rattle.protocol.specs.Checks.{Check, check, checkAt, firstRefusal, awaitsRecovery}
 use Rattle.protocol.specs.Result.{accepted}
-use Rattle.protocol.specs.Opening.{shareWord}
-use Rattle.protocol.specs.Fetch.{namesPage}
 use Rattle.protocol.specs.Calls.{Call, open-release, make-step, fetch-page, fail-card, recover, join-card}
 use Rattle.protocol.specs.Calls.{ask-desk}
-use Rattle.protocol.specs.Book.{Opened, none, opened, listPrices, Book, newBook, update, transition}
+use Rattle.protocol.specs.Book.{Opened, none, opened, listPrices, pricesIn, Book, newBook, update, transition}
 use Rattle.protocol.specs.Demand1.{handedBack}
 use Rattle.protocol.specs.Demand3.{pageIn}
 
@@ -41,26 +39,27 @@ abbrev pub isOpened : Opened → Bool
 isOpened none = false
 isOpened (opened r list steps) = true
 
--- a word of a list also stands in an open release
-abbrev pub sharesOpened : List Price → Opened → Bool
-sharesOpened prices none = false
-sharesOpened prices (opened r list steps) = shareWord (listPrices list) prices
-
--- an open release already counts, and prices a word of the page
-abbrev pub movesPage : ℕ → Opened → Bool
-movesPage page none = false
-movesPage page (opened r list steps) =
-    leb (countsAt (length (listPrices list))) steps && namesPage (listPrices list) page
+-- an open release that already counts
+abbrev pub counts : Opened → Bool
+counts none = false
+counts (opened r list steps) = leb (countsAt (length (listPrices list))) steps
 
 module _ (s : Model) where
   abbrev openOn : ℕ → Bool
   openOn card = isOpened (s .book .release card)
 
-  abbrev inUse : ℕ → List ℕ → ℕ → Bool
-  inUse card list other = not (eqb other card) && sharesOpened (pricesOf (s .pages) list) (s .book .release other)
+  -- both price a label, the list and the open release of another card
+  abbrev pub inUse : ℕ → List ℕ → ℕ → Bool
+  inUse card list other =
+      not (eqb other card)
+      && someBelow (λ label. names (pricesIn (s .book .release other)) label && names (pricesOf (s .pages) list) label)
+      (32 * s .pages)
 
-  abbrev moving : ℕ → ℕ → Bool
-  moving page card = movesPage page (s .book .release card)
+  -- a card's open release counts already, and prices a word of the page
+  abbrev pub moving : ℕ → ℕ → Bool
+  moving page card =
+      counts (s .book .release card)
+      && someBelow (λ word. names (pricesIn (s .book .release card)) (32 * page + word)) pageSize
 
   -- ---- checks, in order: 1 and 2 always pass
 
@@ -74,6 +73,7 @@ module _ (s : Model) where
   liveCard card = running ++ check (leb (s .cards) card || not (s .live card)) noCard ∷ []
 
   unfoldable pub modelChecks : Call → List Check
+  -- 11, 3, 4, 5, 6, 7, 8
   modelChecks (open-release card r list) =
       liveCard card
       ++ check (openOn card) releaseOpen
@@ -82,17 +82,23 @@ module _ (s : Model) where
       ∷ checkAt (ltb 0 (checkDiff (s .pages) list .number)) faultyList (checkDiff (s .pages) list .value)
       ∷ checkAt (someBelow (inUse card list) (s .cards)) wordInUse (lowest (inUse card list) (s .cards))
       ∷ []
+  -- 11, 3, 16
   modelChecks (make-step card) = liveCard card ++ check (not (openOn card)) noneOpen ∷ []
+  -- 11, 9, 10, 17
   modelChecks (fetch-page page buffer) =
       running
       ++ check (leb (s .pages) page) noPage
       ∷ checkAt (someBelow (moving page) (s .cards)) pageInMotion (lowest (moving page) (s .cards))
       ∷ check (not (eqb (length buffer) pageSize)) wrongBuffer
       ∷ []
+  -- 11, 3, 13
   modelChecks (fail-card card) = liveCard card ++ check (leb (countBelow (s .live) (s .cards)) 2) twoLive ∷ []
+  -- 12
   modelChecks recover = check (not (awaitsRecovery (s .status))) noneAwaited ∷ []
+  -- 11, 3, 14, 15
   modelChecks (join-card card) =
       anyCard card ++ check (s .live card) cardLive ∷ check (someBelow openOn (s .cards)) joinWhileOpen ∷ []
+  -- 11, 3
   modelChecks (ask-desk card) = anyCard card
 
   -- ---- the answer of an accepted call: a value, and words

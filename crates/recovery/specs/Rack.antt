@@ -22,9 +22,9 @@ pub record SomeLive (d : Directory) : Type 0 where
   pub below : card < d .cards
   pub up : isLive d card ≡ true
 
--- two live cards, as a rack has that passed its checks: beside any card another
-abbrev pub TwoLive : Directory → Type 0
-TwoLive d = (c : ℕ) → Another d c
+-- beside any card another that is live, since a rack that passed its checks has two
+abbrev pub LiveBeside : Directory → Type 0
+LiveBeside d = (c : ℕ) → Another d c
 
 -- a card that failed: it is dead
 abbrev pub FailedIn : Directory → ℕ → Type 0

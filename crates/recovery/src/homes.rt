@@ -2,7 +2,7 @@
 ghost use Rattle.laws.specs.Prelude.{_≡_, cond, _||_, length, eqb};
 ghost use Rattle.directory.specs.NewHome.{evenHome};
 ghost use Rattle.protocol.specs.Recovery.{copyToNewHomes, movedBelow};
-ghost use Rattle.recovery.specs.Rack.{RackIn, TwoLive, FailedIn, HomesOf};
+ghost use Rattle.recovery.specs.Rack.{RackIn, LiveBeside, FailedIn, HomesOf};
 use directory::Directory;
 
 // Whether a home of a page failed.
@@ -30,7 +30,7 @@ fn kept_home(primary: u32, secondary: u32, failed: u32) -> u32
 pub(crate) fn move_homes(memory: &mut [u32], directory: Directory, failed: u32) -> Directory
     requires { ⌜ RackIn directory (length (now memory)) ⌝ }
     requires { ⌜ HomesOf directory (length (now memory)) ⌝ }
-    requires { ⌜ TwoLive directory ⌝ }
+    requires { ⌜ LiveBeside directory ⌝ }
     requires { ⌜ FailedIn directory failed ⌝ }
     ensures memory { λ _. ⌜ now (memory .exit)
         ≡ copyToNewHomes evenHome directory failed (now (memory .entry)) ⌝ }

@@ -8,7 +8,7 @@ ghost use Rattle.area.specs.Prelude.{deskSize};
 ghost use Rattle.protocol.specs.Recovery.{failedRelease, recoveredMemory, recoveredDirectory};
 ghost use Rattle.protocol.specs.Join.{joinedMemory};
 ghost use Rattle.recovery.specs.Closing.{ReleasesIn, recordOf, recoveredClosed};
-ghost use Rattle.recovery.specs.Rack.{RackIn, SomeLive, TwoLive, FailedIn, HomesOf};
+ghost use Rattle.recovery.specs.Rack.{RackIn, SomeLive, LiveBeside, FailedIn, HomesOf};
 use directory::Directory;
 use directory::Status;
 
@@ -53,7 +53,7 @@ fn recover_closed(
 ) -> Recovered
     requires { ⌜ RackIn directory (length (now memory)) ⌝ }
     requires { ⌜ HomesOf directory (length (now memory)) ⌝ }
-    requires { ⌜ TwoLive directory ⌝ }
+    requires { ⌜ LiveBeside directory ⌝ }
     requires { ⌜ FailedIn directory failed ⌝ }
     requires { ⌜ length (now desk) ≡ deskSize ⌝ }
     ensures directory { λ r. ⌜ r .directory ≡ recoveredDirectory evenHome directory failed ⌝ }
@@ -96,7 +96,7 @@ pub fn recover_memory(
 ) -> Recovered
     requires { ⌜ RackIn directory (length (now memory)) ⌝ }
     requires { ⌜ HomesOf directory (length (now memory)) ⌝ }
-    requires { ⌜ TwoLive directory ⌝ }
+    requires { ⌜ LiveBeside directory ⌝ }
     requires { ⌜ FailedIn directory failed ⌝ }
     requires { ⌜ length (now desk) ≡ deskSize ⌝ }
     requires { ⌜ ReleasesIn directory (now memory) ⌝ }

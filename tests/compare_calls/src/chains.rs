@@ -6,8 +6,10 @@ use crate::call::{Call, Reply};
 use crate::lists;
 use crate::seen::Seen;
 use crate::with_book::WithBook;
+use bandsawpink_sys::refusals::TWO_LIVE;
 use random::Random;
 use second::layout::{area_mut, area_words};
+use second::Answer;
 
 struct Chain<'a> {
     both: WithBook,
@@ -31,7 +33,7 @@ pub fn compare(random: &mut Random, at: u64, seen: &mut Seen) -> Result<u64, Str
 }
 
 impl Chain<'_> {
-    /// Gives how many calls were made; the last one is a failure with two live.
+    /// Gives how many calls were made; the last one is a failure with two live, which must be refused as such.
     fn run(mut self) -> Result<u64, String> {
         while self.both.live_cards().len() > 2 {
             self.open_releases()?;
@@ -41,9 +43,12 @@ impl Chain<'_> {
                 self.accepted(&Call::Join { card })?;
             }
         }
-        let card = self.live_card();
-        self.call(&Call::Fail { card })?;
-        Ok(self.calls)
+        let last = Call::Fail { card: self.live_card() };
+        let reply = self.call(&last)?;
+        match reply.answer {
+            Answer::Refused(TWO_LIVE, _) => Ok(self.calls),
+            _ => Err(format!("{last:?}: {reply:?}")),
+        }
     }
 
     fn call(&mut self, call: &Call) -> Result<Reply, String> {

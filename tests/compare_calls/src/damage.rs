@@ -198,8 +198,9 @@ fn damage_directory(random: &mut Random, directory: &mut Directory) {
     }
 }
 
-/// Any homes that fit, of some of the cards that may be one: so cards may be home to many pages, to few or to none, or
-/// to as many as others. The pages get any words, so that it shows which are copied. Then one of these cards may fail.
+/// Homes that pass check 2, on some of the cards that may be homes: so cards may be home to many pages, to few or to
+/// none, or to as many as others. The pages get any words, so that it shows which are copied. Then one of these cards
+/// may fail.
 fn put_homes(random: &mut Random, memory: &mut [u32], directory: &mut Directory) {
     let may_be_home = |card: &u32| !is_dead(directory, *card) || directory.status == Status::Awaiting(*card);
     let mut homes: Vec<u32> = (0..directory.cards.min(8)).filter(may_be_home).collect();

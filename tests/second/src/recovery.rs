@@ -93,12 +93,19 @@ fn move_homes(memory: &mut [u32], directory: &mut Directory, failed: u32) {
 /// to the fewest pages at that moment, lowest number on a tie". There is one, as two
 /// cards are live.
 fn new_home(directory: &Directory, counts: &PageCounts, primary: u32) -> u32 {
+    if cfg!(feature = "wrong_next_live_home") {
+        return directory.next_live(primary);
+    }
+    let pages_of = |card| match cfg!(feature = "wrong_primaries_alone") {
+        true => (0..directory.pages).filter(|&page| directory.primary_of(page) == card).count() as u32,
+        false => counts[card as usize],
+    };
     let on_a_tie = |card| match cfg!(feature = "wrong_tie") {
         true => directory.cards - card,
         false => card,
     };
     let others = directory.live_cards().filter(|&card| card != primary);
-    others.min_by_key(|&card| (counts[card as usize], on_a_tie(card))).unwrap_or(primary)
+    others.min_by_key(|&card| (pages_of(card), on_a_tie(card))).unwrap_or(primary)
 }
 
 /// Copies both copies of a page from its primary to its secondary.

@@ -37,11 +37,6 @@ update-update f c a a′ =
 
 -- ---- an open release
 
--- its prices
-abbrev pub pricesIn : Opened → List Price
-pricesIn none = []
-pricesIn (opened r list steps) = listPrices list
-
 -- a release with a desk of eight words
 abbrev pub EightWords : Opened → Type 0
 EightWords none = Unit {0}

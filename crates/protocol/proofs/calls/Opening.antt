@@ -12,11 +12,10 @@ use Rattle.diff.proofs.Prices.{names-none}
 use Rattle.diff.proofs.OnlyDiff.{allowed-few}
 use Rattle.protocol.specs.Release.{sizeOf}
 use Rattle.protocol.specs.Opening.{shareWord, sharesWith, openMemory, opening, openingChecks}
-use Rattle.protocol.specs.Book.{Opened, none, opened, listPrices, Book, setOpen, transition}
+use Rattle.protocol.specs.Book.{Opened, none, opened, listPrices, Book, setOpen, transition, pricesIn}
 use Rattle.protocol.specs.Calls.{open-release}
 use Rattle.protocol.specs.Result.{accepted}
 use Rattle.protocol.specs.Demand3.{offlineAfter, Conforms}
-use Rattle.protocol.proofs.book.Changes.{pricesIn}
 use Rattle.protocol.proofs.invariant.Core.{OpenStands}
 use Rattle.protocol.proofs.release.Opening.{stored-prices}
 use Rattle.protocol.proofs.invariant.Opening.{open-core}
@@ -26,7 +25,7 @@ use Rattle.protocol.proofs.invariant.Running.{stands-open, is-open, non
 use Rattle.protocol.proofs.calls.Accepted.{AcceptedCall, accepted-by-checks, running-if-passed}
 
 -- lists that share no word
-unshared-names : (ps others : List Price) (label : ℕ) → shareWord ps others ≡ false → names others label ≡ true
+pub unshared-names : (ps others : List Price) (label : ℕ) → shareWord ps others ≡ false → names others label ≡ true
     → names ps label ≡ false
 unfolding shareWord names
 unshared-names [] others label apart named = refl

@@ -9,9 +9,9 @@ use Rattle.diff.specs.declared.Price.{Price}
 use Rattle.diff.specs.Prices.{names, appliedAt}
 use Rattle.diff.proofs.Prices.{names-none, applied-none}
 use Rattle.protocol.specs.Release.{Write, sizeOf}
-use Rattle.protocol.specs.Book.{Opened, none, update}
+use Rattle.protocol.specs.Book.{Opened, none, update, pricesIn}
 use Rattle.protocol.proofs.release.WordAfter.{wordAfter, word-after-none, HomeOf}
-use Rattle.protocol.proofs.book.Changes.{pricesIn, EightWords, update-same, update-other}
+use Rattle.protocol.proofs.book.Changes.{EightWords, update-same, update-other}
 
 -- no card but c names the label in its open release
 abbrev pub Unshared : (ℕ → Opened) → ℕ → ℕ → Type 0

@@ -12,13 +12,13 @@ use Rattle.diff.specs.Prices.{names, appliedAt}
 use Rattle.diff.proofs.Prices.{applied-none, applied-unnamed}
 use Rattle.diff.proofs.Stored.{OnPages, prices-on-pages}
 use Rattle.protocol.specs.Release.{Write, writeOf, priceWrites, runWrites, releaseWrites, countsAt}
-use Rattle.protocol.specs.Book.{Opened, none, opened, listPrices}
+use Rattle.protocol.specs.Book.{Opened, none, opened, listPrices, pricesIn}
 use Rattle.protocol.proofs.release.Writes.{length-writes, length-price-writes, length-run-writes}
 use Rattle.protocol.proofs.release.WordAfter.{wordAfter, word-after-none, word-after-first, word-after-append}
 use Rattle.protocol.proofs.release.WordAfter.{word-after-miss, written, writtenRegion, Misses, misses-none, misses-more}
 use Rattle.protocol.proofs.release.WordAfter.{misses-append, misses-drop, run-misses, prices-miss, unnamed-miss}
 use Rattle.protocol.proofs.release.WordAfter.{word-after-prices, HomeOf}
-use Rattle.protocol.proofs.book.Changes.{pricesIn, EightWords, uncounted, uncounted-none}
+use Rattle.protocol.proofs.book.Changes.{EightWords, uncounted, uncounted-none}
 use Rattle.protocol.proofs.claims.Claim.{Half}
 use Rattle.protocol.proofs.release.Step.{stepWrite}
 

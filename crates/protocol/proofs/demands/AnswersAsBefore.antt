@@ -1,6 +1,6 @@
 -- Two racks that get the same calls answer alike, whatever rules for new homes they go by: both answer as one model.
 use Rattle.laws.proofs.Prelude.{ℕ, _≡_, refl, sym, _∙_, List, [], _∷_, Bool, true, false, cond, not, ℕ-discrete}
-use Rattle.laws.proofs.Prelude.{true≢false}
+use Rattle.laws.proofs.Prelude.{true≢false, not-false}
 use Rattle.directory.specs.NewHome.{HomeRule}
 use Rattle.answer.specs.declared.Outcome.{Outcome}
 use Rattle.protocol.specs.Result.{accepted}
@@ -9,7 +9,7 @@ use Rattle.protocol.specs.Calls.{ask-desk}
 use Rattle.protocol.specs.Demand3.{offlineAfter, Interference, Event}
 use Rattle.protocol.specs.Model.{Model, modelOutcome, modelChange, modelAfter}
 use Rattle.protocol.specs.AnswersAsModel.{Follows}
-use Rattle.protocol.specs.AnswersAsBefore.{Between, TwoEvents, first, second, Undisturbed, SameAnswers}
+use Rattle.protocol.specs.AnswersAsBefore.{RackState, TwoEvents, first, second, Undisturbed, SameAnswers}
 use Rattle.protocol.specs.AnswersAsBefore.{AnswersByAnyRule}
 use Rattle.protocol.proofs.book.Changes.{update-same, update-other}
 use Rattle.protocol.proofs.demands.AnswersAsModel.{answers-as-model}
@@ -61,26 +61,19 @@ after-online call s offline o same online =
     go false = online
 
 -- so that what a rack finds is what the model allows
-allowed : (rack : Between) (s : Model) (found : List ℕ) → Online s (rack .offline) → Undisturbed rack found
+allowed : (rack : RackState) (s : Model) (found : List ℕ) → Online s (rack .offline) → Undisturbed rack found
     → Interference (rack .directory) (λ card. not (s .live card)) (rack .left) found
 allowed rack s found online undisturbed =
     record {
       same-length = undisturbed .same-length;
       same-words = λ card offset real inside dead.
-          undisturbed .same-words card offset real inside (online card (up card dead));
+          undisturbed .same-words card offset real inside (online card (not-false (s .live card) dead));
     }
-  where
-    up : (card : ℕ) → not (s .live card) ≡ false → s .live card ≡ true
-    up card dead = go (s .live card) dead
-      where
-        go : (live : Bool) → not live ≡ false → live ≡ true
-        go true is = refl
-        go false is = absurd (true≢false is)
 
 -- ---- call after call
 
 module _ (rule rule′ : HomeRule) where
-  same-answers : (rack rack′ : Between) (s : Model) (events : List TwoEvents)
+  same-answers : (rack rack′ : RackState) (s : Model) (events : List TwoEvents)
       → Follows rule (rack .directory) (rack .left) s (firsts events)
       → Follows rule′ (rack′ .directory) (rack′ .left) s (seconds events)
       → Online s (rack .offline) → Online s (rack′ .offline) → SameAnswers rule rule′ rack rack′ events

@@ -12,12 +12,12 @@ use Rattle.diff.specs.declared.Verdict.the-variants.{Good}
 use Rattle.diff.specs.Reading.{readDiff}
 use Rattle.diff.specs.Prices.{appliedAt}
 use Rattle.protocol.specs.Release.{sizeOf, stepMemory, countsAt, stepsIn}
-use Rattle.protocol.specs.Book.{Opened, none, opened, listPrices, Book, update}
+use Rattle.protocol.specs.Book.{Opened, none, opened, listPrices, Book, update, pricesIn}
 use Rattle.protocol.proofs.release.Shape.{Shape, shape-kept, area-of-live}
 use Rattle.protocol.proofs.release.WordAfter.{written}
 use Rattle.protocol.proofs.release.Step.{StandsIn, stepWrite, load-step, steps-step, step-keeps, step-keeps-own}
 use Rattle.protocol.proofs.release.Step.{step-keeps-other, step-keeps-record}
-use Rattle.protocol.proofs.book.Changes.{pricesIn, EightWords, update-each}
+use Rattle.protocol.proofs.book.Changes.{EightWords, update-each}
 use Rattle.protocol.proofs.claims.Claim.{Disjoint, Claim}
 use Rattle.protocol.proofs.claims.Halves.{tentatives, committeds}
 use Rattle.protocol.proofs.claims.Step.{PricesAfter, step-tentatives, step-committeds}

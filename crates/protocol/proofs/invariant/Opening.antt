@@ -11,10 +11,10 @@ use Rattle.diff.specs.OnlyDiff.{Allowed}
 use Rattle.diff.proofs.Prices.{names-none, applied-none}
 use Rattle.protocol.specs.Release.{sizeOf}
 use Rattle.protocol.specs.Opening.{openMemory}
-use Rattle.protocol.specs.Book.{Opened, none, opened, listPrices, Book, update, setOpen}
+use Rattle.protocol.specs.Book.{Opened, none, opened, listPrices, Book, update, setOpen, pricesIn}
 use Rattle.protocol.proofs.release.Shape.{shape-kept, area-of-live}
 use Rattle.protocol.proofs.release.WordAfter.{word-after-none}
-use Rattle.protocol.proofs.book.Changes.{pricesIn, EightWords, uncounted-early, uncounted-none, update-same}
+use Rattle.protocol.proofs.book.Changes.{EightWords, uncounted-early, uncounted-none, update-same}
 use Rattle.protocol.proofs.book.Changes.{update-other, update-each}
 use Rattle.protocol.proofs.claims.Claim.{Disjoint, HomeWord, Claim, claim-moves}
 use Rattle.protocol.proofs.claims.Halves.{tentatives, committeds, pending-none, committed-none, committed-early}

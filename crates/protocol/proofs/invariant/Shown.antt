@@ -22,7 +22,7 @@ use Rattle.protocol.proofs.checks.ByCall.{FetchPassed}
 use Rattle.protocol.proofs.invariant.Running.{stands-open, is-open}
 
 -- a list that names a word of a page names the page
-page-named : (pages : ℕ) (ps : List Price) (page word : ℕ) → OnPages pages ps → word < pageSize
+pub page-named : (pages : ℕ) (ps : List Price) (page word : ℕ) → OnPages pages ps → word < pageSize
     → names ps (32 * page + word) ≡ true → namesPage ps page ≡ true
 unfolding names namesPage
 page-named pages [] page word on small named = absurd (false≢true named)

@@ -6,9 +6,8 @@ use Rattle.area.specs.Prelude.{load, pageAt, committedHalf, pageSize, Release, 
 use Rattle.diff.specs.Prices.{names}
 use Rattle.diff.proofs.Prices.{names-none, applied-none}
 use Rattle.protocol.specs.Release.{sizeOf, countsAt}
-use Rattle.protocol.specs.Book.{Opened, none, opened, listPrices, Book}
+use Rattle.protocol.specs.Book.{Opened, none, opened, listPrices, Book, pricesIn}
 use Rattle.protocol.proofs.release.WordAfter.{wordAfter, word-after-none}
-use Rattle.protocol.proofs.book.Changes.{pricesIn}
 use Rattle.protocol.proofs.claims.Claim.{Unshared, HomeWord}
 use Rattle.protocol.proofs.claims.Halves.{committeds, committed-early, committed-unnamed}
 use Rattle.protocol.proofs.invariant.Core.{Core}

@@ -44,11 +44,11 @@ abbrev pub SameHomes : Directory → Directory → ℕ → Type 0
 SameHomes d e p = (primaryOf d p ≡ primaryOf e p) × (secondaryOf d p ≡ secondaryOf e p)
 
 module _ (d e : Directory) (f p : ℕ) (same : SameHomes d e p) where
-  pub same-lost : lostHome d f p ≡ lostHome e f p
+  same-lost : lostHome d f p ≡ lostHome e f p
   unfolding lostHome
   same-lost = rw (same .0, same .1)
 
-  pub same-kept : keptHome d f p ≡ keptHome e f p
+  same-kept : keptHome d f p ≡ keptHome e f p
   unfolding keptHome
   same-kept = rw (same .0, same .1)
 

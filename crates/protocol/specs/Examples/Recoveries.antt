@@ -77,8 +77,8 @@ recoveryExamples =
     -- A page that lost no home stays, though its secondary is not the next live card.
     computed (directoryWords (recoveredDirectory evenHome threePages 1))
     (1 ∷ 0 ∷ 1 ∷ 1 ∷ 0 ∷ 2 ∷ 0 ∷ 3 ∷ 3 ∷ 2 ∷ 0 ∷ [])
-    -- Five cards and eight pages. Page 0 goes to card 4, which has 3 pages; page 1 then to card 0, the lowest of those
-    -- that have 3; page 5 to card 3, since page 1 counts, and page 6 to card 4.
+    -- Five cards and eight pages. Page 0 goes to card 4, which has 2 pages; page 1 to card 0, the lowest of three that
+    -- have 3 then; page 5 to card 3 and not to card 4, for which page 0 counts now; page 6 to card 4.
     ∷ computed (directoryWords (recoveredDirectory evenHome eightPages 1))
     (1 ∷ 0 ∷ 1 ∷ 1 ∷ 1 ∷ 0 ∷ 2 ∷ 2 ∷ 3 ∷ 4 ∷ 0 ∷ 2 ∷ 2 ∷ 4 ∷ 0 ∷ 3 ∷ 4 ∷ 0 ∷ 3 ∷ 4 ∷ 3 ∷ 0 ∷ [])
     -- By document 01's rule each would go to the next live card after its primary.
@@ -87,6 +87,9 @@ recoveryExamples =
     -- Four cards and two pages, card 0 failed: page 0 goes to card 3, which is home to none, and page 1 lost nothing.
     ∷ computed (directoryWords (recoveredDirectory evenHome (failedZero (formattedDirectory 4 2)) 0))
     (0 ∷ 1 ∷ 1 ∷ 1 ∷ 1 ∷ 1 ∷ 3 ∷ 2 ∷ 0 ∷ [])
+    -- The same with card 1 failed: page 0 comes first and goes to card 3, so that page 1 goes to card 0.
+    ∷ computed (directoryWords (recoveredDirectory evenHome (failedOne (formattedDirectory 4 2)) 1))
+    (1 ∷ 0 ∷ 1 ∷ 1 ∷ 0 ∷ 2 ∷ 3 ∷ 0 ∷ 0 ∷ [])
     -- Rolled forward, each live home of each page has the tentative words in both halves, and card 2, the new home of
     -- page 0, has card 0's. The failed card's record, its even desk kept and its odd desk zero, stands on both live
     -- cards; card 0's, made from its own stamp and desk, on its new backup. No other word changes.
