@@ -71,9 +71,6 @@ module _ (d : Directory) (m : List ℕ) (b : Book) (rack : RunningRack d m b) wh
           let stands = stands-open d m b rack c r list steps is .1 .stands in
           let on : OnPages (d .pages) (listPrices list) =
           rw (stands .prices) at (prices-on-pages (d .pages) (openList (sizeOf d) m c)) in
-          rw (
-            is-open d m b rack c r list steps is,
-            stands .prices,
-            stands .steps,
-            page-by-words (d .pages) (listPrices list) page on,
-          )
+          rw (is-open d m b rack c r list steps is, stands .prices, stands .steps)
+          (ap (λ (named : Bool). counts (opened r list steps) && named)
+          (page-by-words (d .pages) (listPrices list) page on))
