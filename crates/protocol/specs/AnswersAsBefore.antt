@@ -43,8 +43,8 @@ first e = record { call = e .call; found = e .found }
 abbrev pub second : TwoEvents → Event
 second e = record { call = e .call; found = e .found′ }
 
-abbrev pub Undisturbed : RackState → List ℕ → Type 0
-Undisturbed rack found = Interference (rack .directory) (rack .offline) (rack .left) found
+abbrev pub Interferes : RackState → List ℕ → Type 0
+Interferes rack found = Interference (rack .directory) (rack .offline) (rack .left) found
 
 -- at each call: the same number, place and value, and the same words of a page or a desk
 unfoldable pub SameAnswers : HomeRule → HomeRule → RackState → RackState → List TwoEvents → Type 0
@@ -52,7 +52,7 @@ SameAnswers rule rule′ rack rack′ [] = Unit {0}
 SameAnswers rule rule′ rack rack′ (e ∷ es) =
     let result : Result = answerTo rule (rack .directory) (first e) in
     let result′ : Result = answerTo rule′ (rack′ .directory) (second e) in
-    Typed (e .call) → Undisturbed rack (e .found) → Undisturbed rack′ (e .found′)
+    Typed (e .call) → Interferes rack (e .found) → Interferes rack′ (e .found′)
     → (result .outcome ≡ result′ .outcome) × (result .words ≡ result′ .words)
     × SameAnswers rule rule′ (afterCall rule rack (first e)) (afterCall rule′ rack′ (second e)) es
 

@@ -6,9 +6,9 @@ use Rattle.laws.specs.Prelude.{ℕ, _≡_, List, [], _∷_, true, not}
 use Rattle.directory.specs.declared.Directory.{Directory}
 use Rattle.directory.specs.NewHome.{HomeRule, evenHome}
 use Rattle.protocol.specs.Result.{Result, accepted}
-use Rattle.protocol.specs.Formatting.{formatting}
+use Rattle.protocol.specs.Calls.{formatting}
 use Rattle.protocol.specs.Demand3.{Event, Typed, Interference, answerTo}
-use Rattle.protocol.specs.Model.{Model, modelOutcome, modelHands, modelAfter, newModel}
+use Rattle.protocol.specs.Model.{Model, modelOutcome, modelHandedBack, modelAfter, newModel}
 
 -- Each call gets what the last one left, refused or not; the areas of cards that the model has dead may hold anything.
 unfoldable pub Follows : HomeRule → Directory → List ℕ → Model → List Event → Type 0
@@ -16,7 +16,7 @@ Follows rule d left s [] = Unit {0}
 Follows rule d left s (e ∷ es) =
     let result : Result = answerTo rule d e in
     Typed (e .call) → Interference d (λ card. not (s .live card)) left (e .found)
-    → (result .outcome ≡ modelOutcome s (e .call)) × (result .words ≡ modelHands s (e .call))
+    → (result .outcome ≡ modelOutcome s (e .call)) × (result .words ≡ modelHandedBack s (e .call))
     × Follows rule (result .directory) (result .memory) (modelAfter (e .call) s) es
 
 -- on every formatted rack

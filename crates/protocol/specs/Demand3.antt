@@ -6,7 +6,6 @@ use Rattle.directory.specs.NewHome.{HomeRule, NamesLive, evenHome}
 use Rattle.area.specs.Prelude.{load, deskSize, pageSize}
 use Rattle.protocol.specs.Release.{sizeOf}
 use Rattle.protocol.specs.Result.{Result, accepted}
-use Rattle.protocol.specs.Formatting.{formatting}
 use Rattle.protocol.specs.Calls.{Call, open-release, make-step, fetch-page, fail-card, recover, join-card}
 use Rattle.protocol.specs.Calls.{ask-desk, performBy, formatting}
 use Rattle.protocol.specs.Book.{none, Book, newBook, update, transitionIf}
@@ -63,7 +62,7 @@ Conforms b (ask-desk card) result = b .release card ≡ none → result .words �
 
 -- ---- every list of calls
 
--- by the rule with which the rack replaces lost homes
+-- what a rack that replaces lost homes by a rule answers to an event
 abbrev pub answerTo : HomeRule → Directory → Event → Result
 answerTo rule d e = performBy rule (e .call) d (e .found)
 

@@ -1,5 +1,6 @@
 -- The reference model of the whole rack: the book, and beside it the cards and pages, which cards are live, the card
--- whose recovery is awaited, and what each card told before its open release. It has no memory, no homes and no records.
+-- whose recovery is awaited, and each card's last release from before its open one. It has no memory, no homes and no
+-- records.
 -- Each call's checks, its answer and its change stand here over that state; document 01, "What the rack refuses, by who
 -- caused it", has the same order.
 -- Assumes nothing: these are definitions.
@@ -30,7 +31,7 @@ pub record Model : Type 0 where
   pub live : ℕ → Bool
   pub status : Status
   pub book : Book
-  -- each card's last number and desk from before its open release; the card tells that desk until the release closes
+  -- each card's last number and desk from before its open release; a desk question gives that desk until the close
   pub before : ℕ → Release
 
 -- ---- what the checks ask
@@ -40,9 +41,9 @@ isOpened none = false
 isOpened (opened r list steps) = true
 
 -- an open release that already counts
-abbrev pub counts : Opened → Bool
-counts none = false
-counts (opened r list steps) = leb (countsAt (length (listPrices list))) steps
+abbrev pub alreadyCounts : Opened → Bool
+alreadyCounts none = false
+alreadyCounts (opened r list steps) = leb (countsAt (length (listPrices list))) steps
 
 module _ (s : Model) where
   abbrev openOn : ℕ → Bool
@@ -58,24 +59,24 @@ module _ (s : Model) where
   -- a card's open release counts already, and prices a word of the page
   abbrev pub moving : ℕ → ℕ → Bool
   moving page card =
-      counts (s .book .release card)
+      alreadyCounts (s .book .release card)
       && someBelow (λ word. names (pricesIn (s .book .release card)) (32 * page + word)) pageSize
 
   -- ---- checks, in order: 1 and 2 always pass
 
-  abbrev running : List Check
-  running = check (awaitsRecovery (s .status)) recoveryAwaited ∷ []
+  abbrev runningCheck : List Check
+  runningCheck = check (awaitsRecovery (s .status)) recoveryAwaited ∷ []
 
-  abbrev anyCard : ℕ → List Check
-  anyCard card = running ++ check (leb (s .cards) card) noCard ∷ []
+  abbrev cardCheck : ℕ → List Check
+  cardCheck card = runningCheck ++ check (leb (s .cards) card) noCard ∷ []
 
-  abbrev liveCard : ℕ → List Check
-  liveCard card = running ++ check (leb (s .cards) card || not (s .live card)) noCard ∷ []
+  abbrev liveCardCheck : ℕ → List Check
+  liveCardCheck card = runningCheck ++ check (leb (s .cards) card || not (s .live card)) noCard ∷ []
 
   unfoldable pub modelChecks : Call → List Check
   -- 11, 3, 4, 5, 6, 7, 8
   modelChecks (open-release card r list) =
-      liveCard card
+      liveCardCheck card
       ++ check (openOn card) releaseOpen
       ∷ checkAt (leb (r .number) (s .book .last card .number)) numberUsed (s .book .last card .number)
       ∷ check (ltb (s .book .last card .number + 1) (r .number)) numberAhead
@@ -83,23 +84,23 @@ module _ (s : Model) where
       ∷ checkAt (someBelow (inUse card list) (s .cards)) wordInUse (lowest (inUse card list) (s .cards))
       ∷ []
   -- 11, 3, 16
-  modelChecks (make-step card) = liveCard card ++ check (not (openOn card)) noneOpen ∷ []
+  modelChecks (make-step card) = liveCardCheck card ++ check (not (openOn card)) noneOpen ∷ []
   -- 11, 9, 10, 17
   modelChecks (fetch-page page buffer) =
-      running
+      runningCheck
       ++ check (leb (s .pages) page) noPage
       ∷ checkAt (someBelow (moving page) (s .cards)) pageInMotion (lowest (moving page) (s .cards))
       ∷ check (not (eqb (length buffer) pageSize)) wrongBuffer
       ∷ []
   -- 11, 3, 13
-  modelChecks (fail-card card) = liveCard card ++ check (leb (countBelow (s .live) (s .cards)) 2) twoLive ∷ []
+  modelChecks (fail-card card) = liveCardCheck card ++ check (leb (countBelow (s .live) (s .cards)) 2) twoLive ∷ []
   -- 12
   modelChecks recover = check (not (awaitsRecovery (s .status))) noneAwaited ∷ []
   -- 11, 3, 14, 15
   modelChecks (join-card card) =
-      anyCard card ++ check (s .live card) cardLive ∷ check (someBelow openOn (s .cards)) joinWhileOpen ∷ []
+      cardCheck card ++ check (s .live card) cardLive ∷ check (someBelow openOn (s .cards)) joinWhileOpen ∷ []
   -- 11, 3
-  modelChecks (ask-desk card) = anyCard card
+  modelChecks (ask-desk card) = cardCheck card
 
   -- ---- the answer of an accepted call: a value, and words
 
@@ -126,25 +127,25 @@ module _ (s : Model) where
   unfoldable pub modelOutcome : Call → Outcome
   modelOutcome call = firstRefusal (modelChecks call) (modelValue call)
 
-  unfoldable pub modelHands : Call → List ℕ
-  modelHands call = cond (accepted (modelOutcome call)) (modelWords call) (handedBack call)
+  unfoldable pub modelHandedBack : Call → List ℕ
+  modelHandedBack call = cond (accepted (modelOutcome call)) (modelWords call) (handedBack call)
 
 -- ---- the change that an accepted call makes
 
-abbrev pub modelOf : Model → (ℕ → Bool) → Status → Book → (ℕ → Release) → Model
-modelOf s live status book before =
+abbrev pub modelWith : Model → (ℕ → Bool) → Status → Book → (ℕ → Release) → Model
+modelWith s live status book before =
     record { cards = s .cards; pages = s .pages; live = live; status = status; book = book; before = before }
 
 unfoldable pub modelChange : Call → Model → Model
 modelChange (open-release card r list) s =
-    modelOf s (s .live) (s .status) (transition (open-release card r list) (s .book))
+    modelWith s (s .live) (s .status) (transition (open-release card r list) (s .book))
     (update (s .before) card (s .book .last card))
-modelChange (make-step card) s = modelOf s (s .live) (s .status) (transition (make-step card) (s .book)) (s .before)
+modelChange (make-step card) s = modelWith s (s .live) (s .status) (transition (make-step card) (s .book)) (s .before)
 modelChange (fetch-page page buffer) s = s
 modelChange (fail-card card) s =
-    modelOf s (update (s .live) card false) (Awaiting card) (transition (fail-card card) (s .book)) (s .before)
-modelChange recover s = modelOf s (s .live) Running (transition recover (s .book)) (s .before)
-modelChange (join-card card) s = modelOf s (update (s .live) card true) (s .status) (s .book) (s .before)
+    modelWith s (update (s .live) card false) (Awaiting card) (transition (fail-card card) (s .book)) (s .before)
+modelChange recover s = modelWith s (s .live) Running (transition recover (s .book)) (s .before)
+modelChange (join-card card) s = modelWith s (update (s .live) card true) (s .status) (s .book) (s .before)
 modelChange (ask-desk card) s = s
 
 unfoldable pub modelAfter : Call → Model → Model

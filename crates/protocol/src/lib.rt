@@ -1,7 +1,7 @@
 // The demands on the rack, over the definitions that the calls' contracts cite. The functions here
 // do nothing when they are called: they are where the gate shows the theorems. Demand 3 and what
 // follows from it hold by the rule for new homes that recovery has, and by any other that names a
-// live card beside the home that a page keeps.
+// live card other than the home that a page keeps.
 ghost use Rattle.laws.specs.Examples.{AllHold};
 ghost use Rattle.protocol.specs.Demand1.{Demand1};
 ghost use Rattle.protocol.specs.Demand3.{Demand3, Demand3By, ByAnyRule};
@@ -66,8 +66,8 @@ pub fn releases_count_once()
     ensures any_rule { λ _. ⌜ ByAnyRule CountsOnceBy ⌝ }
 {}
 
-// Worked examples of the calls, computed from the definitions: the words, numbers and places that
-// no theorem sees.
+// Worked examples of the calls, computed from the definitions: words, numbers, places and orders,
+// also those that no theorem sees.
 pub fn examples_hold()
     ensures releases { λ _. ⌜ AllHold releaseExamples ⌝ }
     ensures refusals { λ _. ⌜ AllHold refusalExamples ⌝ }

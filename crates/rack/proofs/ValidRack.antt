@@ -14,14 +14,14 @@ use Rattle.protocol.proofs.checks.ValidDirectory.{valid-directory}
 use Rattle.protocol.proofs.checks.Limits.{Within, within-limits}
 use Rattle.release.specs.Stepping.{CardIn, HomesIn, GoodRelease}
 use Rattle.release.proofs.Callers.{card-in, good-release}
-use Rattle.recovery.specs.Rack.{RackIn, LiveBeside}
+use Rattle.recovery.specs.Rack.{RackIn, OtherLive}
 use Rattle.recovery.proofs.Kept.{some-live, next-below}
 
 pub record ValidRack (d : Directory) (m : List ℕ) : Type 0 where
   pub within : Within (length m) (d .cards) (d .pages)
   pub primary-below : (p : ℕ) → p < d .pages → primaryOf d p < d .cards
   pub secondary-below : (p : ℕ) → p < d .pages → secondaryOf d p < d .cards
-  pub beside : LiveBeside d
+  pub beside : OtherLive d
   pub next-below : (c : ℕ) → nextLiveOf d c < d .cards
   pub awaited : awaitsRecovery (d .status) ≡ true
       → (awaitedCard (d .status) < d .cards) × (isLive d (awaitedCard (d .status)) ≡ false)

@@ -9,7 +9,7 @@ use Rattle.area.proofs.Prelude.{area-in}
 use Rattle.protocol.specs.Release.{sizeOf}
 use Rattle.release.specs.Stepping.{CardIn}
 use Rattle.release.proofs.Callers.{card-in}
-use Rattle.recovery.specs.Rack.{RackIn, SomeLive, LiveBeside}
+use Rattle.recovery.specs.Rack.{RackIn, SomeLive, OtherLive}
 
 module _ {d : Directory} where
   pub rack-kept : {words words′ : ℕ} → RackIn d words → words′ ≡ words → RackIn d words′
@@ -18,7 +18,7 @@ module _ {d : Directory} where
   pub rack-card : {words card : ℕ} → RackIn d words → card < d .cards → CardIn (d .live) words (sizeOf d) card
   rack-card rack below = card-in (d .live) (sizeOf d) (rack .marks) (rack .eight) (rack .whole) below
 
-  pub some-live : LiveBeside d → SomeLive d
+  pub some-live : OtherLive d → SomeLive d
   some-live two = let one = two 0 in record { card = one .card; below = one .below; up = one .live }
 
   pub next-below : SomeLive d → (c : ℕ) → nextLiveOf d c < d .cards

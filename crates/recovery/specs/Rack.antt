@@ -22,9 +22,9 @@ pub record SomeLive (d : Directory) : Type 0 where
   pub below : card < d .cards
   pub up : isLive d card ≡ true
 
--- beside any card another that is live, since a rack that passed its checks has two
-abbrev pub LiveBeside : Directory → Type 0
-LiveBeside d = (c : ℕ) → Another d c
+-- other than any card there is a live one, since a rack that passed its checks has two
+abbrev pub OtherLive : Directory → Type 0
+OtherLive d = (c : ℕ) → Another d c
 
 -- a card that failed: it is dead
 abbrev pub FailedIn : Directory → ℕ → Type 0

@@ -2,7 +2,7 @@
 ghost use Rattle.laws.specs.Prelude.{_≡_, cond, _||_, length, eqb};
 ghost use Rattle.directory.specs.NewHome.{evenHome};
 ghost use Rattle.protocol.specs.Recovery.{copyToNewHomes, movedBelow};
-ghost use Rattle.recovery.specs.Rack.{RackIn, LiveBeside, FailedIn, HomesOf};
+ghost use Rattle.recovery.specs.Rack.{RackIn, OtherLive, FailedIn, HomesOf};
 use directory::Directory;
 
 // Whether a home of a page failed.
@@ -30,7 +30,7 @@ fn kept_home(primary: u32, secondary: u32, failed: u32) -> u32
 pub(crate) fn move_homes(memory: &mut [u32], directory: Directory, failed: u32) -> Directory
     requires { ⌜ RackIn directory (length (now memory)) ⌝ }
     requires { ⌜ HomesOf directory (length (now memory)) ⌝ }
-    requires { ⌜ LiveBeside directory ⌝ }
+    requires { ⌜ OtherLive directory ⌝ }
     requires { ⌜ FailedIn directory failed ⌝ }
     ensures memory { λ _. ⌜ now (memory .exit)
         ≡ copyToNewHomes evenHome directory failed (now (memory .entry)) ⌝ }
@@ -45,10 +45,10 @@ pub(crate) fn move_homes(memory: &mut [u32], directory: Directory, failed: u32) 
         let secondary = directory.secondary[at];
         if lost_home(primary, secondary, failed) {
             let kept = kept_home(primary, secondary, failed);
-            let next = moved.even_home(counts, kept);
-            area::pages::copy_page(memory, size, kept as usize, next as usize, at);
-            moved = moved.move_home(page, kept, next);
-            directory::homes::count_home(&mut counts, next);
+            let new = moved.even_home(counts, kept);
+            area::pages::copy_page(memory, size, kept as usize, new as usize, at);
+            moved = moved.move_home(page, kept, new);
+            directory::homes::count_home(&mut counts, new);
         }
     }
     moved

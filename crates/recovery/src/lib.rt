@@ -1,5 +1,6 @@
 // Recovery of a failed card, and a dead card that joins again: what they write in the memory of a
-// rack that passed its checks; which calls are refused is decided above.
+// rack that passed its checks, and the directory after a recovery; which calls are refused is decided
+// above.
 ghost use Rattle.laws.specs.Prelude.{_≡_, _<_, length};
 ghost use Rattle.directory.specs.Directory.{withStatus};
 ghost use Rattle.directory.specs.NewHome.{evenHome};
@@ -8,7 +9,7 @@ ghost use Rattle.area.specs.Prelude.{deskSize};
 ghost use Rattle.protocol.specs.Recovery.{failedRelease, recoveredMemory, recoveredDirectory};
 ghost use Rattle.protocol.specs.Join.{joinedMemory};
 ghost use Rattle.recovery.specs.Closing.{ReleasesIn, recordOf, recoveredClosed};
-ghost use Rattle.recovery.specs.Rack.{RackIn, SomeLive, LiveBeside, FailedIn, HomesOf};
+ghost use Rattle.recovery.specs.Rack.{RackIn, SomeLive, OtherLive, FailedIn, HomesOf};
 use directory::Directory;
 use directory::Status;
 
@@ -53,7 +54,7 @@ fn recover_closed(
 ) -> Recovered
     requires { ⌜ RackIn directory (length (now memory)) ⌝ }
     requires { ⌜ HomesOf directory (length (now memory)) ⌝ }
-    requires { ⌜ LiveBeside directory ⌝ }
+    requires { ⌜ OtherLive directory ⌝ }
     requires { ⌜ FailedIn directory failed ⌝ }
     requires { ⌜ length (now desk) ≡ deskSize ⌝ }
     ensures directory { λ r. ⌜ r .directory ≡ recoveredDirectory evenHome directory failed ⌝ }
@@ -96,7 +97,7 @@ pub fn recover_memory(
 ) -> Recovered
     requires { ⌜ RackIn directory (length (now memory)) ⌝ }
     requires { ⌜ HomesOf directory (length (now memory)) ⌝ }
-    requires { ⌜ LiveBeside directory ⌝ }
+    requires { ⌜ OtherLive directory ⌝ }
     requires { ⌜ FailedIn directory failed ⌝ }
     requires { ⌜ length (now desk) ≡ deskSize ⌝ }
     requires { ⌜ ReleasesIn directory (now memory) ⌝ }

@@ -1,5 +1,5 @@
-// Records on backups, written from a release that a record tells, or from a card's own stamp and
-// desk.
+// Records written: the failed card's on every live card, and on backups those made from a card's own
+// stamp and desk.
 ghost use Rattle.laws.specs.Prelude.{_≡_, _<_, _≤_, length};
 ghost use Rattle.laws.specs.Search.{inTurn};
 ghost use Rattle.directory.specs.Directory.{headerOf, backupOf};

@@ -9,7 +9,7 @@ use Rattle.protocol.specs.Calls.{ask-desk}
 use Rattle.protocol.specs.Demand3.{offlineAfter, Interference, Event}
 use Rattle.protocol.specs.Model.{Model, modelOutcome, modelChange, modelAfter}
 use Rattle.protocol.specs.AnswersAsModel.{Follows}
-use Rattle.protocol.specs.AnswersAsBefore.{RackState, TwoEvents, first, second, Undisturbed, SameAnswers}
+use Rattle.protocol.specs.AnswersAsBefore.{RackState, TwoEvents, first, second, Interferes, SameAnswers}
 use Rattle.protocol.specs.AnswersAsBefore.{AnswersByAnyRule}
 use Rattle.protocol.proofs.book.Changes.{update-same, update-other}
 use Rattle.protocol.proofs.demands.AnswersAsModel.{answers-as-model}
@@ -61,7 +61,7 @@ after-online call s offline o same online =
     go false = online
 
 -- so that what a rack finds is what the model allows
-allowed : (rack : RackState) (s : Model) (found : List ℕ) → Online s (rack .offline) → Undisturbed rack found
+allowed : (rack : RackState) (s : Model) (found : List ℕ) → Online s (rack .offline) → Interferes rack found
     → Interference (rack .directory) (λ card. not (s .live card)) (rack .left) found
 allowed rack s found online undisturbed =
     record {

@@ -9,7 +9,7 @@ use Rattle.protocol.specs.Calls.{ask-desk, performBy}
 use Rattle.protocol.specs.Book.{transition}
 use Rattle.protocol.specs.Demand1.{handedBack}
 use Rattle.protocol.specs.Demand3.{Event, Typed, ByAnyRule}
-use Rattle.protocol.specs.Model.{Model, modelWords, modelHands, modelChange, modelAfter, newModel}
+use Rattle.protocol.specs.Model.{Model, modelWords, modelHandedBack, modelChange, modelAfter, newModel}
 use Rattle.protocol.specs.AnswersAsModel.{Follows, AnswersAsModelBy}
 use Rattle.protocol.proofs.calls.Formatting.{formatting-accepted}
 use Rattle.protocol.proofs.calls.Each.{each-accepted}
@@ -32,9 +32,9 @@ book-after (ask-desk card) s = refl
 module _ (rule : HomeRule) (good : NamesLive rule) (d : Directory) (m : List ℕ) (s : Model) (agrees : Agrees d m s)
     (call : Call) (typed : Typed call) where
   -- the words, and what is left, by whether the call was accepted
-  answers-alike : (performBy rule call d m .words ≡ modelHands s call)
+  answers-alike : (performBy rule call d m .words ≡ modelHandedBack s call)
       × Agrees (performBy rule call d m .directory) (performBy rule call d m .memory) (modelAfter call s)
-  unfolding modelHands modelAfter
+  unfolding modelHandedBack modelAfter
   answers-alike = rw (← outcome-agrees d m s agrees rule call) (go (accepted (performBy rule call d m .outcome)) refl)
     where
       go : (taken : Bool) → accepted (performBy rule call d m .outcome) ≡ taken

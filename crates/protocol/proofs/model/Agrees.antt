@@ -7,7 +7,7 @@ use Rattle.area.proofs.Prelude.{own-kept, same-own-release}
 use Rattle.protocol.specs.Release.{sizeOf}
 use Rattle.protocol.specs.Book.{Opened, none, Book}
 use Rattle.protocol.specs.Demand3.{Interference}
-use Rattle.protocol.specs.Model.{Model, isOpened, modelOf, newModel}
+use Rattle.protocol.specs.Model.{Model, isOpened, modelWith, newModel}
 use Rattle.protocol.proofs.checks.Limits.{Within}
 use Rattle.protocol.proofs.invariant.Rack.{Rack, LiveOnline}
 use Rattle.protocol.proofs.invariant.Kept.{same-live-own}
@@ -37,7 +37,7 @@ model-online beside c live = ap not (sym (beside .live c) ∙ live)
 -- a change of memory, book and own words alone
 pub beside-on : {d : Directory} {m m′ : List ℕ} {s : Model} {b : Book} {before : ℕ → Release} → Beside d m s
     → OwnBefore (sizeOf d) m′ (b .release) before
-    → Beside d m′ (modelOf s (s .live) (s .status) b before)
+    → Beside d m′ (modelWith s (s .live) (s .status) b before)
 beside-on beside own =
     record {
       cards = beside .cards;

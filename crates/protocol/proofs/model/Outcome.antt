@@ -20,11 +20,11 @@ use Rattle.protocol.proofs.model.Checks.{recovery-checks, join-checks, 
 
 module _ (d : Directory) (m : List ℕ) (s : Model) (agrees : Agrees d m s) where
   -- a call by its checks after 1 and 2
-  by-checks : (cs xs : List Check) (value value′ : ℕ) (done : Result) (words : List ℕ)
+  outcome-by-checks : (cs xs : List Check) (value value′ : ℕ) (done : Result) (words : List ℕ)
       → done .outcome ≡ firstRefusal (fittingChecks d m ++ cs) value → SameChecks cs xs
       → (Passed xs → value ≡ value′)
       → resultOf (firstRefusal (fittingChecks d m ++ cs) value) done d m words .outcome ≡ firstRefusal xs value′
-  by-checks cs xs value value′ done words same checks gives =
+  outcome-by-checks cs xs value value′ done words same checks gives =
       outcome-of (firstRefusal (fittingChecks d m ++ cs) value) done d m words same
       ∙ after-two d m (rack-fits d m (s .book) (agrees .rack)) cs value ∙ first-agree checks gives
 
@@ -40,11 +40,11 @@ module _ (d : Directory) (m : List ℕ) (s : Model) (agrees : Agrees d m s) wher
   pub outcome-agrees : (rule : HomeRule) (call : Call) → performBy rule call d m .outcome ≡ modelOutcome s call
   unfolding performBy opening step fetch failure recoveryBy join deskQuestion modelOutcome modelValue
   outcome-agrees rule (open-release card r list) =
-      by-checks _ _ 0 0 _ _ refl (opening-checks d m s agrees card r list) (λ _. refl)
-  outcome-agrees rule (make-step card) = by-checks _ _ 0 0 _ _ refl (step-checks d m s agrees card) (λ _. refl)
+      outcome-by-checks _ _ 0 0 _ _ refl (opening-checks d m s agrees card r list) (λ _. refl)
+  outcome-agrees rule (make-step card) = outcome-by-checks _ _ 0 0 _ _ refl (step-checks d m s agrees card) (λ _. refl)
   outcome-agrees rule (fetch-page page buffer) =
-      by-checks _ _ 0 0 _ _ refl (fetch-checks d m s agrees page buffer) (λ _. refl)
-  outcome-agrees rule (fail-card card) = by-checks _ _ 0 0 _ _ refl (failure-checks d m s agrees card) (λ _. refl)
-  outcome-agrees rule recover = by-checks _ _ _ _ _ _ refl (recovery-checks d m s agrees) recovery-value
-  outcome-agrees rule (join-card card) = by-checks _ _ 0 0 _ _ refl (join-checks d m s agrees card) (λ _. refl)
-  outcome-agrees rule (ask-desk card) = by-checks _ _ 0 0 _ _ refl (desk-checks d m s agrees card) (λ _. refl)
+      outcome-by-checks _ _ 0 0 _ _ refl (fetch-checks d m s agrees page buffer) (λ _. refl)
+  outcome-agrees rule (fail-card card) = outcome-by-checks _ _ 0 0 _ _ refl (failure-checks d m s agrees card) (λ _. refl)
+  outcome-agrees rule recover = outcome-by-checks _ _ _ _ _ _ refl (recovery-checks d m s agrees) recovery-value
+  outcome-agrees rule (join-card card) = outcome-by-checks _ _ 0 0 _ _ refl (join-checks d m s agrees card) (λ _. refl)
+  outcome-agrees rule (ask-desk card) = outcome-by-checks _ _ 0 0 _ _ refl (desk-checks d m s agrees card) (λ _. refl)

@@ -9,7 +9,7 @@ use Rattle.protocol.specs.Release.{sizeOf, openPrices}
 use Rattle.protocol.specs.Opening.{shareWord, sharesWith}
 use Rattle.protocol.specs.Fetch.{inMotion}
 use Rattle.protocol.specs.Book.{Opened, none, opened, listPrices, pricesIn, Book}
-use Rattle.protocol.specs.Model.{isOpened, counts}
+use Rattle.protocol.specs.Model.{isOpened, alreadyCounts}
 use Rattle.protocol.proofs.invariant.Rack.{RunningRack}
 use Rattle.protocol.proofs.invariant.Running.{stands-open, is-open, idle-word, own-is-last}
 use Rattle.protocol.proofs.model.Labels.{pricesWordOf, page-by-words, priceOneLabel, shared-by-labels}
@@ -60,17 +60,17 @@ module _ (d : Directory) (m : List ℕ) (b : Book) (rack : RunningRack d m b) wh
 
   -- 10
   pub moves-by-book : (page c : ℕ)
-      → inMotion (d .live) (d .pages) m page c ≡ counts (b .release c) && pricesWordOf (pricesIn (b .release c)) page
+      → inMotion (d .live) (d .pages) m page c ≡ alreadyCounts (b .release c) && pricesWordOf (pricesIn (b .release c)) page
   unfolding inMotion
   moves-by-book page c = go (b .release c) refl
     where
       go : (R : Opened) → b .release c ≡ R
-          → inMotion (d .live) (d .pages) m page c ≡ counts R && pricesWordOf (pricesIn R) page
+          → inMotion (d .live) (d .pages) m page c ≡ alreadyCounts R && pricesWordOf (pricesIn R) page
       go none is = rw (idle c is)
       go (opened r list steps) is =
           let stands = stands-open d m b rack c r list steps is .1 .stands in
           let on : OnPages (d .pages) (listPrices list) =
           rw (stands .prices) at (prices-on-pages (d .pages) (openList (sizeOf d) m c)) in
           rw (is-open d m b rack c r list steps is, stands .prices, stands .steps)
-          (ap (λ (named : Bool). counts (opened r list steps) && named)
+          (ap (λ (named : Bool). alreadyCounts (opened r list steps) && named)
           (page-by-words (d .pages) (listPrices list) page on))

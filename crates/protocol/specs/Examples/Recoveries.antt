@@ -1,23 +1,23 @@
--- Recoveries: worked examples. In most of them every word of the memory is its own index, so that it shows where each
+-- Recoveries: worked examples. Where whole memories are shown, every word is its own index, so that it shows where each
 -- word comes from.
 -- Assumes nothing: these are definitions.
 use Rattle.laws.specs.Prelude.{ℕ, List, [], _∷_, _++_, replicate}
 use Rattle.laws.specs.Examples.{Example, computed}
 use Rattle.directory.specs.declared.Directory.{Directory}
-use Rattle.directory.specs.declared.Status.the-variants.{Awaiting}
-use Rattle.directory.specs.Directory.{formattedDirectory, markedDead, withHomes, withStatus}
+use Rattle.directory.specs.Directory.{formattedDirectory, withHomes}
 use Rattle.directory.specs.NewHome.{evenHome, nextHome}
 use Rattle.area.specs.Prelude.{store, storeRun, zeros, releaseOf, writeRecord, listStart, pagesStart}
 use Rattle.area.specs.Examples.{numbersFrom}
 use Rattle.protocol.specs.Result.{Result}
 use Rattle.protocol.specs.Opening.{openMemory}
+use Rattle.protocol.specs.Failure.{failedDirectory}
 use Rattle.protocol.specs.Recovery.{closeReleases, recoveredMemory, recoveredDirectory, recovery}
 use Rattle.protocol.specs.Examples.Racks.{smallRack, wordsAt, outcomeOf, directoryWords}
 
 -- ---- card 1 has failed
 
 abbrev pub failedOne : Directory → Directory
-failedOne d = withStatus (markedDead d 1) (Awaiting 1)
+failedOne d = failedDirectory d 1
 
 -- Three cards and two pages; an area has 822 words. Page 0 is on cards 1 and 0, page 1 on cards 2 and 0.
 abbrev pub twoPages : Directory
@@ -39,9 +39,6 @@ threePages = failedOne (withHomes (withHomes (withHomes (formattedDirectory 4 3)
 -- Five cards and eight pages, as they are formatted.
 abbrev pub eightPages : Directory
 eightPages = failedOne (formattedDirectory 5 8)
-
-abbrev pub failedZero : Directory → Directory
-failedZero d = withStatus (markedDead d 0) (Awaiting 0)
 
 -- The small rack, in whose area of card 1, which is dead, are threes.
 unfoldable pub deadArea : List ℕ
@@ -85,7 +82,7 @@ recoveryExamples =
     ∷ computed (directoryWords (recoveredDirectory nextHome eightPages 1))
     (1 ∷ 0 ∷ 1 ∷ 1 ∷ 1 ∷ 0 ∷ 2 ∷ 2 ∷ 3 ∷ 4 ∷ 0 ∷ 2 ∷ 2 ∷ 2 ∷ 3 ∷ 3 ∷ 4 ∷ 0 ∷ 2 ∷ 3 ∷ 3 ∷ 0 ∷ [])
     -- Four cards and two pages, card 0 failed: page 0 goes to card 3, which is home to none, and page 1 lost nothing.
-    ∷ computed (directoryWords (recoveredDirectory evenHome (failedZero (formattedDirectory 4 2)) 0))
+    ∷ computed (directoryWords (recoveredDirectory evenHome (failedDirectory (formattedDirectory 4 2) 0) 0))
     (0 ∷ 1 ∷ 1 ∷ 1 ∷ 1 ∷ 1 ∷ 3 ∷ 2 ∷ 0 ∷ [])
     -- The same with card 1 failed: page 0 comes first and goes to card 3, so that page 1 goes to card 0.
     ∷ computed (directoryWords (recoveredDirectory evenHome (failedOne (formattedDirectory 4 2)) 1))

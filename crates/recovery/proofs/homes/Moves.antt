@@ -15,7 +15,7 @@ use Rattle.area.specs.Prelude.{copyRun, pageAt, storedPageSize}
 use Rattle.protocol.specs.Release.{sizeOf}
 use Rattle.protocol.specs.Recovery.{lostHome, keptHome, newHome, copyToNewHome, movedBelow}
 use Rattle.protocol.proofs.recovery.Homes.{SameHomes, Covered, MovedBelow, moved-none, moved-below, moved-turn}
-use Rattle.recovery.specs.Rack.{LiveBeside}
+use Rattle.recovery.specs.Rack.{OtherLive}
 use Rattle.recovery.proofs.Turns.{Turned, turn-none, turn-more}
 
 -- the pages below i have their copies and homes, and the counts are right
@@ -50,7 +50,7 @@ module _ {d : Directory} {f : ℕ} {before : List ℕ} {i : ℕ} {m counts : Lis
   unfolding newHome
   chosen-home keeps chosen = rw (chosen, keeps, far .homes)
 
-  module _ (two : LiveBeside d) where
+  module _ (two : OtherLive d) where
     abbrev kept : ℕ
     kept = keptHome d f i
 
