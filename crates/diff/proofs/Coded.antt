@@ -4,7 +4,7 @@ use Rattle.laws.proofs.Prelude.{ℕ-discrete, length}
 use Rattle.diff.specs.Format.{pageWord, runWord, endWord}
 use Rattle.diff.specs.Reading.{Cursor, pastPrice, pastPage, pastRun}
 use Rattle.diff.specs.Prices.{Price, labelOf, pricedWord}
-use Rattle.diff.specs.Making.{runLength, encodeFrom}
+use Rattle.diff.specs.Encoding.{runLength, encodeFrom}
 use Rattle.diff.proofs.Derivation.{Reads, reads-end, reads-page, reads-run, reads-price}
 use Rattle.diff.proofs.Encoding.{Ascending, none, more, follows-yes, follows-no-page, follows-no-word}
 use Rattle.diff.proofs.Encoding.{run-goes-on, run-stops, run-last, run-header-page, run-header-run}

@@ -4,7 +4,7 @@ use Rattle.laws.proofs.Prelude.{false, true≢false, arith, decLt, length}
 use Rattle.diff.specs.Format.{endWord}
 use Rattle.diff.specs.Reading.{Cursor, start, pastPrice, pastPage}
 use Rattle.diff.specs.Prices.{Price, labelOf, pricedWord}
-use Rattle.diff.specs.Making.{follows, runLength, encodeFrom}
+use Rattle.diff.specs.Encoding.{follows, runLength, encodeFrom}
 use Rattle.diff.proofs.Derivation.{Reads, reads-end, reads-page, reads-run, reads-price}
 use Rattle.diff.proofs.Encoding.{Ascending, none, more, follows-yes, follows-page, follows-word, run-goes-on}
 use Rattle.diff.proofs.Encoding.{run-stops, run-last, run-header-page, run-header-run, run-header-none}

@@ -4,7 +4,7 @@ use Rattle.laws.proofs.Prelude.{arith, le-leb, lt-leb, eq-eqb, ne-eqb, eqb-true
 use Rattle.laws.proofs.Bools.{and-first, and-second}
 use Rattle.diff.specs.Format.{pageWord, runWord}
 use Rattle.diff.specs.Prices.{Price, labelOf}
-use Rattle.diff.specs.Making.{follows, runLength, runHeader, encodeFrom}
+use Rattle.diff.specs.Encoding.{follows, runLength, runHeader, encodeFrom}
 
 -- prices on words of a rack's pages, their labels ascending from `next` on
 pub data Ascending (pages : ℕ) : ℕ → List Price → Type 0 where

@@ -7,5 +7,7 @@ pub mod Encoding
 pub mod Coded
 pub mod Decoded
 pub mod Prices
+pub mod Listed
+pub mod Bits
 pub mod Making
 pub mod OnlyDiff

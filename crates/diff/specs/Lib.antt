@@ -2,6 +2,9 @@
 pub mod Format
 pub mod Reading
 pub mod Prices
+pub mod Encoding
+pub mod Marks
 pub mod Making
 pub mod OnlyDiff
+pub mod MadeDiff
 pub mod Examples

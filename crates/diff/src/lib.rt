@@ -2,7 +2,6 @@
 // states of the pages make.
 // The types are declared here; the code that reads and makes diffs stands in the crates above.
 ghost use Rattle.laws.specs.Examples.{AllHold};
-ghost use Rattle.diff.specs.OnlyDiff.{MadeIsOnlyDiff};
 ghost use Rattle.diff.specs.Examples.{examples};
 
 // Where the reading of a diff stands.
@@ -43,13 +42,6 @@ pub struct Price {
     pub word: u32,
     pub price: u32,
 }
-
-// Demand 2 on diffs, where the gate shows it: the made diff turns the twins into the working pages,
-// and is the only one
-// that document 01 allows for those changes. It does nothing when it is called.
-pub fn made_is_only_diff()
-    ensures { λ _. ⌜ MadeIsOnlyDiff ⌝ }
-{}
 
 // Worked examples of diffs, computed from the definitions. It does nothing when it is called.
 pub fn examples_hold()

@@ -1,0 +1,92 @@
+-- The prices of named labels: one label, labels in two parts, two tests that agree, and that they ascend.
+use Rattle.laws.proofs.Prelude.{ℕ, zero, suc, _+_, _*_, _/_, _%_, _≤_, _<_, _≡_, refl, sym, _∙_, List, [], _∷_, _++_, Bool}
+use Rattle.laws.proofs.Prelude.{true, false, true≢false, arith}
+use native.Mathlib.Nat.{add-zero, zero-add}
+use Rattle.diff.specs.Prices.{Price, labelOf, names, appliedAt}
+use Rattle.diff.specs.Encoding.{priceAt, listed}
+use Rattle.diff.proofs.Encoding.{Ascending, none, more, ascending-from}
+
+pub label-at : (label price : ℕ) → labelOf (priceAt label price) ≡ label
+label-at label price = omega arith
+
+module _ (named : ℕ → Bool) (price : ℕ → ℕ) where
+  pub listed-none : (label : ℕ) → listed named price label zero ≡ []
+  unfolding listed
+  listed-none label = refl
+
+  -- a label that is not named, and one that is
+  pub listed-skip : (label n : ℕ) → named label ≡ false
+      → listed named price label (suc n) ≡ listed named price (label + 1) n
+  unfolding listed
+  listed-skip label n unnamed = rw unnamed
+
+  pub listed-take : (label n : ℕ) → named label ≡ true
+      → listed named price label (suc n) ≡ priceAt label (price label) ∷ listed named price (label + 1) n
+  unfolding listed
+  listed-take label n is = rw is
+
+  -- the labels of two parts, one after the other
+  pub listed-append : (label n m : ℕ)
+      → listed named price label (n + m) ≡ listed named price label n ++ listed named price (label + n) m
+  listed-append label zero m = rw (zero-add m, listed-none label, add-zero label)
+  listed-append label (suc n) m = go (named label) refl (listed-append (label + 1) n m)
+    where
+      at : label + 1 + n ≡ label + suc n
+      at = omega arith
+
+      all : suc n + m ≡ suc (n + m)
+      all = omega arith
+
+      go : (is : Bool) → named label ≡ is
+          → listed named price (label + 1) (n + m)
+          ≡ listed named price (label + 1) n ++ listed named price (label + 1 + n) m
+          → listed named price label (suc n + m)
+          ≡ listed named price label (suc n) ++ listed named price (label + suc n) m
+      go true is rest = rw (all, listed-take label (n + m) is, listed-take label n is, rest, at)
+      go false un rest = rw (all, listed-skip label (n + m) un, listed-skip label n un, rest, at)
+
+  -- labels of which none is named
+  pub listed-unnamed : (label n : ℕ) → ((i : ℕ) → label ≤ i → i < label + n → named i ≡ false)
+      → listed named price label n ≡ []
+  listed-unnamed label zero unnamed = listed-none label
+  listed-unnamed label (suc n) unnamed =
+      listed-skip label n (unnamed label (omega arith) (omega arith))
+      ∙ listed-unnamed (label + 1) n (λ i above below. unnamed i (omega arith) (omega arith))
+
+  pub listed-ascends : (pages label n : ℕ) → label + n ≤ 32 * pages
+      → Ascending pages label (listed named price label n)
+  listed-ascends pages label zero fits = rw (listed-none label) none
+  listed-ascends pages label (suc n) fits =
+      go (named label) refl (listed-ascends pages (label + 1) n (omega arith))
+    where
+      go : (is : Bool) → named label ≡ is → Ascending pages (label + 1) (listed named price (label + 1) n)
+          → Ascending pages label (listed named price label (suc n))
+      go true is rest =
+          rw (listed-take label n is)
+          (more {next = label} {p = priceAt label (price label)} {ps = listed named price (label + 1) n} (omega arith)
+          (omega arith) (omega arith) (rw label-at rest))
+      go false un rest = rw (listed-skip label n un) (ascending-from {low = label} (omega arith) rest)
+
+-- two tests and prices that agree on these labels
+pub listed-agree : (named named′ : ℕ → Bool) (price price′ : ℕ → ℕ) (label n : ℕ)
+    → ((i : ℕ) → label ≤ i → i < label + n → named i ≡ named′ i)
+    → ((i : ℕ) → label ≤ i → i < label + n → price i ≡ price′ i)
+    → listed named price label n ≡ listed named′ price′ label n
+listed-agree named named′ price price′ label zero same equal =
+    listed-none named price label ∙ sym (listed-none named′ price′ label)
+listed-agree named named′ price price′ label (suc n) same equal =
+    go (named label) refl
+    (listed-agree named named′ price price′ (label + 1) n (λ i above below. same i (omega arith) (omega arith))
+    (λ i above below. equal i (omega arith) (omega arith)))
+  where
+    here : named label ≡ named′ label
+    here = same label (omega arith) (omega arith)
+
+    go : (is : Bool) → named label ≡ is
+        → listed named price (label + 1) n ≡ listed named′ price′ (label + 1) n
+        → listed named price label (suc n) ≡ listed named′ price′ label (suc n)
+    go true is rest =
+        rw (listed-take named price label n is, listed-take named′ price′ label n (sym here ∙ is),
+          equal label (omega arith) (omega arith), rest)
+    go false un rest =
+        rw (listed-skip named price label n un, listed-skip named′ price′ label n (sym here ∙ un), rest)

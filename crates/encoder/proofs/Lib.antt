@@ -1,0 +1,1 @@
+-- Laws on the words that pages bring to a diff.

@@ -1,0 +1,39 @@
+// Writing diffs: the one diff of the words that are marked, one word of marks for each page, at
+// their prices. It is sized before a word is written.
+ghost use Rattle.laws.specs.Prelude.{_≡_, _*_, _≤_, List, ℕ, length};
+ghost use lib.Seq.{sets};
+ghost use Rattle.diff.specs.Making.{madeDiff};
+pub mod page;
+
+// How many words the diff of the marked words has.
+pub fn diff_words(marks: &[u32]) -> usize
+    requires { ⌜ length (now marks) ≤ 64 ⌝ }
+    ensures { λ r. ⌜ ((prices : List ℕ) → length prices ≡ 32 * length (now (marks .entry))
+        → r ≡ length (madeDiff prices (now (marks .entry)))) ⌝ }
+{
+    let mut words: usize = 1;
+    let mut page: usize = 0;
+    while page < marks.len() {
+        words += page::page_words(marks[page]);
+        page += 1;
+    }
+    words
+}
+
+// Writes the diff of the marked words to the front of a list that has room for it.
+pub fn write_diff(prices: &[u32], marks: &[u32], list: &mut [u32])
+    requires { ⌜ length (now marks) ≤ 64 ⌝ }
+    requires { ⌜ length (now prices) ≡ 32 * length (now marks) ⌝ }
+    requires { ⌜ length (madeDiff (now prices) (now marks)) ≤ length (now list) ⌝ }
+    ensures { λ _. ⌜ now (list .exit)
+        ≡ sets (now (list .entry)) 0 (madeDiff (now (prices .entry)) (now (marks .entry))) ⌝ }
+{
+    let mut at: usize = 0;
+    let mut page: usize = 0;
+    while page < marks.len() {
+        let first = 32 * page;
+        at = page::write_page(page, marks[page], &prices[first..first + 32], list, at);
+        page += 1;
+    }
+    list[at] = 0xF0000000 + at as u32;
+}

@@ -1,2 +1,0 @@
--- Laws on making that the maker's loops cite.
-pub mod Turns
