@@ -6,14 +6,15 @@ static uint32_t memory[RACK_MEMORY_WORDS(CARDS, PAGES)];
 static const size_t words = RACK_MEMORY_WORDS(CARDS, PAGES);
 
 int main(void) {
-    uint32_t twins[PRICES] = { 0 }, working[PRICES] = { 0 };
+    uint32_t twins[PRICES] = { 0 }, working[PRICES] = { 0 }, marks[PAGES] = { 0 };
     uint32_t desk[RACK_DESK_WORDS] = { 7 }, list[RACK_LIST_WORDS], page[RACK_PAGE_WORDS];
     rack_directory directory;
     if (rack_format(memory, words, CARDS, PAGES, &directory).number != RACK_ACCEPTED) return 1;
 
     working[PAGE * RACK_PAGE_WORDS + 2] = 250; /* two new prices, in cents */
     working[PAGE * RACK_PAGE_WORDS + 3] = 199;
-    rack_answer made = rack_make_list(working, PRICES, twins, PRICES, list, RACK_LIST_WORDS);
+    marks[PAGE] = 1 << 2 | 1 << 3; /* words 2 and 3 are to be released */
+    rack_answer made = rack_make_list(working, PRICES, twins, PRICES, marks, PAGES, list, RACK_LIST_WORDS);
     rack_answer opened = rack_open(memory, words, &directory, CARD, 1, desk, list, made.value);
     if (opened.number != RACK_ACCEPTED) return (int)opened.number;
     rack_steps(memory, words, &directory, CARD, 13);

@@ -42,10 +42,13 @@ static void send_all(void) {
     }
 }
 
-/* A desk opens a release of new prices on a card. */
+/* A desk that keeps no marks opens a release of what is new on a card. */
 static int open_release(uint32_t card, uint64_t number, const uint32_t working[PRICES]) {
     uint32_t list[RACK_LIST_WORDS], desk[RACK_DESK_WORDS] = { (uint32_t)number, (uint32_t)(number >> 32) };
-    rack_answer made = rack_make_list(working, PRICES, shelf, PRICES, list, RACK_LIST_WORDS);
+    uint32_t marks[PAGES];
+    rack_answer marked = rack_mark_changes(working, PRICES, shelf, PRICES, marks, PAGES);
+    if (refused("marks", marked.number, marked.value)) return 0;
+    rack_answer made = rack_make_list(working, PRICES, shelf, PRICES, marks, PAGES, list, RACK_LIST_WORDS);
     if (refused("list", made.number, made.value)) return 0;
     rack_answer opened = rack_open(memory, words, &directory, card, number, desk, list, (size_t)made.value);
     return !refused("opening", opened.number, opened.value);

@@ -186,7 +186,8 @@ RACK_ASSERT(sizeof(size_t) == 8);
 /* Whoever fitted the rack */
 #define RACK_LIMITS 1 /* cards or pages outside their limits, or a memory not of RACK_MEMORY_WORDS,
                          or an old one not of RACK_OLD_MEMORY_WORDS;
-                         rack_make_list: pages of unequal length, or not 32 words times 1 to 64 */
+                         rack_make_list, rack_mark_changes: pages of unequal length, or not 32
+                         words times 1 to 64, or not one word of marks for each page */
 #define RACK_UNFIT 2  /* memory and directory do not make a rack: fewer than two live cards; a page
                          whose homes are equal, or one of them not below the number of cards, or
                          dead and not the awaited card; an awaited card that is live, or not below
@@ -251,7 +252,7 @@ RACK_ASSERT(sizeof(size_t) == 8);
 **
 ** The list of no change is the end word 0xF0000000 alone; a list of no words is refused at 0. Of a
 ** list in the memory, what stands after its end word is not read. rack_make_list makes the one list
-** for a change of pages; a list of k prices takes 4k + 11 steps.
+** that names the marked words at their prices; a list of k prices takes 4k + 11 steps.
 */
 
 /*
@@ -361,13 +362,25 @@ rack_answer rack_move_back(const uint32_t *memory, size_t words, const rack_dire
                            uint32_t *old_memory, size_t old_words);
 
 /*
-** Makes the list of changes from the twins, the pages as they were fetched, to the working pages,
-** and names exactly the prices that differ. Both hold all pages of the rack, or the first of
-** them, one after the other. Gives the length of the list; words of the buffer past it are kept.
-** Refusals: 1, 17.
+** Makes the list of changes of the marked words, one word of marks for each page: bit w, which is
+** 1 << w, marks word w. The list names exactly the marked words, at their prices on the working
+** pages: also a word whose price is what it was, and not a word that has a new price and no mark.
+** Working pages and twins, the pages as they were fetched, hold all pages of the rack, or the first
+** of them, one after the other; of the twins only the number of words counts. Laid on the twins, the
+** list sets exactly the marked words. Gives the length of the list; words of the buffer past it are
+** kept. Refusals: 1, 17.
 */
 rack_answer rack_make_list(const uint32_t *working, size_t working_words, const uint32_t *twins,
-                           size_t twins_words, uint32_t *buffer, size_t buffer_words);
+                           size_t twins_words, const uint32_t *marks, size_t marks_words,
+                           uint32_t *buffer, size_t buffer_words);
+
+/*
+** Marks the words of the working pages that differ from their twins, for a desk that keeps no marks.
+** The list that rack_make_list makes with these marks turns the twins into the working pages. All
+** words of marks are written. Gives 0. Refusals: 1, and then the marks are kept.
+*/
+rack_answer rack_mark_changes(const uint32_t *working, size_t working_words, const uint32_t *twins,
+                              size_t twins_words, uint32_t *marks, size_t marks_words);
 
 #ifdef __cplusplus
 }

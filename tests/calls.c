@@ -487,17 +487,43 @@ static void high_words(void) {
 
 static void list_maker(void) {
     static uint32_t working[PRICES], twins[PRICES], buffer[6];
+    const uint32_t marks[PAGES] = { 0, 1 << 2 | 1 << 3, 0, 0 }, no_marks[PAGES] = { 0 };
+    const uint32_t confirmed[] = { 0x10000001, 0x20020001, 0, 0xF0000003 };
     working[34] = 250;
     working[35] = 199;
     memset(buffer, 0xA5, sizeof buffer);
-    rack_answer made = rack_make_list(working, PRICES, twins, PRICES, buffer, 4);
+    rack_answer made = rack_make_list(working, PRICES, twins, PRICES, marks, PAGES, buffer, 4);
     EXPECT(made.number == RACK_WRONG_BUFFER && made.value == 0 && buffer[0] == 0xA5A5A5A5);
-    made = rack_make_list(working, PRICES - 1, twins, PRICES - 1, buffer, 6);
+    made = rack_make_list(working, PRICES - 1, twins, PRICES - 1, marks, PAGES, buffer, 6);
     EXPECT(made.number == RACK_LIMITS && made.value == 0 && buffer[0] == 0xA5A5A5A5);
-    EXPECT(rack_make_list(NULL, 0, NULL, 0, NULL, 0).number == RACK_LIMITS);
-    made = rack_make_list(working, PRICES, twins, PRICES, buffer, 6);
+    made = rack_make_list(working, PRICES, twins, PRICES, marks, PAGES - 1, buffer, 6);
+    EXPECT(made.number == RACK_LIMITS && made.value == 0 && buffer[0] == 0xA5A5A5A5);
+    EXPECT(rack_make_list(working, PRICES, twins, PRICES, marks, PAGES - 1, NULL, 0).number == RACK_LIMITS);
+    EXPECT(rack_make_list(NULL, 0, NULL, 0, NULL, 0, NULL, 0).number == RACK_LIMITS);
+    made = rack_make_list(working, PRICES, twins, PRICES, marks, PAGES, buffer, 6);
     EXPECT(made.number == RACK_ACCEPTED && made.value == 5);
     EXPECT(memcmp(buffer, list, sizeof list) == 0 && buffer[5] == 0xA5A5A5A5);
+
+    /* a price set again to what it was travels; a new one without a mark does not */
+    const uint32_t again[PAGES] = { 0, 1 << 2, 0, 0 };
+    made = rack_make_list(twins, PRICES, twins, PRICES, again, PAGES, buffer, 6);
+    EXPECT(made.number == RACK_ACCEPTED && made.value == 4 && memcmp(buffer, confirmed, sizeof confirmed) == 0);
+    made = rack_make_list(working, PRICES, twins, PRICES, no_marks, PAGES, buffer, 6);
+    EXPECT(made.number == RACK_ACCEPTED && made.value == 1 && buffer[0] == 0xF0000000);
+}
+
+static void marks_of_changes(void) {
+    static uint32_t working[PRICES], twins[PRICES], marks[PAGES + 1];
+    working[0] = working[34] = working[35] = working[127] = 7;
+    memset(marks, 0xA5, sizeof marks);
+    rack_answer marked = rack_mark_changes(working, PRICES, twins, PRICES, marks, PAGES + 1);
+    EXPECT(marked.number == RACK_LIMITS && marked.value == 0 && marks[0] == 0xA5A5A5A5);
+    marked = rack_mark_changes(working, PRICES, twins, PRICES - 1, marks, PAGES);
+    EXPECT(marked.number == RACK_LIMITS && marked.value == 0 && marks[0] == 0xA5A5A5A5);
+    EXPECT(rack_mark_changes(NULL, 0, NULL, 0, NULL, 0).number == RACK_LIMITS);
+    marked = rack_mark_changes(working, PRICES, twins, PRICES, marks, PAGES);
+    EXPECT(marked.number == RACK_ACCEPTED && marked.value == 0);
+    EXPECT(marks[0] == 1 && marks[1] == 12 && marks[2] == 0 && marks[3] == 0x80000000 && marks[4] == 0xA5A5A5A5);
 }
 
 /* Any words at all: whatever stands in memory and directory, each call returns, and a refused one keeps both. */
@@ -557,6 +583,7 @@ int main(void) {
     refused_moves();
     high_words();
     list_maker();
+    marks_of_changes();
     any_words();
     return failed;
 }

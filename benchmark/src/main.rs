@@ -7,7 +7,7 @@ mod work;
 
 use bandsawpink_sys::layout::old_memory_words;
 use bandsawpink_sys::refusals::ACCEPTED;
-use bandsawpink_sys::{rack_make_list, rack_move_back, rack_move_in};
+use bandsawpink_sys::{rack_make_list, rack_mark_changes, rack_move_back, rack_move_in};
 use measure::{in_turn, Time};
 use racks::{list, spread_list, Rack, PRICES};
 use second::layout::LIST_WORDS;
@@ -125,26 +125,57 @@ fn recoveries() {
     row("failure and recovery, 8 × 64", &compare(&Rack::new(8, 64, 0), &Recovery));
 }
 
-/// The list maker has no directory: the second implementation's is timed once.
+/// List work has no directory: the second implementation's is timed once.
 fn lists() {
-    list_made("list maker, 64 pages, 40 prices", (0..PRICES as usize).map(|at| 51 * at));
-    list_made("list maker, 64 pages, 480 prices on 15 pages", 0..480);
+    let spread = || (0..PRICES as usize).map(|at| 51 * at);
+    list_made("list maker, 64 pages, 40 marked words", spread());
+    list_made("list maker, 64 pages, 480 marked words on 15 pages", 0..480);
+    changes_marked("marks of what differs, 64 pages, 40 words", spread());
 }
 
-/// A list of the given labels, which differ on the working pages.
+/// Working pages of which the given labels differ from their twins, and the marks of these.
+fn changed(labels: impl Iterator<Item = usize>) -> (Vec<u32>, Vec<u32>, Vec<u32>) {
+    let twins = vec![7; 32 * 64];
+    let (mut working, mut marks) = (twins.clone(), vec![0; 64]);
+    for label in labels {
+        working[label] = 8;
+        marks[label / 32] |= 1 << (label % 32);
+    }
+    (working, twins, marks)
+}
+
+/// A list of the given labels, which are marked.
 fn list_made(name: &str, labels: impl Iterator<Item = usize>) {
-    let twins = vec![7u32; 32 * 64];
-    let mut working = twins.clone();
-    labels.for_each(|label| working[label] = 8);
+    let (working, twins, marks) = changed(labels);
+    let (pages, twin, mark) = (working.as_ptr(), twins.as_ptr(), marks.as_ptr());
     let (mut first, mut other) = (vec![0u32; LIST_WORDS], vec![0u32; LIST_WORDS]);
     let mut proved = || {
-        let (list, room) = (black_box(&mut first).as_mut_ptr(), LIST_WORDS);
+        let list = black_box(&mut first).as_mut_ptr();
         // SAFETY: pointers and lengths of slices that live through the call and do not overlap.
-        let made = unsafe { rack_make_list(working.as_ptr(), working.len(), twins.as_ptr(), twins.len(), list, room) };
+        let made =
+            unsafe { rack_make_list(pages, working.len(), twin, twins.len(), mark, marks.len(), list, LIST_WORDS) };
         assert_eq!(made.number, ACCEPTED, "a timed call was refused");
     };
     let mut second = || {
-        black_box(second::make_list(&working, &twins, black_box(&mut other)));
+        black_box(second::make_list(&working, &twins, &marks, black_box(&mut other)));
+    };
+    let [proved, second] = in_turn([&mut proved, &mut second]);
+    row(name, &[proved, second, second]);
+}
+
+/// The marks of the given labels, which differ from their twins.
+fn changes_marked(name: &str, labels: impl Iterator<Item = usize>) {
+    let (working, twins, marks) = changed(labels);
+    let (pages, twin) = (working.as_ptr(), twins.as_ptr());
+    let (mut first, mut other) = (vec![0u32; marks.len()], vec![0u32; marks.len()]);
+    let mut proved = || {
+        let made = black_box(&mut first).as_mut_ptr();
+        // SAFETY: as in `list_made`.
+        let marked = unsafe { rack_mark_changes(pages, working.len(), twin, twins.len(), made, marks.len()) };
+        assert_eq!(marked.number, ACCEPTED, "a timed call was refused");
+    };
+    let mut second = || {
+        black_box(second::mark_changes(&working, &twins, black_box(&mut other)));
     };
     let [proved, second] = in_turn([&mut proved, &mut second]);
     row(name, &[proved, second, second]);

@@ -6,7 +6,8 @@ fn main() -> Result<(), Refusal> {
     let mut working = twins;
     working[34] = 250; // two new prices, in cents
     working[35] = 199;
-    let list = make_list(&working, &twins)?;
+    let marks = [0, 1 << 2 | 1 << 3, 0, 0]; // of page 1, words 2 and 3 are to be released
+    let list = make_list(&working, &twins, &marks)?;
     rack.open(1, 1, &[7; 8], &list)?;
     rack.steps(1, 13)?;
 

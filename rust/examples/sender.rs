@@ -1,7 +1,7 @@
 //! A sender: fetches every page of a rack and prints its labels as units and cents. Between its
 //! rounds a price desk releases changes, and a card fails in the middle of a release.
 
-use bandsawpink::{make_list, Desk, Page, Rack, Refusal, PAGE_WORDS};
+use bandsawpink::{make_list, mark_changes, Desk, Page, Rack, Refusal, PAGE_WORDS};
 
 /// What the sender has radioed, and so what the shelf shows.
 struct Sender {
@@ -29,6 +29,12 @@ impl Sender {
             }
         }
     }
+
+    /// The list of what is new on the working pages.
+    fn list(&self, working: &[u32]) -> Result<Vec<u32>, Refusal> {
+        let marks = mark_changes(working, &self.shelf)?;
+        make_list(working, &self.shelf, &marks)
+    }
 }
 
 fn main() -> Result<(), Refusal> {
@@ -40,14 +46,14 @@ fn main() -> Result<(), Refusal> {
     working[34] = 250;
     working[35] = 199;
     working[70] = 1099;
-    let list = make_list(&working, &sender.shelf)?;
+    let list = sender.list(&working)?;
     println!("released in {} steps", rack.release(1, 1, &desk, &list)?);
     sender.send_all(&rack)?;
 
     let mut cheaper = sender.shelf.clone();
     cheaper[34] = 225;
     cheaper[70] = 989;
-    let list = make_list(&cheaper, &sender.shelf)?;
+    let list = sender.list(&cheaper)?;
     rack.open(1, 2, &desk, &list)?;
     rack.steps(1, 14)?;
     sender.send_all(&rack)?;

@@ -250,13 +250,45 @@ impl Rack {
     }
 }
 
-/// The list of changes from the twins, the pages as they were fetched, to the working pages.
-pub fn make_list(working: &[u32], twins: &[u32]) -> Result<Vec<u32>, Refusal> {
+/// The list of changes of the marked words, at their prices on the working pages. There is one word of marks for each
+/// page, in which bit w marks word w. Of the twins, the pages as they were fetched, only the number of words counts.
+///
+/// A desk that confirms a price marks its word, and the price travels although it is what it was:
+///
+/// ```
+/// use bandsawpink::{make_list, mark_changes};
+///
+/// let twins = [199; 4 * 32];
+/// let mut working = twins;
+/// let mut marks = [0; 4];
+/// marks[1] |= 1 << 2; // page 1, word 2: 199, confirmed
+/// let list = make_list(&working, &twins, &marks)?;
+/// assert_eq!(list, [0x1000_0001, 0x2002_0001, 199, 0xF000_0003]);
+///
+/// // a desk that keeps no marks has them made of what differs
+/// working[35] = 250;
+/// assert_eq!(mark_changes(&working, &twins)?, [0, 1 << 3, 0, 0]);
+/// # Ok::<(), bandsawpink::Refusal>(())
+/// ```
+pub fn make_list(working: &[u32], twins: &[u32], marks: &[u32]) -> Result<Vec<u32>, Refusal> {
     let mut list = vec![0; LIST_WORDS];
+    let (pages, pages_words) = (working.as_ptr(), working.len());
+    let (buffer, room) = (list.as_mut_ptr(), list.len());
     // SAFETY: the slices are lent with their lengths, and the list is not one of them.
     let length = accepted(unsafe {
-        sys::rack_make_list(working.as_ptr(), working.len(), twins.as_ptr(), twins.len(), list.as_mut_ptr(), list.len())
+        sys::rack_make_list(pages, pages_words, twins.as_ptr(), twins.len(), marks.as_ptr(), marks.len(), buffer, room)
     })?;
     list.truncate(length as usize);
     Ok(list)
+}
+
+/// The marks of the words of the working pages that differ from their twins, one word for each page: for a desk that
+/// keeps no marks. The list made with them turns the twins into the working pages.
+pub fn mark_changes(working: &[u32], twins: &[u32]) -> Result<Vec<u32>, Refusal> {
+    let mut marks = vec![0; working.len() / PAGE_WORDS];
+    let (pages, pages_words) = (working.as_ptr(), working.len());
+    let (buffer, room) = (marks.as_mut_ptr(), marks.len());
+    // SAFETY: as in `make_list`.
+    accepted(unsafe { sys::rack_mark_changes(pages, pages_words, twins.as_ptr(), twins.len(), buffer, room) })?;
+    Ok(marks)
 }

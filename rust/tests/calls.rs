@@ -1,7 +1,7 @@
 //! Each call through the static library: what is accepted, each refusal with its place, and that a
 //! refusal changes nothing.
 
-use bandsawpink::{make_list, old_memory_words, Desk, Directory, Page, Rack, Recovered, Refusal, Stopped};
+use bandsawpink::{make_list, mark_changes, old_memory_words, Desk, Directory, Page, Rack, Recovered, Refusal, Stopped};
 
 const DESK: Desk = [1, 2, 3, 4, 5, 6, 7, 8];
 const LIST: [u32; 5] = [0x1000_0001, 0x2002_0002, 250, 199, 0xF000_0004];
@@ -57,11 +57,18 @@ fn a_list_and_its_release() {
     let (twins, mut working) = ([0; 128], [0; 128]);
     working[34] = 250;
     working[35] = 199;
-    assert_eq!(make_list(&working, &twins).unwrap(), LIST);
-    assert_eq!(make_list(&twins, &twins).unwrap(), [0xF000_0000]);
-    assert_eq!(make_list(&working, &twins[..96]), Err(Refusal::Limits));
-    let all: Vec<u32> = (1..=2048).collect();
-    assert_eq!(make_list(&all, &[0; 2048]), Err(Refusal::WrongBuffer));
+    let marks = [0, 12, 0, 0];
+    assert_eq!(mark_changes(&working, &twins).unwrap(), marks);
+    assert_eq!(make_list(&working, &twins, &marks).unwrap(), LIST);
+    assert_eq!(make_list(&working, &twins, &[0; 4]).unwrap(), [0xF000_0000]);
+    assert_eq!(make_list(&twins, &twins, &[0, 4, 0, 0]).unwrap(), [0x1000_0001, 0x2002_0001, 0, 0xF000_0003]);
+    for (twins, marks) in [(&twins[..96], &marks[..]), (&twins[..], &marks[..3])] {
+        assert_eq!(make_list(&working, twins, marks), Err(Refusal::Limits));
+    }
+    assert_eq!(mark_changes(&working, &twins[..96]), Err(Refusal::Limits));
+    assert_eq!(mark_changes(&working[..33], &twins[..33]), Err(Refusal::Limits));
+    let all = [u32::MAX; 64];
+    assert_eq!(make_list(&[7; 2048], &[0; 2048], &all), Err(Refusal::WrongBuffer));
 
     let mut rack = rack();
     assert_eq!(rack.release(1, 1, &DESK, &LIST), Ok(19));

@@ -152,7 +152,17 @@ extern "C" {
         working_words: usize,
         twins: *const u32,
         twins_words: usize,
+        marks: *const u32,
+        marks_words: usize,
         buffer: *mut u32,
         buffer_words: usize,
+    ) -> Answer;
+    pub fn rack_mark_changes(
+        working: *const u32,
+        working_words: usize,
+        twins: *const u32,
+        twins_words: usize,
+        marks: *mut u32,
+        marks_words: usize,
     ) -> Answer;
 }
