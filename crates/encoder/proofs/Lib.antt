@@ -1,1 +1,2 @@
 -- Laws on the words that pages bring to a diff.
+pub mod Pages
