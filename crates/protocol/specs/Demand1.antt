@@ -6,7 +6,7 @@ use Rattle.answer.specs.declared.Outcome.{Outcome}
 use Rattle.directory.specs.declared.Directory.{Directory}
 use Rattle.directory.specs.Directory.{emptyDirectory}
 use Rattle.area.specs.Prelude.{zeros, deskSize}
-use Rattle.diff.specs.Making.{makeDiff, bufferAfter}
+use Rattle.diff.specs.Making.{makeDiff, bufferAfter, markChanges, marksAfter}
 use Rattle.protocol.specs.Result.{Result, accepted}
 use Rattle.protocol.specs.Formatting.{formatting}
 use Rattle.protocol.specs.Calls.{Call, open-release, make-step, fetch-page, fail-card, recover, join-card}
@@ -42,7 +42,7 @@ pub record Unchanged (refusals : List ℕ) (d : Directory) (m buffer : List ℕ)
   pub memory : result .memory ≡ m
   pub words : result .words ≡ buffer
 
--- a refused making of a list: by one of these numbers, at no place, and the list buffer holds what it held
+-- refused list work: by one of these numbers, at no place, and the lent buffer, of a list or of marks, holds what it held
 pub record BufferKept (refusals buffer : List ℕ) (outcome : Outcome) (after : List ℕ) : Type 0 where
   pub numbered : isAmong refusals (outcome .number) ≡ true
   pub no-place : outcome .value ≡ 0
@@ -56,8 +56,15 @@ pub record Demand1 : Type 0 where
   pub formats :
       (m : List ℕ) (cards pages : ℕ) → accepted (formatting m cards pages .outcome) ≡ false
       → Unchanged (1 ∷ []) emptyDirectory m [] (formatting m cards pages)
-  -- The list maker: 1 where the lent pages are of unequal length or not 32 words times 1 to 64, 17 where the list is
-  -- longer than its buffer or than 512 words.
+  -- The list maker: 1 where the lent pages are of unequal length or not 32 words times 1 to 64, or there is not one word
+  -- of marks for each, 17 where the list is longer than its buffer or than 512 words.
   pub lists :
-      (working twins buffer : List ℕ) → accepted (makeDiff working twins (length buffer)) ≡ false
-      → BufferKept (1 ∷ 17 ∷ []) buffer (makeDiff working twins (length buffer)) (bufferAfter working twins buffer)
+      (working twins marks buffer : List ℕ) → accepted (makeDiff working twins marks (length buffer)) ≡ false
+      → BufferKept (1 ∷ 17 ∷ []) buffer (makeDiff working twins marks (length buffer))
+      (bufferAfter working twins marks buffer)
+  -- The marks of what differs: 1 for any of these lengths.
+  pub marks :
+      (working twins marks : List ℕ)
+      → accepted (markChanges (length working) (length twins) (length marks)) ≡ false
+      → BufferKept (1 ∷ []) marks (markChanges (length working) (length twins) (length marks))
+      (marksAfter working twins marks)

@@ -12,7 +12,9 @@ use Rattle.directory.specs.NewHome.{pagesAt, isFewest, evenHome}
 use Rattle.area.specs.Prelude.{load, store, loadRun, overwrite, storeRun, clearRun, copyRun, zeros, Release, ownRelease}
 use Rattle.area.specs.Prelude.{openRelease, openList, stepsOf, isOpen, recordedRelease, underWay, settledRecord}
 use Rattle.area.specs.Prelude.{writeRecord, writeOwnRecord, numberWords, numberAt}
-use Rattle.diff.specs.Making.{differencesFrom, encodeFrom, madeDiff, runLength, runHeader, lentPages, makeDiff}
+use Rattle.diff.specs.Encoding.{listed, encodeFrom, runLength, runHeader}
+use Rattle.diff.specs.Marks.{changedWords, changesOf}
+use Rattle.diff.specs.Making.{madeDiff, lentPages, lentMarked, makeDiff}
 use Rattle.diff.specs.Prices.{pricesOf, pricesFrom, names}
 use Rattle.diff.specs.Reading.{readFrom, wordStep, checkDiff}
 use Rattle.protocol.specs.Release.{sizeOf, releaseWrites, makeWrite, close, stepMemory}
@@ -55,8 +57,8 @@ used d m card r list idle low =
 
 all-shown : AllHold (completed ∷ rows)
 unfolding sameWords failuresFrom Claims numberWords numberAt lowestFrom countBelow inTurn load store loadRun overwrite
-    storeRun clearRun copyRun zeros formattedDirectory emptyDirectory tableFrom nextLive differencesFrom encodeFrom
-    madeDiff runLength runHeader lentPages makeDiff pricesOf pricesFrom names readFrom wordStep checkDiff ownRelease
+    storeRun clearRun copyRun zeros formattedDirectory emptyDirectory tableFrom nextLive listed encodeFrom
+    changedWords changesOf madeDiff runLength runHeader lentPages lentMarked makeDiff pricesOf pricesFrom names readFrom wordStep checkDiff ownRelease
     openRelease openList stepsOf isOpen releaseWrites makeWrite close stepMemory recordedRelease underWay settledRecord
     writeRecord writeOwnRecord firstRefusal outsideLimits fewLive badHome badPage badStatus badRelease badCard
     unfitRack awaitsRecovery formatting shareWord sharesWith openMemory opening step namesPage inMotion committedPage

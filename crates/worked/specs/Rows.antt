@@ -1,5 +1,6 @@
 -- Document 01's worked numbers with ◆ ("Numbers to hold it against"), as rows of one list, computed from the
--- definitions that the calls' contracts cite; the first and the last but one are as document 02, request 5, makes them.
+-- definitions that the calls' contracts cite; the first and the last but one are as document 02, request 5, makes them,
+-- and the lists are made with the words that differ marked, as its request 2 says.
 -- A row shows outcomes beside words, or words that an accepted call alone changes, and buffers that are lent hold
 -- sevens: a call that is refused meets none.
 -- Assumes nothing: these are definitions.
@@ -12,6 +13,7 @@ use Rattle.directory.specs.declared.Status.the-variants.{Running}
 use Rattle.directory.specs.Directory.{isLive, tableFrom}
 use Rattle.area.specs.Prelude.{load, zeros, recordStamp, openFlag, Release, releaseOf, ownRelease, isOpen, loadNumber}
 use Rattle.area.specs.Prelude.{openRelease, stepsOf}
+use Rattle.diff.specs.Marks.{changeMarks}
 use Rattle.diff.specs.Making.{makeDiff, bufferAfter}
 use Rattle.protocol.specs.Release.{sizeOf}
 use Rattle.protocol.specs.Checks.{outsideLimits, unfitRack}
@@ -41,9 +43,11 @@ twoPrices = 0x10000001 ∷ 0x20020002 ∷ 0xFA ∷ 0xC7 ∷ 0xF0000004 ∷ []
 unfoldable pub noPrice : List ℕ
 noPrice = 0xF0000000 ∷ []
 
--- what the list maker answers for working pages whose twins are zero, and its buffer
+-- what the list maker answers for working pages whose twins are zero, with the words that differ marked, and its buffer
 abbrev pub made : List ℕ → List ℕ
-made working = inWords (makeDiff working (zeros 128) 6) ++ bufferAfter working (zeros 128) (sevens 6)
+made working =
+    inWords (makeDiff working (zeros 128) (changeMarks working (zeros 128)) 6)
+    ++ bufferAfter working (zeros 128) (changeMarks working (zeros 128)) (sevens 6)
 
 -- ---- release 1 of card 1, whose desk wants the words 50 to 57 back
 
