@@ -3,7 +3,7 @@
 ghost use Rattle.laws.specs.Prelude.{_≡_, cond, eqb, length};
 ghost use Rattle.laws.specs.Examples.{AllHold};
 ghost use Rattle.area.specs.Prelude.{releaseOf};
-ghost use Rattle.diff.specs.Making.{makeDiff, bufferAfter};
+ghost use Rattle.diff.specs.Making.{makeDiff, bufferAfter, markChanges, marksAfter};
 ghost use Rattle.protocol.specs.Calls.{formatting, opening, step, fetch, failure, recovery, join};
 ghost use Rattle.protocol.specs.Calls.{deskQuestion};
 ghost use Rattle.batch.specs.Steps.{steps};
@@ -247,14 +247,39 @@ pub extern "C" fn rack_desk(memory: &[u32], directory: &[u32; 139], card: u32) -
 
 // `maker::make`.
 #[no_mangle]
-pub extern "C" fn rack_make_list(working: &[u32], twins: &[u32], buffer: &mut [u32]) -> RackAnswer
+pub extern "C" fn rack_make_list(
+    working: &[u32],
+    twins: &[u32],
+    marks: &[u32],
+    buffer: &mut [u32],
+) -> RackAnswer
     ensures answer { λ r. ⌜ r
         ≡ exportedAnswer
-        (makeDiff (now (working .entry)) (now (twins .entry)) (length (now (buffer .entry)))) ⌝ }
+        (makeDiff (now (working .entry)) (now (twins .entry)) (now (marks .entry))
+        (length (now (buffer .entry)))) ⌝ }
     ensures written { λ _. ⌜ now (buffer .exit)
-        ≡ bufferAfter (now (working .entry)) (now (twins .entry)) (now (buffer .entry)) ⌝ }
+        ≡ bufferAfter (now (working .entry)) (now (twins .entry)) (now (marks .entry))
+        (now (buffer .entry)) ⌝ }
 {
-    let answer = maker::make(working, twins, buffer);
+    let answer = maker::make(working, twins, marks, buffer);
+    answers::in_numbers(answer)
+}
+
+// `maker::mark_changes`.
+#[no_mangle]
+pub extern "C" fn rack_mark_changes(
+    working: &[u32],
+    twins: &[u32],
+    marks: &mut [u32],
+) -> RackAnswer
+    ensures answer { λ r. ⌜ r
+        ≡ exportedAnswer
+        (markChanges (length (now (working .entry))) (length (now (twins .entry)))
+        (length (now (marks .entry)))) ⌝ }
+    ensures written { λ _. ⌜ now (marks .exit)
+        ≡ marksAfter (now (working .entry)) (now (twins .entry)) (now (marks .entry)) ⌝ }
+{
+    let answer = maker::mark_changes(working, twins, marks);
     answers::in_numbers(answer)
 }
 
