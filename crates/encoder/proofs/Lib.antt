@@ -1,2 +1,4 @@
 -- Laws on the words that pages bring to a diff.
+pub mod Changed
+pub mod Bits
 pub mod Pages
