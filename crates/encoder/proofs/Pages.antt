@@ -109,6 +109,13 @@ module _ (prices marks : List ℕ) (page : ℕ) (within : page < length marks) w
         listed-agree named _ price _ (32 * page) 32 own-marks own-prices,
       )
 
+  pub length-next :
+      length (bodyOn prices marks page)
+      ≡ length (pageWords page (getD marks page 0) (pricesOfPage prices page)) + length (bodyOn prices marks (page + 1))
+  length-next =
+      ap length body-on-next
+      ∙ length-append (pageWords page (getD marks page 0) (pricesOfPage prices page)) (bodyOn prices marks (page + 1))
+
 -- ---- the whole diff
 
 -- it has one word more, the end word

@@ -1,0 +1,2 @@
+-- Laws that the list maker's functions cite.
+pub mod Lent
