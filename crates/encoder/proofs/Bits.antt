@@ -12,7 +12,7 @@ use Rattle.encoder.specs.Page.{FirstRun}
 
 -- ---- trailing zeros
 
-pub half-fits : {word : ℕ} (bits : ℕ) → word < 2 ^ suc bits → word / 2 < 2 ^ bits
+half-fits : {word : ℕ} (bits : ℕ) → word < 2 ^ suc bits → word / 2 < 2 ^ bits
 half-fits bits small = shr-lt bits 1 (rw add-one small)
 
 -- no bit below them is set

@@ -1,0 +1,28 @@
+-- `page::page_words` meets its contract: the ones of the marks and of the ends of runs count the words of a page.
+use Prim.Native.Nat.{_≤_}
+use mathlib.Core.Path.{sym}
+use native.Mathlib.Omega.{arith}
+use borrow.Author.Needs.{needs}
+use Rattle.encoder.proofs.Counting.{runsAndMarks, runs-and-marks-most, page-words-some, page-words-none}
+use Rattle.encoder.proofs.page.page_words.Statement.{statement}
+use Rattle.encoder.proofs.page.page_words.Tie as tie
+use Rattle.encoder.proofs.page.page_words.Reads as reads
+use Rattle.encoder.proofs.page.page_words.Lts as lts
+
+returns : tie.Need-returns
+returns c = (search needs, λ page prices. sym (page-words-none page (c .before .args .marks) prices (c .if1 .taken)))
+
+most : (c : lts.Else1 reads.Pre reads.Post) → runsAndMarks 32 (c .before .args .marks) ≤ 64
+most c = runs-and-marks-most 32 (c .before .args .marks) (search needs)
+
+returns-2 : tie.Need-returns-2
+returns-2 c = (
+  omega (arith, most c),
+  λ page prices. omega (arith, page-words-some page (c .before .args .marks) prices (search needs) (search needs)),
+)
+
+pub page-words-spec : {M : Type 1} → statement M
+page-words-spec =
+    tie.close
+    (tie.spec returns (λ c. omega (arith, most c)) (λ c. omega (arith, most c)) (λ c. omega (arith, most c))
+    (λ c. omega (arith, most c)) returns-2)
