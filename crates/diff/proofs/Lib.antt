@@ -7,7 +7,12 @@ pub mod Encoding
 pub mod Coded
 pub mod Decoded
 pub mod Prices
+pub mod SamePrices
 pub mod Listed
 pub mod Bits
+pub mod PageCount
+pub mod Marks
 pub mod Making
 pub mod OnlyDiff
+pub mod MadeDiff
+pub mod MadeOfChanges

@@ -1,10 +1,13 @@
--- The prices of named labels: one label, labels in two parts, two tests that agree, and that they ascend.
-use Rattle.laws.proofs.Prelude.{ℕ, zero, suc, _+_, _*_, _/_, _%_, _≤_, _<_, _≡_, refl, sym, _∙_, List, [], _∷_, _++_, Bool}
-use Rattle.laws.proofs.Prelude.{true, false, true≢false, arith}
+-- The prices of named labels: one label, labels in two parts, two tests that agree, that they ascend, and what they
+-- name and set.
+use Rattle.laws.proofs.Prelude.{ℕ, zero, suc, _+_, _*_, _≤_, _<_, _≡_, refl, sym, _∙_, _≢_, [], _∷_, _++_, Bool, true}
+use Rattle.laws.proofs.Prelude.{false, true≢false, arith, ℕ-discrete}
 use native.Mathlib.Nat.{add-zero, zero-add}
 use Rattle.diff.specs.Prices.{Price, labelOf, names, appliedAt}
 use Rattle.diff.specs.Encoding.{priceAt, listed}
 use Rattle.diff.proofs.Encoding.{Ascending, none, more, ascending-from}
+use Rattle.diff.proofs.Prices.{names-first, names-later, names-none, names-below, applied-first, applied-later}
+use Rattle.diff.proofs.Prices.{applied-below}
 
 pub label-at : (label price : ℕ) → labelOf (priceAt label price) ≡ label
 label-at label price = omega arith
@@ -67,6 +70,68 @@ module _ (named : ℕ → Bool) (price : ℕ → ℕ) where
           (omega arith) (omega arith) (rw label-at rest))
       go false un rest = rw (listed-skip label n un) (ascending-from {low = label} (omega arith) rest)
 
+  -- ---- what they name, and what they set it to
+
+  -- the first label, and others
+  module _ (label n : ℕ) where
+    abbrev first : Price
+    first = priceAt label (price label)
+
+    above-first : Ascending (label + 1 + n) (label + 1) (listed named price (label + 1) n)
+    above-first = listed-ascends (label + 1 + n) (label + 1) n (omega arith)
+
+    names-first-label : names (listed named price label (suc n)) label ≡ named label
+    names-first-label = go (named label) refl
+      where
+        go : (is : Bool) → named label ≡ is → names (listed named price label (suc n)) label ≡ is
+        go true is = rw (listed-take label n is) (names-first first _ label (label-at label (price label)))
+        go false un = rw (listed-skip label n un) (names-below above-first label (omega arith))
+
+    applied-first-label : (old : ℕ) → named label ≡ true
+        → appliedAt (listed named price label (suc n)) label old ≡ price label
+    applied-first-label old is =
+        rw (listed-take label n is)
+        (applied-first first _ label old (label-at label (price label))
+        ∙ applied-below above-first label (price label) (omega arith))
+
+    module _ (l : ℕ) (other : label ≢ l) where
+      names-other-label : names (listed named price label (suc n)) l ≡ names (listed named price (label + 1) n) l
+      names-other-label = go (named label) refl
+        where
+          go : (is : Bool) → named label ≡ is
+              → names (listed named price label (suc n)) l ≡ names (listed named price (label + 1) n) l
+          go true is = rw (listed-take label n is) (names-later first _ l (omega arith))
+          go false un = rw (listed-skip label n un)
+
+      applied-other-label : (old : ℕ)
+          → appliedAt (listed named price label (suc n)) l old ≡ appliedAt (listed named price (label + 1) n) l old
+      applied-other-label old = go (named label) refl
+        where
+          go : (is : Bool) → named label ≡ is
+              → appliedAt (listed named price label (suc n)) l old ≡ appliedAt (listed named price (label + 1) n) l old
+          go true is = rw (listed-take label n is) (applied-later first _ l old (omega arith))
+          go false un = rw (listed-skip label n un)
+
+  -- they name just those of their labels that the test names
+  pub listed-names : (label n l : ℕ) → label ≤ l → l < label + n → names (listed named price label n) l ≡ named l
+  listed-names label zero l low high = absurd (omega arith)
+  listed-names label (suc n) l low high = elim (ℕ-discrete label l) [
+    | yes same ↦ rw (← same) (names-first-label label n)
+    | no other ↦ names-other-label label n l other ∙ listed-names (label + 1) n l (omega arith) (omega arith)
+  ]
+
+  -- a label that they name is set to its price, whatever it was
+  pub listed-applied : (label n l old : ℕ) → names (listed named price label n) l ≡ true
+      → appliedAt (listed named price label n) l old ≡ price l
+  listed-applied label zero l old is = absurd (true≢false (sym is ∙ rw (listed-none label) (names-none l)))
+  listed-applied label (suc n) l old is = elim (ℕ-discrete label l) [
+    | yes same ↦
+        rw (← same) (applied-first-label label n old (sym (names-first-label label n) ∙ (rw (← same) at is)))
+    | no other ↦
+        applied-other-label label n l other old
+        ∙ listed-applied (label + 1) n l old (sym (names-other-label label n l other) ∙ is)
+  ]
+
 -- two tests and prices that agree on these labels
 pub listed-agree : (named named′ : ℕ → Bool) (price price′ : ℕ → ℕ) (label n : ℕ)
     → ((i : ℕ) → label ≤ i → i < label + n → named i ≡ named′ i)
@@ -86,7 +151,11 @@ listed-agree named named′ price price′ label (suc n) same equal =
         → listed named price (label + 1) n ≡ listed named′ price′ (label + 1) n
         → listed named price label (suc n) ≡ listed named′ price′ label (suc n)
     go true is rest =
-        rw (listed-take named price label n is, listed-take named′ price′ label n (sym here ∙ is),
-          equal label (omega arith) (omega arith), rest)
+        rw (
+          listed-take named price label n is,
+          listed-take named′ price′ label n (sym here ∙ is),
+          equal label (omega arith) (omega arith),
+          rest,
+        )
     go false un rest =
         rw (listed-skip named price label n un, listed-skip named′ price′ label n (sym here ∙ un), rest)

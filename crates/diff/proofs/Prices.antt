@@ -1,6 +1,6 @@
 -- What prices do to a label, one label at a time.
-use Rattle.laws.proofs.Prelude.{ℕ, _<_, _≡_, refl, sym, _∙_, _≢_, List, [], _∷_, Bool, true, false, cond, true≢false}
-use Rattle.laws.proofs.Prelude.{arith, ℕ-discrete, eq-eqb, ne-eqb, length, getD, set, eqb}
+use Rattle.laws.proofs.Prelude.{ℕ, _*_, _<_, _≤_, _≡_, refl, sym, _∙_, _≢_, List, [], _∷_, true, false, true≢false}
+use Rattle.laws.proofs.Prelude.{arith, ℕ-discrete, eq-eqb, ne-eqb, length, getD, set}
 use lib.ListN.{length-set}
 use lib.Seq.{getD-set-same, getD-set-other}
 use Rattle.diff.specs.Prices.{Price, labelOf, names, appliedAt, applyPrices}
@@ -16,14 +16,6 @@ module _ (p : Price) (ps : List Price) (label : ℕ) where
   pub names-later : labelOf p ≢ label → names (p ∷ ps) label ≡ names ps label
   unfolding names
   names-later n = rw (ne-eqb (labelOf p) label n)
-
-  pub names-more : names ps label ≡ true → names (p ∷ ps) label ≡ true
-  unfolding names
-  names-more e = go (eqb (labelOf p) label)
-    where
-      go : (first : Bool) → cond first true (names ps label) ≡ true
-      go true = refl
-      go false = e
 
 pub names-none : (label : ℕ) → names [] label ≡ false
 unfolding names
@@ -55,6 +47,18 @@ applied-unnamed (p ∷ ps) label price unnamed =
     go (yes here) rest = absurd (true≢false (sym (names-first p ps label here) ∙ unnamed))
     go (no there) rest = applied-later p ps label price there ∙ rest (sym (names-later p ps label there) ∙ unnamed)
 
+-- and one that they name has the same price after them, whatever it had
+pub applied-named : (ps : List Price) (label price price′ : ℕ) → names ps label ≡ true
+    → appliedAt ps label price ≡ appliedAt ps label price′
+applied-named [] label price price′ named = absurd (true≢false (sym named ∙ names-none label))
+applied-named (p ∷ ps) label price price′ named = elim (ℕ-discrete (labelOf p) label) [
+  | yes here ↦ applied-first p ps label price here ∙ sym (applied-first p ps label price′ here)
+  | no there ↦
+      applied-later p ps label price there
+      ∙ applied-named ps label price price′ (sym (names-later p ps label there) ∙ named)
+      ∙ sym (applied-later p ps label price′ there)
+]
+
 -- labels below ascending prices keep theirs
 pub applied-below : {pages next : ℕ} {ps : List Price} → Ascending pages next ps → (label price : ℕ) → label < next
     → appliedAt ps label price ≡ price
@@ -67,6 +71,13 @@ pub names-below : {pages next : ℕ} {ps : List Price} → Ascending pages next 
 names-below none label below = names-none label
 names-below (more {p = p} {ps = ps} up _ _ rest) label below =
     names-later p ps label (omega arith) ∙ names-below rest label (omega arith)
+
+-- and labels past the pages of ascending prices are not named
+pub names-past : {pages next : ℕ} {ps : List Price} → Ascending pages next ps → (label : ℕ) → 32 * pages ≤ label
+    → names ps label ≡ false
+names-past none label past = names-none label
+names-past (more {p = p} {ps = ps} _ word page rest) label past =
+    names-later p ps label (omega arith) ∙ names-past rest label past
 
 -- ---- pages with prices applied to them
 

@@ -1,7 +1,9 @@
-// The diff (document 01's list of changes): its definitions, and the theorem on the one that two
-// states of the pages make.
+// The diff (document 01's list of changes): its definitions, and the theorems on the one that
+// prices, marked words, or two states of the pages make.
 // The types are declared here; the code that reads and makes diffs stands in the crates above.
 ghost use Rattle.laws.specs.Examples.{AllHold};
+ghost use Rattle.diff.specs.OnlyDiff.{OneDiffForPrices};
+ghost use Rattle.diff.specs.MadeDiff.{MadeOfMarksOnly, MarksAreChanges, MadeIsOnlyDiff};
 ghost use Rattle.diff.specs.Examples.{examples};
 
 // Where the reading of a diff stands.
@@ -42,6 +44,31 @@ pub struct Price {
     pub word: u32,
     pub price: u32,
 }
+
+// For each set of labels and their prices document 01 allows one diff, where the gate shows it. It
+// does nothing when it is called.
+pub fn one_diff_for_prices()
+    ensures { λ _. ⌜ OneDiffForPrices ⌝ }
+{}
+
+// The diff made of marked words names just these at their working prices, and is the only such diff
+// that document 01 allows, where the gate shows it. It does nothing when it is called.
+pub fn made_of_marks()
+    ensures { λ _. ⌜ MadeOfMarksOnly ⌝ }
+{}
+
+// The marks of the changes mark just the words that differ from their twins, and the diff made with
+// them is that of the differences, where the gate shows it. It does nothing when it is called.
+pub fn marks_are_changes()
+    ensures { λ _. ⌜ MarksAreChanges ⌝ }
+{}
+
+// Demand 2 on diffs, where the gate shows it: the diff made with the marks of the changes turns the
+// twins into the working pages, and is the only one that document 01 allows for those changes. It
+// does nothing when it is called.
+pub fn made_is_only_diff()
+    ensures { λ _. ⌜ MadeIsOnlyDiff ⌝ }
+{}
 
 // Worked examples of diffs, computed from the definitions. It does nothing when it is called.
 pub fn examples_hold()

@@ -1,31 +1,16 @@
 -- The marks of the words that differ from their twins: what one word more brings, and that those of 32 words fit.
-use Rattle.laws.proofs.Prelude.{ℕ, suc, _+_, _-_, _*_, _^_, _<_, _≤_, _≡_, _∙_, ap, List, [], _∷_, cond, length, getD}
-use Rattle.laws.proofs.Prelude.{drop, Bool, true, false, eqb, arith, eq-eqb, ne-eqb}
-use native.Mathlib.Nat.{pow-suc, lt-of-lt-of-le}
+use Rattle.laws.proofs.Prelude.{ℕ, suc, _+_, _-_, _*_, _^_, _<_, _≤_, _≡_, _∙_, ap, List, _∷_, cond, length, getD}
+use Rattle.laws.proofs.Prelude.{drop, eqb, arith, eq-eqb, ne-eqb}
 use lib.ListN.{length-drop, drop-of-length-le}
-use lib.Pow.{pow-pos, pow-mono}
 use lib.Seq.{drop-cons}
 use Rattle.diff.specs.Marks.{changedWords}
+use Rattle.diff.proofs.Marks.{changed-small}
 
--- no more bits than words
-changed-bits : (words twins : List ℕ) → changedWords words twins < 2 ^ length words
-unfolding changedWords
-changed-bits [] twins = pow-pos 0
-changed-bits (w ∷ ws) [] = pow-pos (length (w ∷ ws))
-changed-bits (w ∷ ws) (t ∷ ts) = go (eqb w t) (changed-bits ws ts)
-  where
-    go : (same : Bool) → changedWords ws ts < 2 ^ length ws
-        → cond same 0 1 + 2 * changedWords ws ts < 2 ^ suc (length ws)
-    go true rest = omega (arith, pow-suc 2 (length ws))
-    go false rest = omega (arith, pow-suc 2 (length ws))
-
--- so there is room for one more bit
+-- the marks of fewer than 32 words have room for one more
 pub changed-fits : (words twins : List ℕ) (next : ℕ) {marks : ℕ} → length words ≡ 32 → 0 < next
     → marks ≡ changedWords (drop next words) (drop next twins) → marks < 2 ^ 31
 changed-fits words twins next lent some are =
-    rw are
-    (lt-of-lt-of-le (changed-bits (drop next words) (drop next twins))
-    (rw (length-drop next words, lent) (pow-mono {i = 32 - next} {j = 31} (omega arith))))
+    rw are (changed-small 31 (drop next words) (drop next twins) (simp length-drop (omega arith)))
 
 pub changed-none : (words twins : List ℕ) (next : ℕ) → length words ≤ next → 0 ≡ changedWords (drop next words) twins
 unfolding changedWords

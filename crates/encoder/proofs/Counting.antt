@@ -7,14 +7,15 @@ use native.Mathlib.Nat.{lt-of-le-of-lt, div-one, add-zero}
 use lib.Bits.{bitAnd, and-step, and-shr, and-le-l}
 use lib.Count.{ones, ones-step, ones-le}
 use lib.ListN.{length-append}
-use lib.Pow.{shr-shr, shr-lt, shr-le}
+use lib.Pow.{shr-shr, shr-lt}
 use Rattle.diff.specs.declared.Price.{Price}
 use Rattle.diff.specs.Encoding.{priceAt, listed, encodeFrom, runHeader, runLength}
 use Rattle.diff.specs.Marks.{bit, isSet}
-use Rattle.diff.proofs.Listed.{label-at, listed-none, listed-skip, listed-take, listed-unnamed}
+use Rattle.diff.proofs.Listed.{label-at, listed-none, listed-skip, listed-take}
 use Rattle.diff.proofs.Encoding.{encode-none, encode-price, run-header-page, run-header-run, run-header-none}
 use Rattle.encoder.specs.Page.{pageWords}
 use Rattle.encoder.proofs.Bits.{complement, complement-half, complement-first}
+use Rattle.encoder.proofs.Runs.{page-words-none}
 
 -- ---- runs and marks of so many words, lowest bit first
 
@@ -192,11 +193,9 @@ module _ (page marks : ℕ) (prices : List ℕ) where
     page-words-some some =
         rw (div-one marks, add-zero (32 * page)) at (counted-first 32 0 refl (rw (div-one marks) some))
 
-  pub page-words-none : marks ≡ 0 → length (pageWords page marks prices) ≡ 0
-  unfolding pageWords
-  page-words-none none =
-      rw (
-        listed-unnamed named priceOf (32 * page) 32
-            (λ label from to. ne-eqb (bit marks (label % 32)) 1 (λ set. omega (arith, shr-le marks (label % 32)))),
-        encode-none 0,
-      )
+    -- they are few
+    pub page-words-most : length (pageWords page marks prices) ≤ 65
+    page-words-most = elim (ℕ-discrete marks 0) [
+      | yes none ↦ omega (arith, ap length (page-words-none page marks prices none))
+      | no some ↦ omega (arith, page-words-some (omega arith), runs-and-marks-most 32 marks small)
+    ]

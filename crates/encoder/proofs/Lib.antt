@@ -2,4 +2,6 @@
 pub mod Changed
 pub mod Bits
 pub mod Counting
+pub mod Runs
+pub mod Writing
 pub mod Pages

@@ -57,11 +57,12 @@ fn run_word(offset: usize, count: usize) -> u32
     0x20000000 + (offset * 0x10000 + count) as u32
 }
 
-// Writes the runs of a page from `start` on, and says where they end.
+// Writes the runs of a page from `start` on, and says where they end. They are the same on every
+// page: room for those of one page will do.
 fn write_runs(marks: u32, prices: &[u32], list: &mut [u32], start: usize) -> usize
     requires { ⌜ length (now prices) ≡ 32 ⌝ }
-    requires { ⌜ ((page : ℕ) → start + length (runWords page marks (now prices))
-        ≤ length (now list)) ⌝ }
+    requires { ⌜ ((page : ℕ) × (start + length (runWords page marks (now prices))
+        ≤ length (now list))) ⌝ }
     ensures stopped { λ r. ⌜ ((page : ℕ)
         → r ≡ start + length (runWords page marks (now (prices .entry)))) ⌝ }
     ensures written { λ _. ⌜ ((page : ℕ) → now (list .exit)
@@ -88,6 +89,7 @@ pub fn write_page(page: usize, marks: u32, prices: &[u32], list: &mut [u32], sta
     requires { ⌜ page < 64 ⌝ }
     requires { ⌜ length (now prices) ≡ 32 ⌝ }
     requires { ⌜ start + length (pageWords page marks (now prices)) ≤ length (now list) ⌝ }
+    ensures short { λ r. ⌜ r ≤ start + 65 ⌝ }
     ensures stopped { λ r. ⌜ r ≡ start + length (pageWords page marks (now (prices .entry))) ⌝ }
     ensures written { λ _. ⌜ now (list .exit)
         ≡ sets (now (list .entry)) start (pageWords page marks (now (prices .entry))) ⌝ }

@@ -1,16 +1,21 @@
 -- `page::page_words` meets its contract: the ones of the marks and of the ends of runs count the words of a page.
 use Prim.Native.Nat.{_≤_}
-use mathlib.Core.Path.{sym}
+use mathlib.Core.Path.{sym, ap}
 use native.Mathlib.Omega.{arith}
 use borrow.Author.Needs.{needs}
-use Rattle.encoder.proofs.Counting.{runsAndMarks, runs-and-marks-most, page-words-some, page-words-none}
+use lib.ListN.{length}
+use Rattle.encoder.proofs.Runs.{page-words-none}
+use Rattle.encoder.proofs.Counting.{runsAndMarks, runs-and-marks-most, page-words-some}
 use Rattle.encoder.proofs.page.page_words.Statement.{statement}
 use Rattle.encoder.proofs.page.page_words.Tie as tie
 use Rattle.encoder.proofs.page.page_words.Reads as reads
 use Rattle.encoder.proofs.page.page_words.Lts as lts
 
 returns : tie.Need-returns
-returns c = (search needs, λ page prices. sym (page-words-none page (c .before .args .marks) prices (c .if1 .taken)))
+returns c = (
+  search needs,
+  λ page prices. sym (ap length (page-words-none page (c .before .args .marks) prices (c .if1 .taken))),
+)
 
 most : (c : lts.Else1 reads.Pre reads.Post) → runsAndMarks 32 (c .before .args .marks) ≤ 64
 most c = runs-and-marks-most 32 (c .before .args .marks) (search needs)
