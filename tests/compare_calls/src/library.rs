@@ -124,14 +124,31 @@ impl Rack {
 }
 
 /// The list maker: its answer, and the buffer.
-pub fn make_list(working: &[u32], twins: &[u32], buffer: &[u32], flush: Flush) -> Reply {
-    let working = Guarded::read_only(working, flush);
-    let twins = Guarded::read_only(twins, flush);
+pub fn make_list(working: &[u32], twins: &[u32], marks: &[u32], buffer: &[u32], flush: Flush) -> Reply {
+    let [working, twins, marks] = [working, twins, marks].map(|words| Guarded::read_only(words, flush));
     let buffer = Guarded::new(buffer, flush);
     // SAFETY: as in `make`.
     let given = unsafe {
-        let (list, room) = (buffer.first(), buffer.len());
-        sys::rack_make_list(working.first(), working.len(), twins.first(), twins.len(), list, room)
+        sys::rack_make_list(
+            working.first(),
+            working.len(),
+            twins.first(),
+            twins.len(),
+            marks.first(),
+            marks.len(),
+            buffer.first(),
+            buffer.len(),
+        )
     };
     reply(given.number, given.value, &buffer)
+}
+
+/// The marks of what differs: the answer, and the words of marks.
+pub fn mark_changes(working: &[u32], twins: &[u32], marks: &[u32], flush: Flush) -> Reply {
+    let [working, twins] = [working, twins].map(|words| Guarded::read_only(words, flush));
+    let marks = Guarded::new(marks, flush);
+    let (pages, twin, mark) = (working.first(), twins.first(), marks.first());
+    // SAFETY: as in `make`.
+    let given = unsafe { sys::rack_mark_changes(pages, working.len(), twin, twins.len(), mark, marks.len()) };
+    reply(given.number, given.value, &marks)
 }

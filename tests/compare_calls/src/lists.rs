@@ -1,14 +1,10 @@
-//! Lists of changes: random ones that are allowed, ones near the limit of 512 words, faulty ones, and the list maker on
-//! random pages.
+//! Lists of changes: random ones that are allowed, ones near the limit of 512 words, and faulty ones.
 
-use crate::call::Reply;
-use crate::guard::Flush;
-use crate::library;
 use random::Random;
 use second::layout::LIST_WORDS;
 
 /// The most words of a list.
-const LIMIT: u32 = LIST_WORDS as u32;
+pub const LIMIT: u32 = LIST_WORDS as u32;
 
 /// An allowed list that prices about one word in `rarity`, as far as 512 words go.
 pub fn allowed(random: &mut Random, pages: u32, rarity: u32) -> Vec<u32> {
@@ -166,52 +162,4 @@ fn add_empty_page(list: &mut Vec<u32>, at: usize) {
 fn insert(list: &mut Vec<u32>, at: usize, word: u32) {
     list.insert(at, word);
     *list.last_mut().expect("it has an end word") += 1;
-}
-
-/// The list maker of both, on random pages and buffers.
-pub fn compare_makers(random: &mut Random) -> Result<(), String> {
-    let (working, twins) = if random.one_in(4) { pages_near_limit(random) } else { any_pages(random) };
-    let room = match random.below(4) {
-        0 => random.below(60),
-        1 => random.within(LIMIT - 4, LIMIT + 2),
-        _ => random.below(700),
-    };
-    let buffer: Vec<u32> = (0..room).collect();
-    let mut beside = buffer.clone();
-    let answer = second::make_list(&working, &twins, &mut beside);
-    let expected = Reply { answer, beside };
-    for flush in [Flush::Left, Flush::Right] {
-        let reply = library::make_list(&working, &twins, &buffer, flush);
-        if reply != expected {
-            return Err(format!(
-                "list maker: {working:?}, twins {twins:?}, room {room}: {reply:?}; second implementation {expected:?}"
-            ));
-        }
-    }
-    Ok(())
-}
-
-/// Working pages and their twins, now and then not whole pages or not of one length.
-fn any_pages(random: &mut Random) -> (Vec<u32>, Vec<u32>) {
-    let pages = if random.one_in(4) { random.within(1, 64) } else { random.within(1, 3) } as usize;
-    let length = if random.one_in(12) { random.below(2_100) as usize } else { 32 * pages };
-    let twins: Vec<u32> = (0..length).map(|_| random.below(3)).collect();
-    let rarity = random.of(&[1, 2, 5, 40, 400]);
-    let mut working = twins.clone();
-    working.iter_mut().filter(|_| random.one_in(rarity)).for_each(|word| *word ^= 1);
-    if random.one_in(15) {
-        working.truncate(random.below(length as u32 + 1) as usize);
-    }
-    (working, twins)
-}
-
-/// Working pages whose list has 510 to 513 words.
-fn pages_near_limit(random: &mut Random) -> (Vec<u32>, Vec<u32>) {
-    let pages = random.within(16, 64);
-    let twins = random.words(32 * pages as usize);
-    let mut working = twins.clone();
-    for label in priced(&near_limit(random, pages)) {
-        working[label as usize] ^= 1 << random.below(32);
-    }
-    (working, twins)
 }

@@ -8,6 +8,7 @@ mod chains;
 mod damage;
 mod guard;
 mod library;
+mod list_work;
 mod lists;
 mod moves;
 mod numbers;
@@ -58,7 +59,7 @@ fn main() -> ExitCode {
 }
 
 /// Half of the calls in lists on formatted racks, a third on damaged ones, the rest of the list maker; chains of
-/// failures and moves, a sixth as many each, all orders of failures and the sweep come on top.
+/// failures, moves and marks of what differs, a sixth as many each, all orders of failures and the sweep come on top.
 fn compare(options: &Options) -> Result<String, String> {
     let mut seen = Seen::new();
     let mut random = Random::new(options.seed);
@@ -74,7 +75,8 @@ fn compare(options: &Options) -> Result<String, String> {
     })?;
     let made = options.calls / 6;
     for _ in 0..made {
-        lists::compare_makers(&mut random)?;
+        list_work::compare_makers(&mut random)?;
+        list_work::compare_marks(&mut random)?;
     }
     if let Some((kind, number)) = seen.missing() {
         return Err(format!("none of the {kind} was answered with {number}"));
@@ -83,8 +85,8 @@ fn compare(options: &Options) -> Result<String, String> {
     let swept = sweep::compare()?;
     Ok(format!(
         "{swept} swept, {ordered} in every order of failures, {chained} in chains of failures and {played} played \
-         with the book, {damaged} on damaged racks, {moved} moves, {made} lists made, each flush left and flush \
-         right: all equal (seed {})\n\
+         with the book, {damaged} on damaged racks, {moved} moves, {made} lists made by marks, {made} times \
+         marks of what differs, each flush left and flush right: all equal (seed {})\n\
          compare_calls: {seen}",
         options.seed
     ))

@@ -4,9 +4,10 @@
 //! not read the Rattle source, but for the calls with the directory lent, which
 //! came later from one that had: `by_reference`, `by_value`, and what these
 //! needed in `calls`, `directory` and `recovery`. The numbers of 64 bits and the
-//! mover are from document 02, "Stamps that outlast the shop", and the choice of a new
-//! home is from "New homes shared evenly", both again by a hand that had not read the
-//! Rattle source. Comments cite document 01 by the titles of its sections and document
+//! mover are from document 02, "Stamps that outlast the shop", the choice of a new home
+//! is from "New homes shared evenly", and the list maker that takes marks is from "A
+//! price set again to what it was", all again by hands that had not read the Rattle
+//! source. Comments cite document 01 by the titles of its sections and document
 //! 02 by those of its requests.
 
 #![forbid(unsafe_code)]
@@ -33,5 +34,5 @@ pub use by_value::{
     ask_desk, fail_card, fetch_all, fetch_page, format_rack, join_card, make_step, make_steps, open_release, recover,
 };
 pub use directory::{Directory, Status};
-pub use list::{check_list, make_list};
+pub use list::{check_list, make_list, mark_changes, prices, Price};
 pub use shelfrun::shelfrun;

@@ -1,5 +1,5 @@
-//! The list of changes: its rules, its prices and its maker
-//! ("The list of changes").
+//! The list of changes: its rules, its prices and its maker ("The list of changes"),
+//! which goes by marks ("A price set again to what it was").
 
 use crate::answer::Answer;
 use crate::layout::{LIST_WORDS, PAGE_LIMITS, PAGE_WORDS};
@@ -197,51 +197,134 @@ pub fn one_price(page: u32, word: u32, price: u32) -> [u32; 4] {
     [page_word(page), run_word(word, 1), price, end_word(3)]
 }
 
-/// The list maker: compares working pages with their twins and writes the list
-/// that names exactly the words that differ. Gives the list's length; words
-/// past its end in the buffer are kept.
-pub fn make_list(working: &[u32], twins: &[u32], buffer: &mut [u32]) -> Answer {
-    if working.len() != twins.len() || !are_whole_pages(working.len()) {
+/// The list maker ("A price set again to what it was"): takes one word of marks per
+/// page, bit w for word w, and writes the list that names exactly the marked words, at
+/// their prices on the working pages. Of the twins only the length counts. Gives the
+/// list's length; words past its end in the buffer are kept.
+pub fn make_list(working: &[u32], twins: &[u32], marks: &[u32], buffer: &mut [u32]) -> Answer {
+    let wrong_marks = TAKES_MARKS_WRONG.then(|| marks_taken_wrong(working, twins, marks));
+    let marks = wrong_marks.as_deref().unwrap_or(marks);
+    if !are_within_limits(working, twins, marks) {
         return Answer::Refused(OUTSIDE_LIMITS, 0);
     }
-    let list = changes(working, twins);
+    let length = list_words(marks);
     let longest = LIST_WORDS - usize::from(cfg!(feature = "wrong_maker"));
-    if list.len() > longest || list.len() > buffer.len() {
+    if length > longest || length > buffer.len() {
         return Answer::Refused(WRONG_BUFFER, 0);
     }
-    buffer[..list.len()].copy_from_slice(&list);
-    Answer::Given(list.len() as u64)
+    write_list(working, marks, buffer);
+    Answer::Given(length as u64)
 }
 
-/// "32 words times 1 to 64".
-fn are_whole_pages(words: usize) -> bool {
-    let most = PAGE_WORDS * *PAGE_LIMITS.end() as usize;
-    words > 0 && words <= most && words.is_multiple_of(PAGE_WORDS)
+/// Marks the words that differ from their twins, for a desk that keeps no marks, as the
+/// C interface has it. All words of marks are written.
+pub fn mark_changes(working: &[u32], twins: &[u32], marks: &mut [u32]) -> Answer {
+    if !are_within_limits(working, twins, marks) {
+        return Answer::Refused(OUTSIDE_LIMITS, 0);
+    }
+    for (marks, (new, old)) in marks.iter_mut().zip(page_pairs(working, twins)) {
+        let kept = if cfg!(feature = "wrong_marks_added") { *marks } else { 0 };
+        *marks = kept | differing(new, old);
+    }
+    Answer::Given(0)
 }
 
-fn changes(working: &[u32], twins: &[u32]) -> Vec<u32> {
-    let mut list = Vec::new();
-    let pairs = working.chunks(PAGE_WORDS).zip(twins.chunks(PAGE_WORDS));
-    for (page, (new, old)) in (0..).zip(pairs) {
-        if new != old {
-            list.push(page_word(page));
-            add_runs(&mut list, new, old);
+/// Lent pages are of equal length, "32 words times 1 to 64", with "one mark word per
+/// page".
+fn are_within_limits(working: &[u32], twins: &[u32], marks: &[u32]) -> bool {
+    let pages = working.len() / PAGE_WORDS;
+    let whole = working.len().is_multiple_of(PAGE_WORDS);
+    let within = u32::try_from(pages).is_ok_and(|pages| PAGE_LIMITS.contains(&pages));
+    whole && within && twins.len() == working.len() && marks.len() == pages
+}
+
+/// The pages with their twins.
+fn page_pairs<'a>(working: &'a [u32], twins: &'a [u32]) -> impl Iterator<Item = (&'a [u32], &'a [u32])> {
+    working.chunks_exact(PAGE_WORDS).zip(twins.chunks_exact(PAGE_WORDS))
+}
+
+/// The marks of the words in which two pages differ.
+fn differing(new: &[u32], old: &[u32]) -> u32 {
+    let words = new.iter().zip(old).enumerate();
+    words.fold(0, |marks, (word, (new, old))| marks | u32::from(new != old) << word)
+}
+
+/// Whether the maker is built with an error in how it takes the marks.
+const TAKES_MARKS_WRONG: bool =
+    cfg!(any(feature = "wrong_unchanged_left_out", feature = "wrong_mark_order", feature = "wrong_marks_unchecked"));
+
+/// The marks as the maker takes them with such an error.
+fn marks_taken_wrong(working: &[u32], twins: &[u32], marks: &[u32]) -> Vec<u32> {
+    let mut taken = marks.to_vec();
+    if cfg!(feature = "wrong_marks_unchecked") {
+        taken.resize(working.len() / PAGE_WORDS, 0);
+    }
+    for (marks, (new, old)) in taken.iter_mut().zip(page_pairs(working, twins)) {
+        if cfg!(feature = "wrong_mark_order") {
+            *marks = marks.reverse_bits();
+        }
+        if cfg!(feature = "wrong_unchanged_left_out") {
+            *marks &= differing(new, old);
         }
     }
-    list.push(end_word(list.len() as u32));
-    list
+    taken
 }
 
-/// Adds the runs of one page. A run is as long as it can be, since the next one
-/// must start past its end.
-fn add_runs(list: &mut Vec<u32>, new: &[u32], old: &[u32]) {
-    let mut at = 0;
-    while at < PAGE_WORDS {
-        let count = (at..PAGE_WORDS).take_while(|&word| new[word] != old[word]).count();
-        if count > 0 {
-            list.push(run_word(at as u32, count as u32));
-            list.extend_from_slice(&new[at..at + count]);
+/// The words of the list that names the marked words: for a page with marks its page
+/// word, a word for each run and "the number of ones in its marks" for the prices; and
+/// the end word.
+fn list_words(marks: &[u32]) -> usize {
+    let of_page = |&marks: &u32| match marks {
+        0 => 0,
+        _ => 1 + run_starts(marks).count_ones() + marks.count_ones(),
+    };
+    marks.iter().map(of_page).sum::<u32>() as usize + 1
+}
+
+/// The marks of the words that begin a run: the word before is not marked.
+fn run_starts(marks: u32) -> u32 {
+    marks & !(marks << 1)
+}
+
+/// The runs of a page, by offset and count. A run is as long as it can be, since the
+/// next one must start past its end.
+fn runs(mut marks: u32) -> impl Iterator<Item = (usize, usize)> {
+    std::iter::from_fn(move || {
+        if marks == 0 {
+            return None;
         }
-        at += count + 1;
+        let offset = marks.trailing_zeros();
+        let count = (marks >> offset).trailing_ones();
+        // The carry of the sum takes the marks of the run away.
+        marks &= marks.wrapping_add(1 << offset);
+        Some((offset as usize, count as usize))
+    })
+}
+
+/// Writes the list of the marked words into a buffer that has room for it.
+fn write_list(working: &[u32], marks: &[u32], buffer: &mut [u32]) {
+    let mut list = Writer { buffer, at: 0 };
+    for (page, (&marks, words)) in (0..).zip(marks.iter().zip(working.chunks_exact(PAGE_WORDS))) {
+        if marks != 0 {
+            list.put(&[page_word(page)]);
+        }
+        for (offset, count) in runs(marks) {
+            list.put(&[run_word(offset as u32, count as u32)]);
+            list.put(&words[offset..offset + count]);
+        }
+    }
+    list.put(&[end_word(list.at as u32)]);
+}
+
+/// Puts words into a buffer, one after the other.
+struct Writer<'a> {
+    buffer: &'a mut [u32],
+    at: usize,
+}
+
+impl Writer<'_> {
+    fn put(&mut self, words: &[u32]) {
+        self.buffer[self.at..][..words.len()].copy_from_slice(words);
+        self.at += words.len();
     }
 }

@@ -3,7 +3,8 @@
 // "Whoever fitted it".
 
 /// "Cards or pages outside their limits, or a memory not of the stated length; in
-/// list work, lent pages of unequal length or not 32 words times 1 to 64."
+/// list work, lent pages of unequal length or not 32 words times 1 to 64." And "one
+/// mark word per page, or 1" (document 02, "A price set again to what it was").
 pub const OUTSIDE_LIMITS: u32 = 1;
 /// "Fewer than two live cards, homes equal, not below the number of cards, or dead
 /// and not the awaited card, an awaited card that is live or does not exist, a live

@@ -1,10 +1,10 @@
-//! The list of changes: its rules, the place of refusal 7, and the list maker.
+//! The list of changes: its rules and the place of refusal 7.
 
 mod common;
 
-use common::{list_of, random_changes, refused, refused_at};
+use common::{list_of, random_changes, refused_at};
 use random::Random;
-use second::refusals::{FAULTY_LIST, OUTSIDE_LIMITS, WRONG_BUFFER};
+use second::refusals::FAULTY_LIST;
 use second::*;
 
 const P: u32 = 0x1000_0000;
@@ -179,57 +179,4 @@ fn places_found_another_way() {
         }
     }
     assert!((10_000..50_000).contains(&faults), "{faults}");
-}
-
-#[test]
-fn the_made_list_turns_twins_into_working_pages() {
-    let mut random = Random::new(2);
-    let mut too_long = 0;
-    for _ in 0..4_000 {
-        let pages = random.within(1, 64);
-        let rarity = random.within(1, 40);
-        let twins: Vec<u32> = (0..32 * pages).map(|_| random.below(3)).collect();
-        let mut working = twins.clone();
-        for (page, word, price) in random_changes(&mut random, pages, rarity) {
-            working[(32 * page + word) as usize] = price % 3;
-        }
-        let changes: Vec<_> = (0..32 * pages)
-            .filter(|&label| working[label as usize] != twins[label as usize])
-            .map(|label| (label / 32, label % 32, working[label as usize]))
-            .collect();
-        let list = list_of(&changes);
-        let mut buffer = vec![77; 600];
-        let answer = make_list(&working, &twins, &mut buffer);
-        if list.len() > 512 {
-            too_long += 1;
-            assert_eq!(answer, refused(WRONG_BUFFER));
-            assert_eq!(buffer, vec![77; 600]);
-            continue;
-        }
-        assert_eq!(answer, Answer::Given(list.len() as u64));
-        assert_eq!(buffer[..list.len()], list);
-        assert!(buffer[list.len()..].iter().all(|word| *word == 77));
-        assert_eq!(check_list(&list, pages), Answer::Given(changes.len() as u64));
-    }
-    assert!((100..3_900).contains(&too_long), "{too_long}");
-}
-
-#[test]
-fn refusals_of_the_list_maker() {
-    let page = [1; 32];
-    let mut buffer = [7; 4];
-    assert_eq!(make_list(&page, &[1; 64], &mut buffer), refused(OUTSIDE_LIMITS));
-    assert_eq!(make_list(&[], &[], &mut buffer), refused(OUTSIDE_LIMITS));
-    assert_eq!(make_list(&[1; 31], &[1; 31], &mut buffer), refused(OUTSIDE_LIMITS));
-    assert_eq!(make_list(&[1; 33], &[1; 33], &mut buffer), refused(OUTSIDE_LIMITS));
-    assert_eq!(make_list(&[1; 65 * 32], &[1; 65 * 32], &mut buffer), refused(OUTSIDE_LIMITS));
-    assert_eq!(make_list(&[1; 64 * 32], &[1; 64 * 32], &mut buffer), Answer::Given(1));
-    assert_eq!(buffer, [E, 7, 7, 7]);
-    let mut changed = page;
-    changed[0] = 2;
-    assert_eq!(make_list(&changed, &page, &mut buffer[..3]), refused(WRONG_BUFFER));
-    assert_eq!(buffer, [E, 7, 7, 7]);
-    assert_eq!(make_list(&changed, &page, &mut buffer), Answer::Given(4));
-    assert_eq!(buffer, [P, run(0, 1), 2, E | 3]);
-    assert_eq!(make_list(&page, &page, &mut []), refused(WRONG_BUFFER));
 }

@@ -1,5 +1,6 @@
 //! The numbers of document 01's section "Numbers to hold it against", two of them as
-//! document 02 changed them: the words of a memory and the last stamp.
+//! document 02 changed them: the words of a memory and the last stamp. "Document 01's
+//! worked lists mark the words that differ."
 
 mod common;
 
@@ -52,8 +53,10 @@ fn the_list_of_250_and_199() {
     let mut working = twins;
     working[32 + 2] = 250;
     working[32 + 3] = 199;
-    let mut buffer = [9; 6];
-    assert_eq!(make_list(&working, &twins, &mut buffer), Answer::Given(5));
+    let (mut marks, mut buffer) = ([9; 4], [9; 6]);
+    assert_eq!(mark_changes(&working, &twins, &mut marks), OK);
+    assert_eq!(marks, [0, 12, 0, 0]);
+    assert_eq!(make_list(&working, &twins, &marks, &mut buffer), Answer::Given(5));
     assert_eq!(buffer[..5], TWO_PRICES);
     assert_eq!(buffer[5], 9);
     assert_eq!(check_list(&TWO_PRICES, 4), Answer::Given(2));
@@ -81,8 +84,9 @@ fn two_prices_take_19_steps_and_stamp_at_13() {
 
 #[test]
 fn no_change_takes_11_steps_and_stamps_at_9() {
-    let mut buffer = [9; 2];
-    assert_eq!(make_list(&[4; 64], &[4; 64], &mut buffer), Answer::Given(1));
+    let (mut marks, mut buffer) = ([9; 2], [9; 2]);
+    assert_eq!(mark_changes(&[4; 64], &[4; 64], &mut marks), OK);
+    assert_eq!(make_list(&[4; 64], &[4; 64], &marks, &mut buffer), Answer::Given(1));
     assert_eq!(buffer, [0xF000_0000, 9]);
     assert_eq!(steps_and_stamping(&[0xF000_0000]), (11, 9));
 }
