@@ -267,11 +267,7 @@ pub extern "C" fn rack_make_list(
 
 // `maker::mark_changes`.
 #[no_mangle]
-pub extern "C" fn rack_mark_changes(
-    working: &[u32],
-    twins: &[u32],
-    marks: &mut [u32],
-) -> RackAnswer
+pub extern "C" fn rack_mark_changes(working: &[u32], twins: &[u32], marks: &mut [u32]) -> RackAnswer
     ensures answer { λ r. ⌜ r
         ≡ exportedAnswer
         (markChanges (length (now (working .entry))) (length (now (twins .entry)))

@@ -31,8 +31,7 @@ loop-again c =
     let at = c .before .before .before .loop in
     let within = c .before .before .loop-test .taken in
     let marks = now (c .before .before .before .before .before .args .marks) in
-    let counted = c .page-words .ensures in
-    (
+    let counted = c .page-words .ensures in (
       omega arith,
       omega (arith, counted .0),
       λ prices long.

@@ -36,11 +36,13 @@ write-page-requires c κs =
     let prices = now (start .args .prices) in
     let marks = now (start .args .marks) in
     let parts = length-next prices marks (at .page) within in
-    let whole = length-made prices marks (start .pre .1 .0) in
-    (omega arith, (
-      simp (length-take, length-drop) (omega arith),
-      rw (lent (32 * at .page)) (omega (arith, parts, whole, at .inv .2, at .inv .3, start .pre .1 .1)),
-    ))
+    let whole = length-made prices marks (start .pre .1 .0) in (
+      omega arith,
+      (
+        simp (length-take, length-drop) (omega arith),
+        rw (lent (32 * at .page)) (omega (arith, parts, whole, at .inv .2, at .inv .3, start .pre .1 .1)),
+      ),
+    )
 
 loop-again : tie.Need-loop-again Inv-loop μ-loop
 loop-again c =
@@ -54,8 +56,7 @@ loop-again c =
     let next = body-on-next prices marks (at .page) within in
     let stopped = rw (lent (32 * at .page)) at (wrote .1 .0) in
     let written = rw (lent (32 * at .page)) at (wrote .1 .1) in
-    let stored = rw (next, sets-append) at (at .inv .4) in
-    (
+    let stored = rw (next, sets-append) at (at .inv .4) in (
       omega arith,
       omega (arith, wrote .0),
       c .before .list .given ∙ at .inv .2,

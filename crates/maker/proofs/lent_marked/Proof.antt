@@ -1,5 +1,6 @@
 -- `maker::lent_marked` meets its contract: the pages are whole, so that a quotient tells their number.
 use mathlib.Core.Path.{sym, _∙_}
+use borrow.Author.Needs.{needs}
 use Rattle.diff.specs.Making.{lentMarked}
 use Rattle.diff.proofs.Making.{lent-pages}
 use Rattle.maker.proofs.Lent.{one-each}
@@ -21,4 +22,4 @@ returns-2 c =
     rw lent
 
 pub lent-marked-spec : {M : Type 1} → statement M
-lent-marked-spec = tie.close (tie.spec returns returns-2)
+lent-marked-spec = tie.close (tie.spec (λ c κs. search needs) returns returns-2)
