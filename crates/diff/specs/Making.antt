@@ -31,6 +31,11 @@ abbrev pub roomFor : ℕ → ℕ → Outcome
 roomFor words room =
     cond (ltb mostWords words) (refused wrongBuffer) (cond (ltb room words) (refused wrongBuffer) (given words))
 
+-- a buffer after the making of a diff came to this outcome: the diff and the words that stood past its end; a refusal
+-- changes none
+abbrev pub writtenBy : Outcome → List ℕ → List ℕ → List ℕ
+writtenBy outcome diff buffer = cond (eqb (outcome .number) 0) (diff ++ drop (length diff) buffer) buffer
+
 -- ---- the calls
 
 -- What making a diff comes to, in a buffer of so many words. The twins' words are not looked at, only their number.
@@ -39,12 +44,10 @@ makeDiff working twins marks room =
     cond (lentMarked (length working) (length twins) (length marks)) (roomFor (length (madeDiff working marks)) room)
     (refused limits)
 
--- the buffer after it: the diff and the words that stood past its end; a refusal changes none
+-- the buffer after it
 abbrev pub bufferAfter : List ℕ → List ℕ → List ℕ → List ℕ → List ℕ
 bufferAfter working twins marks buffer =
-    cond (eqb (makeDiff working twins marks (length buffer) .number) 0)
-    (madeDiff working marks ++ drop (length (madeDiff working marks)) buffer)
-    buffer
+    writtenBy (makeDiff working twins marks (length buffer)) (madeDiff working marks) buffer
 
 -- what marking the changes comes to, by the lengths of what is lent
 unfoldable pub markChanges : ℕ → ℕ → ℕ → Outcome
