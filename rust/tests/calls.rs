@@ -1,7 +1,9 @@
 //! Each call through the static library: what is accepted, each refusal with its place, and that a
 //! refusal changes nothing.
 
-use bandsawpink::{make_list, mark_changes, old_memory_words, Desk, Directory, Page, Rack, Recovered, Refusal, Stopped};
+use bandsawpink::{
+    make_list, mark_changes, old_memory_words, Desk, Directory, Page, Rack, Recovered, Refusal, Stopped,
+};
 
 const DESK: Desk = [1, 2, 3, 4, 5, 6, 7, 8];
 const LIST: [u32; 5] = [0x1000_0001, 0x2002_0002, 250, 199, 0xF000_0004];

@@ -39,7 +39,7 @@ abbrev pub isChanged : List ℕ → List ℕ → ℕ → Bool
 isChanged working twins label = not (eqb (getD working label 0) (getD twins label 0))
 
 -- a word of them, bit by bit
-pub changed-set : (ws ts : List ℕ) (i : ℕ) → length ws ≡ length ts → isSet (changedWords ws ts) i ≡ isChanged ws ts i
+changed-set : (ws ts : List ℕ) (i : ℕ) → length ws ≡ length ts → isSet (changedWords ws ts) i ≡ isChanged ws ts i
 unfolding changedWords
 changed-set [] [] i even = none-set i
 changed-set [] (t ∷ ts) i even = absurd (omega arith)
