@@ -156,7 +156,7 @@ good-words e = cc
 pub good-prices : {k k′ n n′ : ℕ} → Good k n ≡ Good k′ n′ → k ≡ k′
 good-prices e = cc
 
-no-words : (ws : List ℕ) → length ws ≡ 0 → ws ≡ []
+pub no-words : (ws : List ℕ) → length ws ≡ 0 → ws ≡ []
 no-words [] e = refl
 no-words (w ∷ ws) e = absurd (omega arith)
 

@@ -15,7 +15,6 @@ use Rattle.diff.proofs.Listed.{label-at, listed-none, listed-skip, listed-take}
 use Rattle.diff.proofs.Encoding.{encode-none, encode-price, run-header-page, run-header-run, run-header-none}
 use Rattle.encoder.specs.Page.{pageWords}
 use Rattle.encoder.proofs.Bits.{complement, complement-half, complement-first}
-use Rattle.encoder.proofs.Runs.{page-words-none}
 
 -- ---- runs and marks of so many words, lowest bit first
 
@@ -192,10 +191,3 @@ module _ (page marks : ℕ) (prices : List ℕ) where
     unfolding pageWords
     page-words-some some =
         rw (div-one marks, add-zero (32 * page)) at (counted-first 32 0 refl (rw (div-one marks) some))
-
-    -- they are few
-    pub page-words-most : length (pageWords page marks prices) ≤ 65
-    page-words-most = elim (ℕ-discrete marks 0) [
-      | yes none ↦ omega (arith, ap length (page-words-none page marks prices none))
-      | no some ↦ omega (arith, page-words-some (omega arith), runs-and-marks-most 32 marks small)
-    ]

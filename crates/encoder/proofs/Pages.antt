@@ -1,6 +1,6 @@
 -- A diff page by page: the words of prices on one page and of those on later pages stand one after the other.
 use Rattle.laws.proofs.Prelude.{ℕ, suc, _+_, _-_, _*_, _/_, _%_, _≤_, _<_, _≡_, refl, sym, ap, _∙_, List, [], _∷_, _++_}
-use Rattle.laws.proofs.Prelude.{Bool, true, false, arith, length, getD, set, take, drop}
+use Rattle.laws.proofs.Prelude.{Bool, true, false, arith, decLt, length, getD, set, take, drop}
 use mathlib.Core.List.{append-assoc}
 use native.Mathlib.Nat.{zero-add}
 use lib.ListN.{length-append}
@@ -73,6 +73,12 @@ pub body-on-none : (prices marks : List ℕ) (page : ℕ) → length marks ≤ p
 body-on-none prices marks page past =
     let over : 32 * (length marks - page) ≡ 0 = omega arith in
     rw (over, listed-none (isMarked marks) (priceOn prices) (32 * page)) (encode-none 0)
+
+pub page-left : (prices marks : List ℕ) (page : ℕ) → 0 < length (bodyOn prices marks page) → page < length marks
+page-left prices marks page some = elim (decLt page (length marks)) [
+  | yes within ↦ within
+  | no past ↦ absurd (omega (arith, ap length (body-on-none prices marks page (omega arith))))
+]
 
 module _ (prices marks : List ℕ) (page : ℕ) (within : page < length marks) where
   own-marks : (label : ℕ) → 32 * page ≤ label → label < 32 * page + 32

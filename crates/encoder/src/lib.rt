@@ -9,32 +9,36 @@ pub mod page;
 // How many words the diff of the marked words has.
 pub fn diff_words(marks: &[u32]) -> usize
     requires { ⌜ length (now marks) ≤ 64 ⌝ }
-    ensures { λ r. ⌜ ((prices : List ℕ) → length prices ≡ 32 * length (now (marks .entry))
+    ensures { λ r. ⌜ ((prices : List ℕ)
+        → length prices ≡ 32 * length (now (marks .entry))
         → r ≡ length (madeDiff prices (now (marks .entry)))) ⌝ }
 {
-    let mut words: usize = 1;
+    let mut words: u32 = 1;
     let mut page: usize = 0;
     while page < marks.len() {
         words += page::page_words(marks[page]);
         page += 1;
     }
-    words
+    words as usize
 }
 
-// Writes the diff of the marked words to the front of a list that has room for it.
-pub fn write_diff(prices: &[u32], marks: &[u32], list: &mut [u32])
+// Writes the diff of the marked words, of so many words, to the front of a list that has room for
+// it. The loop ends with the last page that has a mark, when all words but the end word stand.
+pub fn write_diff(prices: &[u32], marks: &[u32], words: usize, list: &mut [u32])
     requires { ⌜ length (now marks) ≤ 64 ⌝ }
     requires { ⌜ length (now prices) ≡ 32 * length (now marks) ⌝ }
-    requires { ⌜ length (madeDiff (now prices) (now marks)) ≤ length (now list) ⌝ }
+    requires { ⌜ words ≡ length (madeDiff (now prices) (now marks)) ⌝ }
+    requires { ⌜ (words ≤ 512) × (words ≤ length (now list)) ⌝ }
     ensures { λ _. ⌜ now (list .exit)
         ≡ sets (now (list .entry)) 0 (madeDiff (now (prices .entry)) (now (marks .entry))) ⌝ }
 {
+    let end = words - 1;
     let mut at: usize = 0;
     let mut page: usize = 0;
-    while page < marks.len() {
+    while at < end {
         let first = 32 * page;
         at = page::write_page(page, marks[page], &prices[first..first + 32], list, at);
         page += 1;
     }
-    list[at] = 0xF0000000 + at as u32;
+    list[end] = 0xF0000000 + end as u32;
 }

@@ -37,7 +37,7 @@ fn marks_behind(marks: u32, run: Run) -> u32
 
 // How many words a page takes in a diff: none if no word is marked, else its page word, a word for
 // each run and the prices. A run ends where the next word is not marked.
-pub fn page_words(marks: u32) -> usize
+pub fn page_words(marks: u32) -> u32
     ensures short { λ r. ⌜ r ≤ 65 ⌝ }
     ensures counted { λ r. ⌜ ((page : ℕ) (prices : List ℕ)
         → r ≡ length (pageWords page marks prices)) ⌝ }
@@ -46,7 +46,7 @@ pub fn page_words(marks: u32) -> usize
         return 0;
     }
     let run_ends = marks & !(marks >> 1);
-    1 + u32::count_ones(run_ends) as usize + u32::count_ones(marks) as usize
+    1 + u32::count_ones(run_ends) + u32::count_ones(marks)
 }
 
 // The word of a run.
@@ -89,7 +89,6 @@ pub fn write_page(page: usize, marks: u32, prices: &[u32], list: &mut [u32], sta
     requires { ⌜ page < 64 ⌝ }
     requires { ⌜ length (now prices) ≡ 32 ⌝ }
     requires { ⌜ start + length (pageWords page marks (now prices)) ≤ length (now list) ⌝ }
-    ensures short { λ r. ⌜ r ≤ start + 65 ⌝ }
     ensures stopped { λ r. ⌜ r ≡ start + length (pageWords page marks (now (prices .entry))) ⌝ }
     ensures written { λ _. ⌜ now (list .exit)
         ≡ sets (now (list .entry)) start (pageWords page marks (now (prices .entry))) ⌝ }

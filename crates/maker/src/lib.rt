@@ -53,7 +53,7 @@ fn write_marked(prices: &[u32], marks: &[u32], buffer: &mut [u32]) -> Answer
     if buffer.len() < words {
         return Answer::Refused(answer::WRONG_BUFFER, 0);
     }
-    encoder::write_diff(prices, marks, buffer);
+    encoder::write_diff(prices, marks, words, buffer);
     Answer::Given(words as u64)
 }
 

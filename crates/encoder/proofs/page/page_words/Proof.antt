@@ -28,6 +28,4 @@ returns-2 c = (
 
 pub page-words-spec : {M : Type 1} → statement M
 page-words-spec =
-    tie.close
-    (tie.spec returns (λ c. omega (arith, most c)) (λ c. omega (arith, most c)) (λ c. omega (arith, most c))
-    (λ c. omega (arith, most c)) returns-2)
+    tie.close (tie.spec returns (λ c. omega (arith, most c)) (λ c. omega (arith, most c)) returns-2)

@@ -12,7 +12,6 @@ use Rattle.diff.specs.Format.{pageWord}
 use Rattle.encoder.specs.Page.{pageWords, runWords}
 use Rattle.encoder.proofs.Bits.{first-run}
 use Rattle.encoder.proofs.Runs.{page-words-none, page-words-some}
-use Rattle.encoder.proofs.Counting.{page-words-most}
 use Rattle.encoder.proofs.page.write_page.Statement.{statement}
 use Rattle.encoder.proofs.page.write_page.Tie as tie
 
@@ -49,9 +48,7 @@ returns-2 c =
     let some = c .before .before .before .before .if1 .left in
     let args = c .before .before .before .before .before .before .before .args in
     let is = words (args .page) (args .marks) (now (args .prices)) some (search needs) (search needs) in
-    let few = page-words-most (args .page) (args .marks) (now (args .prices)) (search needs) in
-    let stopped = written .0 (args .page) in
-    (omega (arith, stopped, few, ap length is), rw is (omega (arith, stopped), rw add-one at (written .1 (args .page))))
+    rw is (omega (arith, written .0 (args .page)), rw add-one at (written .1 (args .page)))
 
 pub write-page-spec : {M : Type 1} → statement M
 write-page-spec =
