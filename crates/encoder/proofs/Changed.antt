@@ -1,45 +1,56 @@
--- The marks of the words that differ from their twins: what one word more brings, and that those of 32 words fit.
-use Rattle.laws.proofs.Prelude.{ℕ, suc, _+_, _-_, _*_, _^_, _<_, _≤_, _≡_, _∙_, ap, List, _∷_, cond, length, getD}
-use Rattle.laws.proofs.Prelude.{drop, eqb, arith, eq-eqb, ne-eqb}
-use lib.ListN.{length-drop, drop-of-length-le}
-use lib.Seq.{drop-cons}
+-- The marks of the words that differ from their twins, made from the first word up: what one word more brings,
+-- and that its bit has room.
+use Rattle.laws.proofs.Prelude.{ℕ, zero, suc, _+_, _*_, _^_, _%_, _<_, _≤_, _≡_, _∙_, List, [], _∷_, Bool, true, false}
+use Rattle.laws.proofs.Prelude.{cond, length, getD, take, eqb, arith, eq-eqb, ne-eqb}
+use native.Mathlib.Nat.{one-mul, pow-suc}
+use native.Mathlib.Numerals.{add-one}
+use lib.ListN.{length-take}
+use lib.Pow.{pow-mono, shl-exact}
+use lib.Seq.{take-all}
 use Rattle.diff.specs.Marks.{changedWords}
 use Rattle.diff.proofs.Marks.{changed-small}
 
--- the marks of fewer than 32 words have room for one more
-pub changed-fits : (words twins : List ℕ) (next : ℕ) {marks : ℕ} → length words ≡ 32 → 0 < next
-    → marks ≡ changedWords (drop next words) (drop next twins) → marks < 2 ^ 31
-changed-fits words twins next lent some are =
-    rw are (changed-small 31 (drop next words) (drop next twins) (simp length-drop (omega arith)))
+-- the marks of the first so many words
+abbrev pub changedFirst : List ℕ → List ℕ → ℕ → ℕ
+changedFirst words twins n = changedWords (take n words) (take n twins)
 
-pub changed-none : (words twins : List ℕ) (next : ℕ) → length words ≤ next → 0 ≡ changedWords (drop next words) twins
+one-more : (words twins : List ℕ) (n : ℕ) → n < length words → n < length twins
+    → changedFirst words twins (suc n)
+    ≡ changedFirst words twins n + cond (eqb (getD words n 0) (getD twins n 0)) 0 (2 ^ n)
 unfolding changedWords
-changed-none words twins next all = rw (drop-of-length-le words all)
+one-more [] twins n within within′ = absurd (omega arith)
+one-more (w ∷ ws) [] n within within′ = absurd (omega arith)
+one-more (w ∷ ws) (t ∷ ts) zero within within′ = omega arith
+one-more (w ∷ ws) (t ∷ ts) (suc n) within within′ =
+    twice (cond (eqb w t) 0 1) (eqb (getD ws n 0) (getD ts n 0)) (one-more ws ts n (omega arith) (omega arith))
+  where
+    twice : (first : ℕ) (same : Bool)
+        → changedFirst ws ts (suc n) ≡ changedFirst ws ts n + cond same 0 (2 ^ n)
+        → first + 2 * changedFirst ws ts (suc n)
+        ≡ first + 2 * changedFirst ws ts n + cond same 0 (2 ^ suc n)
+    twice first true more = omega arith
+    twice first false more = omega (arith, pow-suc 2 n)
 
-from-before : (words : List ℕ) (next : ℕ) → 0 < next → next ≤ length words
-    → drop (next - 1) words ≡ getD words (next - 1) 0 ∷ drop next words
-from-before words next some within =
-    let same : suc (next - 1) ≡ next = omega arith in
-    drop-cons words (next - 1) 0 (omega arith) ∙ ap (λ (n : ℕ). getD words (next - 1) 0 ∷ drop n words) same
+module _ (words twins : List ℕ) (n : ℕ) (within : n < length words) (within′ : n < length twins) where
+  pub changed-same : getD words n 0 ≡ getD twins n 0 → changedFirst words twins n ≡ changedFirst words twins (n + 1)
+  changed-same same = rw add-one (omega (arith, rw (eq-eqb _ _ same) at (one-more words twins n within within′)))
 
--- a word's mark below those of the words behind it, the first of which is `next`
-module _ (words twins : List ℕ) (next : ℕ)
-    (some : 0 < next) (lent : next ≤ length words) (even : next ≤ length twins) where
-  abbrev word : ℕ
-  word = next - 1
+  pub changed-differs : (getD words n 0 ≡ getD twins n 0 → ⊥)
+      → changedFirst words twins n + 2 ^ n ≡ changedFirst words twins (n + 1)
+  changed-differs differs =
+      rw add-one (omega (arith, rw (ne-eqb _ _ differs) at (one-more words twins n within within′)))
 
-  abbrev behind : ℕ
-  behind = changedWords (drop next words) (drop next twins)
+-- the bit of one of 32 words
+pub word-bit : (n : ℕ) → n < 32 → (1 * 2 ^ n) % 2 ^ 32 ≡ 2 ^ n
+word-bit n below = shl-exact {a = 1} 1 n 32 (omega arith) (omega arith) ∙ one-mul (2 ^ n)
 
-  one-more : changedWords (drop word words) (drop word twins)
-      ≡ cond (eqb (getD words word 0) (getD twins word 0)) 0 1 + 2 * behind
-  unfolding changedWords
-  one-more = rw (from-before words next some lent, from-before twins next some even)
+-- there is room for it above the marks of the words before it
+pub changed-fits : (words twins : List ℕ) (n : ℕ) → n < 32 → changedFirst words twins n + 2 ^ n < 2 ^ 32
+changed-fits words twins n below =
+    let small = changed-small n (take n words) (take n twins) (rw length-take (omega arith)) in
+    omega (arith, small, pow-suc 2 n, pow-mono {i = suc n} {j = 32} (omega arith))
 
-  pub changed-same : getD words word 0 ≡ getD twins word 0
-      → behind * 2 ≡ changedWords (drop word words) (drop word twins)
-  changed-same same = omega (arith, rw (eq-eqb _ _ same) at one-more)
-
-  pub changed-differs : (getD words word 0 ≡ getD twins word 0 → ⊥)
-      → behind * 2 + 1 ≡ changedWords (drop word words) (drop word twins)
-  changed-differs differs = omega (arith, rw (ne-eqb _ _ differs) at one-more)
+-- the marks of all words
+pub changed-all : (words twins : List ℕ) (n : ℕ) → length words ≤ n → length twins ≤ n
+    → changedFirst words twins n ≡ changedWords words twins
+changed-all words twins n all all′ = rw (take-all n words all, take-all n twins all′)

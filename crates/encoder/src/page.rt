@@ -107,14 +107,12 @@ pub fn changed_words(words: &[u32], twins: &[u32]) -> u32
     ensures { λ r. ⌜ r ≡ changedWords (now (words .entry)) (now (twins .entry)) ⌝ }
 {
     let mut marks: u32 = 0;
-    let mut word: usize = 32;
-    while 0 < word {
-        word -= 1;
-        if words[word] == twins[word] {
-            marks *= 2;
-        } else {
-            marks = marks * 2 + 1;
+    let mut word: u32 = 0;
+    while word < 32 {
+        if words[word as usize] != twins[word as usize] {
+            marks += 1 << word;
         }
+        word += 1;
     }
     marks
 }
