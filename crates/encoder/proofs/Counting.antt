@@ -5,7 +5,7 @@ use Rattle.laws.proofs.Prelude.{List, Bool, length, getD, ne-eqb, eq-eqb, ℕ-d
 use Prim.Native.Nat.{min}
 use native.Mathlib.Nat.{lt-of-le-of-lt, div-one, add-zero}
 use lib.Bits.{bitAnd, and-step, and-shr, and-le-l}
-use lib.Count.{ones, ones-step, ones-le}
+use lib.Count.{ones, ones-step, ones-le, ones-cat}
 use lib.ListN.{length-append}
 use lib.Pow.{shr-shr, shr-lt}
 use Rattle.diff.specs.declared.Price.{Price}
@@ -26,10 +26,16 @@ runEnds words marks = bitAnd marks (complement words (marks / 2))
 abbrev pub runsAndMarks : ℕ → ℕ → ℕ
 runsAndMarks words marks = ones (runEnds words marks) + ones marks
 
-pub runs-and-marks-most : (words marks : ℕ) → marks < 2 ^ words → runsAndMarks words marks ≤ words + words
-runs-and-marks-most words marks small =
-    let ends = lt-of-le-of-lt (and-le-l marks (complement words (marks / 2))) small in
-    omega (arith, ones-le words marks small, ones-le words (runEnds words marks) ends)
+module _ (words marks : ℕ) (small : marks < 2 ^ words) where
+  pub run-ends-small : runEnds words marks < 2 ^ words
+  run-ends-small = lt-of-le-of-lt (and-le-l marks (complement words (marks / 2))) small
+
+  pub runs-and-marks-most : runsAndMarks words marks ≤ words + words
+  runs-and-marks-most = omega (arith, ones-le words marks small, ones-le words (runEnds words marks) run-ends-small)
+
+  -- both counted at once, side by side
+  pub runs-and-marks-ones : ones (runEnds words marks * 2 ^ words + marks) ≡ runsAndMarks words marks
+  runs-and-marks-ones = ones-cat words (runEnds words marks) marks small
 
 -- the first word and those behind it: its run ends here if the next word is not marked
 module _ (words marks : ℕ) (small : marks < 2 ^ suc words) where

@@ -36,7 +36,8 @@ fn marks_behind(marks: u32, run: Run) -> u32
 }
 
 // How many words a page takes in a diff: none if no word is marked, else its page word, a word for
-// each run and the prices. A run ends where the next word is not marked.
+// each run and the prices. A run ends where the next word is not marked. Runs and prices are
+// counted at once, as the ones of two words side by side.
 pub fn page_words(marks: u32) -> u32
     ensures short { λ r. ⌜ r ≤ 65 ⌝ }
     ensures counted { λ r. ⌜ ((page : ℕ) (prices : List ℕ)
@@ -46,7 +47,7 @@ pub fn page_words(marks: u32) -> u32
         return 0;
     }
     let run_ends = marks & !(marks >> 1);
-    1 + u32::count_ones(run_ends) + u32::count_ones(marks)
+    1 + u64::count_ones(run_ends as u64 * 0x100000000 + marks as u64)
 }
 
 // The word of a run.
