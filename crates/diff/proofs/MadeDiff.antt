@@ -1,21 +1,23 @@
--- What the list maker makes with any marks: the one diff of the marked words at their working prices.
+-- What the list maker makes with any marks: the one diff of the marked words at their working prices. It makes it wherever
+-- there is one.
 use Rattle.laws.proofs.Prelude.{ℕ, _+_, _-_, _*_, _^_, _≤_, _<_, _≡_, refl, sym, ap, _∙_, List, Bool, true, false}
 use Rattle.laws.proofs.Prelude.{cond, true≢false, arith, ℕ-discrete, decLt, length, getD}
 use lib.Count.{ones}
 use lib.ListN.{List·getD-eq-default}
 use lib.Seq.{ext-getD}
+use Rattle.answer.specs.Outcome.{given}
 use Rattle.diff.specs.Format.{mostWords}
 use Rattle.diff.specs.Prices.{Price, pricesOf, names, appliedAt, applyPrices}
 use Rattle.diff.specs.Encoding.{listed, listedDiff, encode}
 use Rattle.diff.specs.Marks.{isMarked}
-use Rattle.diff.specs.Making.{priceOn, madeDiff}
+use Rattle.diff.specs.Making.{priceOn, madeDiff, makeDiff}
 use Rattle.diff.specs.OnlyDiff.{Allowed, Turns, DiffOf, OneDiff}
-use Rattle.diff.specs.MadeDiff.{AllMarked, pricesOn, MadeOfMarks, MadeOfMarksOnly}
+use Rattle.diff.specs.MadeDiff.{Lent, AllMarked, pricesOn, MadeOfMarks, MadeOfMarksOnly, MakesAllowedDiff}
 use Rattle.diff.proofs.Prices.{names-past, applied-unnamed, applied-named, length-apply, apply-at}
 use Rattle.diff.proofs.PageCount.{listed-page}
 use Rattle.diff.proofs.Marks.{marked-at, unmarked, marked-listed}
-use Rattle.diff.proofs.Making.{MakeAccepted, make-accepted}
-use Rattle.diff.proofs.OnlyDiff.{allowed-ascends, listed-prices, one-diff-for-prices}
+use Rattle.diff.proofs.Making.{MakeAccepted, make-accepted, lent-by-pages, make-accepts}
+use Rattle.diff.proofs.OnlyDiff.{allowed-few, allowed-ascends, listed-prices, one-diff-for-prices}
 
 module _ (pages : ℕ) (working twins marks : List ℕ) (fits : length working ≤ 32 * pages) (few : pages ≤ 64)
     (accepted : MakeAccepted working twins marks) where
@@ -110,9 +112,11 @@ module _ (pages : ℕ) (working twins marks : List ℕ) (fits : length working �
   unfolding made
   made-of-marks =
       record {
+        lent = lent-by-pages working twins marks (accepted .lent);
         allowed = made-allowed;
         names-marked = names-marked;
         sets-marked = sets-marked;
+        keeps-length = length-apply (pricesOf pages made) twins;
         turns = turns;
         counts = counts;
         only = λ diff allowed is. one .only diff allowed is ∙ sym made-listed;
@@ -121,3 +125,21 @@ module _ (pages : ℕ) (working twins marks : List ℕ) (fits : length working �
 pub made-of-marks-only : MadeOfMarksOnly
 made-of-marks-only pages room working twins marks fits few accepted =
     made-of-marks pages working twins marks fits few (make-accepted working twins marks room accepted)
+
+-- an allowed diff of the marked words is the made one
+allowed-made : {pages : ℕ} {working twins marks : List ℕ} (diff : List ℕ) → Lent pages working twins marks
+    → Allowed pages diff → DiffOf pages (isMarked marks) (priceOn working) diff → diff ≡ madeDiff working marks
+unfolding madeDiff
+allowed-made {pages} {working} {marks = marks} diff lent allowed is =
+    rw (lent .priced) (one-diff-for-prices pages (isMarked marks) (priceOn working) (lent .few) .only diff allowed is)
+
+pub makes-allowed-diff : MakesAllowedDiff
+makes-allowed-diff pages working twins marks buffer diff lent allowed is room = (answer, rw (answer, ← same))
+  where
+    same : diff ≡ madeDiff working marks
+    same = allowed-made diff lent allowed is
+
+    answer : makeDiff working twins marks (length buffer) ≡ given (length diff)
+    answer =
+        rw same
+        (make-accepts lent (length buffer) (rw (← same) (allowed-few pages diff allowed)) (rw (← same) room))

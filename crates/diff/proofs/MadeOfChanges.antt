@@ -9,10 +9,11 @@ use Rattle.diff.specs.Marks.{isMarked, changeMarks}
 use Rattle.diff.specs.Making.{priceOn, madeDiff}
 use Rattle.diff.specs.OnlyDiff.{Turns, Names, DiffOf}
 use Rattle.diff.specs.MadeDiff.{Differs, MadeOfMarks, differencesFrom, ChangesMarked, MarksAreChanges}
-use Rattle.diff.specs.MadeDiff.{MadeIsOnlyDiff}
+use Rattle.diff.specs.MadeDiff.{StoresChanges, MadeIsOnlyDiff}
 use Rattle.diff.proofs.Prices.{applied-unnamed, applied-named, apply-at}
 use Rattle.diff.proofs.Marks.{isChanged, length-changes, changes-small, changes-marked}
-use Rattle.diff.proofs.Making.{LentPages, MakeAccepted, make-accepted, marking-accepted}
+use Rattle.diff.proofs.Making.{LentPages, MakeAccepted, make-accepted, marking-accepted, lent-by-pages}
+use Rattle.diff.proofs.Making.{marking-accepts}
 use Rattle.diff.proofs.MadeDiff.{made-of-marks}
 
 -- ---- the marks of what differs
@@ -71,8 +72,13 @@ module _ (working twins : List ℕ) (lent : LentPages (length working) (length t
 
 pub marks-are-changes : MarksAreChanges
 marks-are-changes working twins marks accepted =
-    changes-are-marked working twins
-    (marking-accepted (length working) (length twins) (length marks) accepted .pages)
+    let lent = marking-accepted (length working) (length twins) (length marks) accepted in
+    (lent-by-pages working twins marks lent, changes-are-marked working twins (lent .pages))
+
+pub stores-changes : StoresChanges
+stores-changes pages working twins marks lent =
+    let accepted = marking-accepts lent in
+    (accepted, rw accepted)
 
 -- ---- demand 2
 

@@ -1,10 +1,11 @@
--- What an accepted making of a diff, or marking of the changes, says of what is lent.
-use Rattle.laws.proofs.Prelude.{ℕ, _*_, _%_, _≤_, _≡_, refl, List, Bool, true, false, cond, arith, eqb-true, leb-true}
-use Rattle.laws.proofs.Prelude.{ltb-false, length, eqb, leb, ltb}
+-- What an accepted making of a diff, or marking of the changes, says of what is lent, and what is accepted.
+use Rattle.laws.proofs.Prelude.{ℕ, _*_, _%_, _≤_, _≡_, refl, sym, List, Bool, true, false, cond, arith, eqb-true}
+use Rattle.laws.proofs.Prelude.{leb-true, ltb-false, eq-eqb, le-leb, le-ltb, length, eqb, leb, ltb}
 use Rattle.answer.specs.Outcome.{given, refused, limits, wrongBuffer}
 use Rattle.laws.proofs.Bools.{and-first, and-second}
 use Rattle.diff.specs.Format.{mostWords}
 use Rattle.diff.specs.Making.{madeDiff, lentPages, lentMarked, makeDiff, markChanges}
+use Rattle.diff.specs.MadeDiff.{Lent}
 
 pub record LentPages (working twins : ℕ) : Type 0 where
   pub even : working ≡ twins
@@ -72,3 +73,40 @@ marking-accepted working twins marks = go (lentMarked working twins marks) refl
         → cond lent (given 0) (refused limits) .number ≡ 0 → LentMarked working twins marks
     go true lent e = lent-marked working twins marks lent
     go false lent e = absurd (omega arith)
+
+-- ---- by the number of pages
+
+pub lent-by-pages : (working twins marks : List ℕ) → LentMarked (length working) (length twins) (length marks)
+    → Lent (length marks) working twins marks
+lent-by-pages working twins marks lent =
+    record {
+      some = omega (arith, lent .one-each, lent .pages .least);
+      few = omega (arith, lent .one-each, lent .pages .most);
+      priced = sym (lent .one-each);
+      twinned = omega (arith, lent .one-each, lent .pages .even);
+      marked = refl;
+    }
+
+module _ {pages : ℕ} {working twins marks : List ℕ} (lent : Lent pages working twins marks) where
+  lent-passes : lentMarked (length working) (length twins) (length marks) ≡ true
+  unfolding lentMarked lentPages
+  lent-passes =
+      let even : length working ≡ length twins = omega (arith, lent .priced, lent .twinned) in
+      rw (
+        eq-eqb (length working) (length twins) even,
+        eq-eqb (length working % 32) 0 (omega (arith, lent .priced)),
+        le-leb 1 (length working) (omega (arith, lent .priced, lent .some)),
+        le-leb (length working) 2048 (omega (arith, lent .priced, lent .few)),
+        eq-eqb (32 * length marks) (length working) (omega (arith, lent .priced, lent .marked)),
+      )
+
+  pub make-accepts : (room : ℕ) → length (madeDiff working marks) ≤ mostWords → length (madeDiff working marks) ≤ room
+      → makeDiff working twins marks room ≡ given (length (madeDiff working marks))
+  unfolding makeDiff
+  make-accepts room short fits =
+      let words = length (madeDiff working marks) in
+      rw (lent-passes, le-ltb mostWords words short, le-ltb room words fits)
+
+  pub marking-accepts : markChanges (length working) (length twins) (length marks) ≡ given 0
+  unfolding markChanges
+  marking-accepts = rw lent-passes

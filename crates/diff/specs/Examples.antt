@@ -29,7 +29,7 @@ overfullMarks = replicate 14 0xFFFFFFFF ++ 0x7FFFFFFF ∷ 1 ∷ []
 abbrev pub wholeMarks : ℕ → ℕ → List ℕ
 wholeMarks whole others = replicate whole 0xFFFFFFFF ++ replicate others 0
 
--- ---- pages of prices, in the maker's hands
+-- ---- pages of prices, lent to the maker
 
 -- page 0: words 0 and 31 are new, word 5 as it was; page 1: words 0, 1 and 3 are new
 unfoldable pub workingPages : List ℕ
@@ -106,6 +106,9 @@ examples =
     ∷ computed (inWords (makeDiff (replicate 33 1) (replicate 33 0) (0 ∷ []) 99)) (1 ∷ 0 ∷ [])
     ∷ computed (inWords (makeDiff [] [] [] 99)) (1 ∷ 0 ∷ [])
     ∷ computed (inWords (makeDiff (replicate 2080 1) (replicate 2080 1) (replicate 65 0) 99)) (1 ∷ 0 ∷ [])
+    -- 64 pages, of which the last word is marked
+    ∷ computed (inWords (makeDiff (replicate 2048 0) (replicate 2048 0) (replicate 63 0 ++ 0x80000000 ∷ []) 600))
+    (0 ∷ 4 ∷ [])
     -- one word of marks for each page, looked at before the buffer
     ∷ computed (inWords (makeDiff zeroPages zeroPages (0 ∷ 4 ∷ 0 ∷ []) 99)) (1 ∷ 0 ∷ [])
     ∷ computed (inWords (makeDiff zeroPages zeroPages (0 ∷ 4 ∷ 0 ∷ []) 0)) (1 ∷ 0 ∷ [])

@@ -1,11 +1,13 @@
 -- What the list maker makes: demand 2 on diffs, as document 02, request 2, makes it, and as the demand has it where the
 -- marks are those of what differs.
-use Rattle.laws.specs.Prelude.{ℕ, _+_, _*_, _^_, _<_, _≤_, _≡_, _≢_, List, [], _∷_, _++_, true, cond, length, getD, eqb}
+use Rattle.laws.specs.Prelude.{ℕ, _+_, _*_, _^_, _<_, _≤_, _≡_, _≢_, List, [], _∷_, _++_, true, cond, length, getD}
+use Rattle.laws.specs.Prelude.{drop, eqb}
 use lib.Count.{ones}
+use Rattle.answer.specs.Outcome.{given}
 use Rattle.diff.specs.Prices.{Price, pricesOf, names, applyPrices}
 use Rattle.diff.specs.Encoding.{priceAt, encode}
 use Rattle.diff.specs.Marks.{isMarked, changeMarks}
-use Rattle.diff.specs.Making.{priceOn, madeDiff, makeDiff, markChanges}
+use Rattle.diff.specs.Making.{priceOn, madeDiff, makeDiff, bufferAfter, markChanges, marksAfter}
 use Rattle.diff.specs.OnlyDiff.{Allowed, Turns, Names, DiffOf}
 
 -- the label's price is not its twin
@@ -16,6 +18,14 @@ Differs working twins label = getD working label 0 ≢ getD twins label 0
 abbrev pub AllMarked : List ℕ → List ℕ → List ℕ → Type 0
 AllMarked working twins marks = (label : ℕ) → Differs working twins label → isMarked marks label ≡ true
 
+-- so many pages, 1 to 64, with their twins and one word of marks for each
+pub record Lent (pages : ℕ) (working twins marks : List ℕ) : Type 0 where
+  pub some : 1 ≤ pages
+  pub few : pages ≤ 64
+  pub priced : length working ≡ 32 * pages
+  pub twinned : length twins ≡ 32 * pages
+  pub marked : length marks ≡ pages
+
 -- how many of the prices are on a page
 unfoldable pub pricesOn : ℕ → List Price → ℕ
 pricesOn page [] = 0
@@ -25,6 +35,8 @@ pricesOn page (p ∷ ps) = cond (eqb (p .page) page) 1 0 + pricesOn page ps
 
 -- The made diff, on a rack that has the lent pages.
 pub record MadeOfMarks (pages : ℕ) (working twins marks : List ℕ) : Type 0 where
+  -- "One mark word per page, or 1."
+  pub lent : Lent (length marks) working twins marks
   pub allowed : Allowed pages (madeDiff working marks)
   -- "It names exactly the marked words"
   pub names-marked : (label : ℕ) → names (pricesOf pages (madeDiff working marks)) label ≡ isMarked marks label
@@ -32,6 +44,7 @@ pub record MadeOfMarks (pages : ℕ) (working twins marks : List ℕ) : Type 0 w
   pub sets-marked :
       (label : ℕ) → getD (applyPrices (pricesOf pages (madeDiff working marks)) twins) label 0
       ≡ cond (isMarked marks label) (getD working label 0) (getD twins label 0)
+  pub keeps-length : length (applyPrices (pricesOf pages (madeDiff working marks)) twins) ≡ length twins
   -- "demand 2's first state becomes the second where every differing word is marked"
   pub turns : AllMarked working twins marks → Turns pages (madeDiff working marks) twins working
   -- "the number of prices on a page is the number of ones in its marks"
@@ -43,11 +56,20 @@ pub record MadeOfMarks (pages : ℕ) (working twins marks : List ℕ) : Type 0 w
       (diff : List ℕ) → Allowed pages diff → DiffOf pages (isMarked marks) (priceOn working) diff
       → diff ≡ madeDiff working marks
 
--- Whenever the list maker accepts.
+-- The made diff is such a one whenever the list maker accepts.
 abbrev pub MadeOfMarksOnly : Type 0
 MadeOfMarksOnly =
     (pages room : ℕ) (working twins marks : List ℕ) → length working ≤ 32 * pages → pages ≤ 64
     → makeDiff working twins marks room .number ≡ 0 → MadeOfMarks pages working twins marks
+
+-- It accepts whatever is lent so, if there is an allowed diff of the marked words and the buffer has room for it: then
+-- the answer is its length, and it stands in the buffer.
+abbrev pub MakesAllowedDiff : Type 0
+MakesAllowedDiff =
+    (pages : ℕ) (working twins marks buffer diff : List ℕ) → Lent pages working twins marks → Allowed pages diff
+    → DiffOf pages (isMarked marks) (priceOn working) diff → length diff ≤ length buffer
+    → (makeDiff working twins marks (length buffer) ≡ given (length diff))
+    × (bufferAfter working twins marks buffer ≡ diff ++ drop (length diff) buffer)
 
 -- ---- with the marks of what differs
 
@@ -67,11 +89,18 @@ pub record ChangesMarked (working twins : List ℕ) : Type 0 where
   -- the list made with them is the one that was made before there were marks
   pub same-diff : madeDiff working (changeMarks working twins) ≡ encode (differencesFrom 0 working twins)
 
--- Whenever marking the changes is accepted.
+-- They are such marks whenever marking the changes is accepted.
 abbrev pub MarksAreChanges : Type 0
 MarksAreChanges =
     (working twins marks : List ℕ) → markChanges (length working) (length twins) (length marks) .number ≡ 0
-    → ChangesMarked working twins
+    → Lent (length marks) working twins marks × ChangesMarked working twins
+
+-- It is accepted whatever is lent so: then the answer is 0, and they stand in the buffer.
+abbrev pub StoresChanges : Type 0
+StoresChanges =
+    (pages : ℕ) (working twins marks : List ℕ) → Lent pages working twins marks
+    → (markChanges (length working) (length twins) (length marks) ≡ given 0)
+    × (marksAfter working twins marks ≡ changeMarks working twins)
 
 -- Demand 2: "The list made from two states of the pages turns the first into the second, and it is the only list that
 -- document 01 allows for those changes and that names no other word."

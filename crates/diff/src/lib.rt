@@ -3,7 +3,8 @@
 // The types are declared here; the code that reads and makes diffs stands in the crates above.
 ghost use Rattle.laws.specs.Examples.{AllHold};
 ghost use Rattle.diff.specs.OnlyDiff.{OneDiffForPrices};
-ghost use Rattle.diff.specs.MadeDiff.{MadeOfMarksOnly, MarksAreChanges, MadeIsOnlyDiff};
+ghost use Rattle.diff.specs.MadeDiff.{MadeOfMarksOnly, MakesAllowedDiff, MarksAreChanges};
+ghost use Rattle.diff.specs.MadeDiff.{StoresChanges, MadeIsOnlyDiff};
 ghost use Rattle.diff.specs.Examples.{examples};
 
 // Where the reading of a diff stands.
@@ -52,15 +53,18 @@ pub fn one_diff_for_prices()
 {}
 
 // The diff made of marked words names just these at their working prices, and is the only such diff
-// that document 01 allows, where the gate shows it. It does nothing when it is called.
+// that document 01 allows, where the gate shows it; and the list maker makes it wherever there is
+// one, with room for it. It does nothing when it is called.
 pub fn made_of_marks()
-    ensures { λ _. ⌜ MadeOfMarksOnly ⌝ }
+    ensures made { λ _. ⌜ MadeOfMarksOnly ⌝ }
+    ensures accepted { λ _. ⌜ MakesAllowedDiff ⌝ }
 {}
 
 // The marks of the changes mark just the words that differ from their twins, and the diff made with
 // them is that of the differences, where the gate shows it. It does nothing when it is called.
 pub fn marks_are_changes()
-    ensures { λ _. ⌜ MarksAreChanges ⌝ }
+    ensures made { λ _. ⌜ MarksAreChanges ⌝ }
+    ensures accepted { λ _. ⌜ StoresChanges ⌝ }
 {}
 
 // Demand 2 on diffs, where the gate shows it: the diff made with the marks of the changes turns the

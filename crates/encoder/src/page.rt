@@ -1,5 +1,5 @@
 // One page of a diff: how many words it takes, and these words, by the word of its marks (bit w for
-// word w). Ones of the marks size its runs, trailing zeros place them.
+// word w). Ones of the marks size the page; trailing zeros place its runs and size each.
 ghost use Rattle.laws.specs.Prelude.{_≡_, ℕ, _+_, _/_, _^_, _<_, _≤_, List, length};
 ghost use lib.Seq.{sets};
 ghost use Rattle.diff.specs.Format.{runWord};

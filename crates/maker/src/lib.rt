@@ -7,7 +7,7 @@ ghost use Rattle.diff.specs.Making.{lentPages, lentMarked, roomFor, writtenBy, 
 ghost use Rattle.diff.specs.Making.{bufferAfter, markChanges, marksAfter};
 use answer::Answer;
 
-// Whether a list is made of so many words of working pages and so many of their twins.
+// Whether so many words of working pages and so many of their twins are equally many whole pages.
 fn lent_pages(working: usize, twins: usize) -> bool
     ensures { λ r. ⌜ r ≡ lentPages working twins ⌝ }
 {
@@ -21,7 +21,7 @@ fn lent_pages(working: usize, twins: usize) -> bool
     false
 }
 
-// And of so many words of marks.
+// Whether a list is made of so many words of working pages, of their twins and of marks.
 fn lent_marked(working: usize, twins: usize, marks: usize) -> bool
     ensures { λ r. ⌜ r ≡ lentMarked working twins marks ⌝ }
 {

@@ -1,7 +1,7 @@
 -- `encoder::write_diff` meets its contract. The loop's invariant: the words of the pages from `page` on, stored from here
 -- on, give the list with the words of all pages; while some of them are left, there is a page.
 use Prim.Native.Nat.{ℕ, _+_, _-_, _*_, _≤_, _<_}
-use mathlib.Core.Path.{_≡_, refl, ap, _∙_}
+use mathlib.Core.Path.{_≡_, refl, _∙_}
 use native.Mathlib.Omega.{arith}
 use borrow.Author.Needs.{needs}
 use lib.ListN.{length, length-set, length-take, length-drop}

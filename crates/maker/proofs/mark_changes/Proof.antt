@@ -1,6 +1,7 @@
 -- `maker::mark_changes` meets its contract: the lengths are tested before the first store.
 use mathlib.Core.Path.{sym, _∙_}
 use borrow.Author.Needs.{needs}
+use denote.Ref.{now}
 use Rattle.diff.specs.Making.{markChanges}
 use Rattle.maker.proofs.Lent.{lent-words}
 use Rattle.maker.proofs.mark_changes.Statement.{statement}
@@ -8,15 +9,17 @@ use Rattle.maker.proofs.mark_changes.Tie as tie
 
 mark-pages-requires : tie.Need-mark-pages-requires
 mark-pages-requires c κs =
-    let lent = lent-words _ _ _ (c .before .before .lent-marked .ensures) (c .before .if1 .taken) in
+    let args = c .before .before .before .before .before .before .args in
+    let passed = sym (c .before .before .lent-marked .ensures) ∙ c .before .if1 .taken in
+    let lent = lent-words (now (args .working)) (now (args .twins)) (now (args .marks)) passed in
     (lent .few, (lent .priced, lent .twinned))
 
 returns : tie.Need-returns
 unfolding markChanges
 returns c =
     let tested = c .before .before .before .before in
-    let lent = lent-words _ _ _ (tested .before .lent-marked .ensures) (tested .if1 .taken) in
-    (simp (lent .passed), simp (lent .passed) (c .before .before .mark-pages .ensures))
+    let passed = sym (tested .before .lent-marked .ensures) ∙ tested .if1 .taken in
+    (simp passed, simp passed (c .before .before .mark-pages .ensures))
 
 returns-2 : tie.Need-returns-2
 unfolding markChanges
