@@ -13,7 +13,7 @@ int main(void) {
 
     working[PAGE * RACK_PAGE_WORDS + 2] = 250; /* two new prices, in cents */
     working[PAGE * RACK_PAGE_WORDS + 3] = 199;
-    marks[PAGE] = 1 << 2 | 1 << 3; /* words 2 and 3 are to be released */
+    marks[PAGE] = 1u << 2 | 1u << 3; /* words 2 and 3 are to be released */
     rack_answer made = rack_make_list(working, PRICES, twins, PRICES, marks, PAGES, list, RACK_LIST_WORDS);
     rack_answer opened = rack_open(memory, words, &directory, CARD, 1, desk, list, made.value);
     if (opened.number != RACK_ACCEPTED) return (int)opened.number;

@@ -42,7 +42,7 @@ static void send_all(void) {
     }
 }
 
-/* A desk that keeps no marks opens a release of what is new on a card. */
+/* A desk that keeps no marks opens, on a card, a release of the prices that differ from the shelf. */
 static int open_release(uint32_t card, uint64_t number, const uint32_t working[PRICES]) {
     uint32_t list[RACK_LIST_WORDS], desk[RACK_DESK_WORDS] = { (uint32_t)number, (uint32_t)(number >> 32) };
     uint32_t marks[PAGES];

@@ -53,7 +53,7 @@
 **
 ** Every call returns. A number of 0 says that it was accepted, and the value is what it gives.
 ** Any other number is a refusal, and the value is its place: 0 unless the list below names one. A
-** refusal changes no word of a memory, the directory, the list or the buffer. There are two
+** refusal changes no word of a memory, the directory, the list, the marks or the buffer. There are two
 ** exceptions: rack_format writes the empty directory, and the steps that rack_steps made before
 ** the refused one stand. Checks run in the order that each function names, and the first that
 ** fails is answered.
@@ -76,7 +76,17 @@
 **     answer = rack_fetch(memory, words, &directory, 1, page, RACK_PAGE_WORDS);
 **     if (answer.number != RACK_ACCEPTED) return refuse(answer);
 **
-** and page[2] is 250. A rack that was stored in the old form is moved once it is loaded:
+** and page[2] is 250. A list is mostly made by rack_make_list, of the words that a desk has marked:
+**
+**     uint32_t prices[4 * RACK_PAGE_WORDS] = { 0 }, twins[4 * RACK_PAGE_WORDS] = { 0 };
+**     uint32_t marks[4] = { 0 }, buffer[RACK_LIST_WORDS];
+**     prices[32 * 1 + 2] = 250;
+**     marks[1] |= (uint32_t)1 << 2;
+**     answer = rack_make_list(prices, 128, twins, 128, marks, 4, buffer, RACK_LIST_WORDS);
+**     if (answer.number != RACK_ACCEPTED) return refuse(answer);
+**
+** and the buffer holds the list above. A rack that was stored in the old form is moved once it is
+** loaded:
 **
 **     uint32_t old_memory[RACK_OLD_MEMORY_WORDS(3, 4)];
 **     size_t old_words = RACK_OLD_MEMORY_WORDS(3, 4);
@@ -363,12 +373,13 @@ rack_answer rack_move_back(const uint32_t *memory, size_t words, const rack_dire
 
 /*
 ** Makes the list of changes of the marked words, one word of marks for each page: bit w, which is
-** 1 << w, marks word w. The list names exactly the marked words, at their prices on the working
-** pages: also a word whose price is what it was, and not a word that has a new price and no mark.
-** Working pages and twins, the pages as they were fetched, hold all pages of the rack, or the first
-** of them, one after the other; of the twins only the number of words counts. Laid on the twins, the
-** list sets exactly the marked words. Gives the length of the list; words of the buffer past it are
-** kept. Refusals: 1, 17.
+** (uint32_t)1 << w, marks word w. A desk marks a word when it sets its price, and clears its marks
+** once the release is closed. The list names exactly the marked words, at their prices on the
+** working pages: also a word whose price is what it was, and not a word that has a new price and no
+** mark. Working pages and twins, the pages as they were fetched, hold all pages of the rack, or the
+** first of them, one after the other; of the twins only the number of words counts. Laid on the
+** twins, the list sets exactly the marked words. Gives the length of the list; words of the buffer
+** past it are kept. Refusals: 1, 17.
 */
 rack_answer rack_make_list(const uint32_t *working, size_t working_words, const uint32_t *twins,
                            size_t twins_words, const uint32_t *marks, size_t marks_words,

@@ -1,6 +1,6 @@
 /*
 ** The exported functions called from C: each refusal of documents 01 and 02 with its number and place, that a refusal
-** keeps memory, directory and buffer, and where lost homes go. Ends with status 0 if all is as expected.
+** keeps memory, directory, buffer and marks, and where lost homes go. Ends with status 0 if all is as expected.
 */
 #include <bandsawpink.h>
 #include <stdio.h>
@@ -485,43 +485,97 @@ static void high_words(void) {
     EXPECT(memory[AREA + STAMP + 1] == 0 && memory[AREA + slot_7 + 1] == 0);
 }
 
-static void list_maker(void) {
-    static uint32_t working[PRICES], twins[PRICES], buffer[6];
-    const uint32_t marks[PAGES] = { 0, 1 << 2 | 1 << 3, 0, 0 }, no_marks[PAGES] = { 0 };
-    const uint32_t confirmed[] = { 0x10000001, 0x20020001, 0, 0xF0000003 };
+/* What list work is lent: up to 65 pages with their twins and marks, and a list buffer. */
+enum { TOO_MANY = RACK_MAX_PAGES + 1 };
+static uint32_t working[TOO_MANY * RACK_PAGE_WORDS], twins[TOO_MANY * RACK_PAGE_WORDS], marks[TOO_MANY];
+static uint32_t made_list[600];
+
+/* Zero pages, but for labels 34 and 35, which have new prices and are marked. */
+static void lend_two_prices(void) {
+    memset(working, 0, sizeof working);
+    memset(twins, 0, sizeof twins);
+    memset(marks, 0, sizeof marks);
+    memset(made_list, 0xA5, sizeof made_list);
     working[34] = 250;
     working[35] = 199;
-    memset(buffer, 0xA5, sizeof buffer);
-    rack_answer made = rack_make_list(working, PRICES, twins, PRICES, marks, PAGES, buffer, 4);
-    EXPECT(made.number == RACK_WRONG_BUFFER && made.value == 0 && buffer[0] == 0xA5A5A5A5);
-    made = rack_make_list(working, PRICES - 1, twins, PRICES - 1, marks, PAGES, buffer, 6);
-    EXPECT(made.number == RACK_LIMITS && made.value == 0 && buffer[0] == 0xA5A5A5A5);
-    made = rack_make_list(working, PRICES, twins, PRICES, marks, PAGES - 1, buffer, 6);
-    EXPECT(made.number == RACK_LIMITS && made.value == 0 && buffer[0] == 0xA5A5A5A5);
-    EXPECT(rack_make_list(working, PRICES, twins, PRICES, marks, PAGES - 1, NULL, 0).number == RACK_LIMITS);
-    EXPECT(rack_make_list(NULL, 0, NULL, 0, NULL, 0, NULL, 0).number == RACK_LIMITS);
-    made = rack_make_list(working, PRICES, twins, PRICES, marks, PAGES, buffer, 6);
-    EXPECT(made.number == RACK_ACCEPTED && made.value == 5);
-    EXPECT(memcmp(buffer, list, sizeof list) == 0 && buffer[5] == 0xA5A5A5A5);
+    marks[1] = 1u << 2 | 1u << 3;
+}
 
-    /* a price set again to what it was travels; a new one without a mark does not */
-    const uint32_t again[PAGES] = { 0, 1 << 2, 0, 0 };
-    made = rack_make_list(twins, PRICES, twins, PRICES, again, PAGES, buffer, 6);
-    EXPECT(made.number == RACK_ACCEPTED && made.value == 4 && memcmp(buffer, confirmed, sizeof confirmed) == 0);
-    made = rack_make_list(working, PRICES, twins, PRICES, no_marks, PAGES, buffer, 6);
-    EXPECT(made.number == RACK_ACCEPTED && made.value == 1 && buffer[0] == 0xF0000000);
+/* A list made of so many words of pages, twins and marks in a buffer of so many words. */
+static rack_answer make_list(size_t pages, size_t of_twins, size_t of_marks, size_t room) {
+    return rack_make_list(working, pages, twins, of_twins, marks, of_marks, made_list, room);
+}
+
+/* Refused list work names no place, and keeps the list buffer and the marks. */
+#define LIST_REFUSED(call, expected_number) \
+    do { \
+        uint32_t list_before[600], marks_before[TOO_MANY]; \
+        memcpy(list_before, made_list, sizeof made_list); \
+        memcpy(marks_before, marks, sizeof marks); \
+        rack_answer answer = (call); \
+        EXPECT(answer.number == (expected_number) && answer.value == 0); \
+        EXPECT(memcmp(list_before, made_list, sizeof made_list) == 0); \
+        EXPECT(memcmp(marks_before, marks, sizeof marks) == 0); \
+    } while (0)
+
+/* A list of the marked words of 4 pages: these words, and what stands behind them is kept. */
+static void expect_list(const uint32_t *expected, size_t length) {
+    memset(made_list, 0xA5, sizeof made_list);
+    rack_answer made = make_list(PRICES, PRICES, PAGES, 6);
+    EXPECT(made.number == RACK_ACCEPTED && made.value == length);
+    EXPECT(memcmp(made_list, expected, length * sizeof *expected) == 0 && made_list[length] == 0xA5A5A5A5);
+}
+
+static void list_maker(void) {
+    const uint32_t confirmed[] = { 0x10000001, 0x20020001, 0, 0xF0000003 }, no_change[] = { 0xF0000000 };
+    const uint32_t one_of_two[] = { 0x10000001, 0x20020001, 250, 0xF0000003 };
+    lend_two_prices();
+    expect_list(list, sizeof list / sizeof *list);
+    marks[1] = 1u << 2; /* a new price without a mark is not named */
+    expect_list(one_of_two, 4);
+    marks[1] = 0;
+    expect_list(no_change, 1);
+    marks[1] = 1u << 2; /* a price set again to what it was is named */
+    working[34] = working[35] = 0;
+    expect_list(confirmed, 4);
+
+    marks[1] = UINT32_MAX;
+    EXPECT(make_list(PRICES, PRICES, PAGES, 35).value == 35);
+    marks[1] = 0x55555555;
+    EXPECT(make_list(PRICES, PRICES, PAGES, 34).value == 34);
+    memset(marks, 0xFF, 15 * sizeof *marks);
+    EXPECT(make_list(16 * RACK_PAGE_WORDS, 16 * RACK_PAGE_WORDS, 16, 511).value == 511);
+}
+
+static void list_work_refused(void) {
+    const size_t most = RACK_MAX_PAGES * RACK_PAGE_WORDS, over = TOO_MANY * RACK_PAGE_WORDS;
+    lend_two_prices();
+    LIST_REFUSED(make_list(PRICES, PRICES - RACK_PAGE_WORDS, PAGES, 600), RACK_LIMITS);
+    LIST_REFUSED(make_list(PRICES - 1, PRICES - 1, PAGES - 1, 600), RACK_LIMITS);
+    LIST_REFUSED(make_list(0, 0, 0, 600), RACK_LIMITS);
+    LIST_REFUSED(make_list(over, over, TOO_MANY, 600), RACK_LIMITS);
+    LIST_REFUSED(make_list(PRICES, PRICES, PAGES - 1, 600), RACK_LIMITS);
+    LIST_REFUSED(make_list(PRICES, PRICES, PAGES + 1, 600), RACK_LIMITS);
+    LIST_REFUSED(make_list(most, most, RACK_MAX_PAGES - 1, 600), RACK_LIMITS);
+    LIST_REFUSED(make_list(PRICES, PRICES, PAGES - 1, 0), RACK_LIMITS); /* 1 before 17 */
+    LIST_REFUSED(make_list(PRICES, PRICES, PAGES, 4), RACK_WRONG_BUFFER);
+    memset(marks, 0xFF, 16 * sizeof *marks);
+    LIST_REFUSED(make_list(16 * RACK_PAGE_WORDS, 16 * RACK_PAGE_WORDS, 16, 600), RACK_WRONG_BUFFER);
+    EXPECT(rack_make_list(NULL, 0, NULL, 0, NULL, 0, NULL, 0).number == RACK_LIMITS);
+
+    LIST_REFUSED(rack_mark_changes(working, PRICES, twins, PRICES - RACK_PAGE_WORDS, marks, PAGES), RACK_LIMITS);
+    LIST_REFUSED(rack_mark_changes(working, PRICES - 1, twins, PRICES - 1, marks, PAGES - 1), RACK_LIMITS);
+    LIST_REFUSED(rack_mark_changes(working, over, twins, over, marks, TOO_MANY), RACK_LIMITS);
+    LIST_REFUSED(rack_mark_changes(working, PRICES, twins, PRICES, marks, PAGES - 1), RACK_LIMITS);
+    LIST_REFUSED(rack_mark_changes(working, PRICES, twins, PRICES, marks, PAGES + 1), RACK_LIMITS);
+    EXPECT(rack_mark_changes(NULL, 0, NULL, 0, NULL, 0).number == RACK_LIMITS);
 }
 
 static void marks_of_changes(void) {
-    static uint32_t working[PRICES], twins[PRICES], marks[PAGES + 1];
-    working[0] = working[34] = working[35] = working[127] = 7;
+    lend_two_prices();
+    working[0] = working[127] = 7;
     memset(marks, 0xA5, sizeof marks);
-    rack_answer marked = rack_mark_changes(working, PRICES, twins, PRICES, marks, PAGES + 1);
-    EXPECT(marked.number == RACK_LIMITS && marked.value == 0 && marks[0] == 0xA5A5A5A5);
-    marked = rack_mark_changes(working, PRICES, twins, PRICES - 1, marks, PAGES);
-    EXPECT(marked.number == RACK_LIMITS && marked.value == 0 && marks[0] == 0xA5A5A5A5);
-    EXPECT(rack_mark_changes(NULL, 0, NULL, 0, NULL, 0).number == RACK_LIMITS);
-    marked = rack_mark_changes(working, PRICES, twins, PRICES, marks, PAGES);
+    rack_answer marked = rack_mark_changes(working, PRICES, twins, PRICES, marks, PAGES);
     EXPECT(marked.number == RACK_ACCEPTED && marked.value == 0);
     EXPECT(marks[0] == 1 && marks[1] == 12 && marks[2] == 0 && marks[3] == 0x80000000 && marks[4] == 0xA5A5A5A5);
 }
@@ -583,6 +637,7 @@ int main(void) {
     refused_moves();
     high_words();
     list_maker();
+    list_work_refused();
     marks_of_changes();
     any_words();
     return failed;

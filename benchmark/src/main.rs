@@ -144,6 +144,12 @@ fn changed(labels: impl Iterator<Item = usize>) -> (Vec<u32>, Vec<u32>, Vec<u32>
     (working, twins, marks)
 }
 
+/// A row of list work: the second implementation has no directory to hand over, by value or lent.
+fn row_of_list_work(name: &str, proved: &mut dyn FnMut(), second: &mut dyn FnMut()) {
+    let [proved, second] = in_turn([proved, second]);
+    row(name, &[proved, second, second]);
+}
+
 /// A list of the given labels, which are marked.
 fn list_made(name: &str, labels: impl Iterator<Item = usize>) {
     let (working, twins, marks) = changed(labels);
@@ -159,8 +165,7 @@ fn list_made(name: &str, labels: impl Iterator<Item = usize>) {
     let mut second = || {
         black_box(second::make_list(&working, &twins, &marks, black_box(&mut other)));
     };
-    let [proved, second] = in_turn([&mut proved, &mut second]);
-    row(name, &[proved, second, second]);
+    row_of_list_work(name, &mut proved, &mut second);
 }
 
 /// The marks of the given labels, which differ from their twins.
@@ -177,8 +182,7 @@ fn changes_marked(name: &str, labels: impl Iterator<Item = usize>) {
     let mut second = || {
         black_box(second::mark_changes(&working, &twins, black_box(&mut other)));
     };
-    let [proved, second] = in_turn([&mut proved, &mut second]);
-    row(name, &[proved, second, second]);
+    row_of_list_work(name, &mut proved, &mut second);
 }
 
 /// From an old memory into one of the rack's.

@@ -69,14 +69,31 @@ fn a_list_and_its_release() {
     }
     assert_eq!(mark_changes(&working, &twins[..96]), Err(Refusal::Limits));
     assert_eq!(mark_changes(&working[..33], &twins[..33]), Err(Refusal::Limits));
-    let all = [u32::MAX; 64];
-    assert_eq!(make_list(&[7; 2048], &[0; 2048], &all), Err(Refusal::WrongBuffer));
+    assert_eq!(make_list(&working, &twins, &[0, 4, 0, 0]).unwrap(), [0x1000_0001, 0x2002_0001, 250, 0xF000_0003]);
+    for (marks, words) in [(u32::MAX, 35), (0x5555_5555, 34)] {
+        assert_eq!(make_list(&working, &twins, &[0, marks, 0, 0]).unwrap().len(), words);
+    }
+    let (pages, whole) = ([7; 512], |pages: usize| [vec![u32::MAX; pages], vec![0; 16 - pages]].concat());
+    assert_eq!(make_list(&pages, &pages, &whole(15)).unwrap().len(), 511);
+    assert_eq!(make_list(&pages, &pages, &whole(16)), Err(Refusal::WrongBuffer));
 
     let mut rack = rack();
     assert_eq!(rack.release(1, 1, &DESK, &LIST), Ok(19));
     assert_eq!(rack.fetch(1), Ok(page_1()));
     assert_eq!(rack.desk(1), Ok(DESK));
     assert_eq!(rack.release(1, 2, &DESK, &[0xF000_0000]), Ok(11));
+}
+
+/// A desk confirms a price that it has as its twin, while another desk has changed it: the confirmation travels.
+#[test]
+fn a_price_set_again_to_what_it_was() {
+    let mut rack = rack();
+    let twins = [rack.fetch(0).unwrap(), rack.fetch(1).unwrap()].concat();
+    assert_eq!(rack.release(1, 1, &DESK, &LIST), Ok(19));
+    let confirmed = make_list(&twins, &twins, &[0, 1 << 2]).unwrap();
+    assert_eq!(rack.release(2, 1, &DESK, &confirmed), Ok(15));
+    let page = rack.fetch(1).unwrap();
+    assert_eq!((page[2], page[3]), (0, 199));
 }
 
 #[test]

@@ -128,16 +128,9 @@ fn any_marks(random: &mut Random, working: &[u32], twins: &[u32]) -> Vec<u32> {
         }
         _ => {
             let rarity = random.of(&[1, 2, 8]);
-            (0..pages).map(|_| if random.one_in(rarity) { marks_of_page(random) } else { 0 }).collect()
+            (0..pages).map(|_| if random.one_in(rarity) { random.marks() } else { 0 }).collect()
         }
     }
-}
-
-/// Marks of one page: one, few, any, many, a run, all but one, or all.
-fn marks_of_page(random: &mut Random) -> u32 {
-    let [a, b, c] = random.array();
-    let (one, run) = (1 << (a % 32), u32::MAX >> (a % 32) << (b % 32));
-    random.of(&[one, a & b & c, a, a | b | c, run, !one, u32::MAX])
 }
 
 /// The marks of so many pages, with these labels marked.

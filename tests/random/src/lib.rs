@@ -47,6 +47,13 @@ impl Random {
         items[self.below(items.len() as u32) as usize]
     }
 
+    /// Marks of one page: one, few, any, many, a run, all but one, or all.
+    pub fn marks(&mut self) -> u32 {
+        let [a, b, c] = self.array();
+        let (one, run) = (1 << (a % 32), u32::MAX >> (a % 32) << (b % 32));
+        self.of(&[one, a & b & c, a, a | b | c, run, !one, u32::MAX])
+    }
+
     /// A word that means something in a list of changes or a directory, a small one, or any.
     pub fn odd_word(&mut self) -> u32 {
         match self.below(6) {

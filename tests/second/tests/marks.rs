@@ -131,10 +131,12 @@ fn random_pages(random: &mut Random, pages: u32, rarity: u32) -> (Vec<u32>, Vec<
     (twins.iter().map(changed).collect(), twins)
 }
 
-/// Random marks of one page: sparse, dense, none or all.
+/// Random marks of one page, or none.
 fn random_marks(random: &mut Random) -> u32 {
-    let [a, b, c] = random.array();
-    random.of(&[0, 0, 1 << (a % 32), a & b & c, a, a | b | c, u32::MAX])
+    if random.one_in(3) {
+        return 0;
+    }
+    random.marks()
 }
 
 fn is_marked(marks: &[u32], label: usize) -> bool {
