@@ -53,8 +53,8 @@
 **
 ** Every call returns. A number of 0 says that it was accepted, and the value is what it gives.
 ** Any other number is a refusal, and the value is its place: 0 unless the list below names one. A
-** refusal changes no word of a memory, the directory, the list, the marks or the buffer. There are two
-** exceptions: rack_format writes the empty directory, and the steps that rack_steps made before
+** refusal changes no word of a memory, the directory, the list, the marks or the buffer. There are
+** two exceptions: rack_format writes the empty directory, and the steps that rack_steps made before
 ** the refused one stand. Checks run in the order that each function names, and the first that
 ** fails is answered.
 **
@@ -373,22 +373,23 @@ rack_answer rack_move_back(const uint32_t *memory, size_t words, const rack_dire
 
 /*
 ** Makes the list of changes of the marked words, one word of marks for each page: bit w, which is
-** (uint32_t)1 << w, marks word w. A desk marks a word when it sets its price, and clears its marks
-** once the release is closed. The list names exactly the marked words, at their prices on the
-** working pages: also a word whose price is what it was, and not a word that has a new price and no
-** mark. Working pages and twins, the pages as they were fetched, hold all pages of the rack, or the
-** first of them, one after the other; of the twins only the number of words counts. Laid on the
-** twins, the list sets exactly the marked words. Gives the length of the list; words of the buffer
-** past it are kept. Refusals: 1, 17.
+** (uint32_t)1 << w, marks word w. A desk marks a word when it sets its price. Once a release is
+** closed it clears the marks that the list was made of, and keeps those set since, which are for
+** the next list. The list names exactly the marked words, at their prices on the working pages: also
+** a word whose price is what it was, and not a word that has a new price and no mark. Working pages
+** and twins, the pages as they were fetched, hold all pages of the rack, or the first of them, one
+** after the other; of the twins only the number of words counts. Laid on the twins, the list sets
+** exactly the marked words. Gives the length of the list; words of the buffer past it are kept.
+** Refusals: 1, 17.
 */
 rack_answer rack_make_list(const uint32_t *working, size_t working_words, const uint32_t *twins,
                            size_t twins_words, const uint32_t *marks, size_t marks_words,
                            uint32_t *buffer, size_t buffer_words);
 
 /*
-** Marks the words of the working pages that differ from their twins, for a desk that keeps no marks.
-** The list that rack_make_list makes with these marks turns the twins into the working pages. All
-** words of marks are written. Gives 0. Refusals: 1, and then the marks are kept.
+** Marks the words of the working pages that differ from their twins, for a desk that keeps no
+** marks. The list that rack_make_list makes with these marks turns the twins into the working
+** pages. All words of marks are written. Gives 0. Refusals: 1, and then the marks are kept.
 */
 rack_answer rack_mark_changes(const uint32_t *working, size_t working_words, const uint32_t *twins,
                               size_t twins_words, uint32_t *marks, size_t marks_words);

@@ -252,6 +252,7 @@ impl Rack {
 
 /// The list of changes of the marked words, at their prices on the working pages. There is one word of marks for each
 /// page, in which bit w marks word w. Of the twins, the pages as they were fetched, only the number of words counts.
+/// Refused with [`Refusal::Limits`] for any wrong length, then with [`Refusal::WrongBuffer`] for a list over 512 words.
 ///
 /// A desk that confirms a price marks its word, and the price travels although it is what it was:
 ///
@@ -283,7 +284,8 @@ pub fn make_list(working: &[u32], twins: &[u32], marks: &[u32]) -> Result<Vec<u3
 }
 
 /// The marks of the words of the working pages that differ from their twins, one word for each page: for a desk that
-/// keeps no marks. The list made with them turns the twins into the working pages.
+/// keeps no marks. The list made with them turns the twins into the working pages. Refused with [`Refusal::Limits`] for
+/// any wrong length.
 pub fn mark_changes(working: &[u32], twins: &[u32]) -> Result<Vec<u32>, Refusal> {
     let mut marks = vec![0; working.len() / PAGE_WORDS];
     let (pages, pages_words) = (working.as_ptr(), working.len());

@@ -11,8 +11,9 @@ use Rattle.diff.specs.Prices.{Price, pricesOf, names, appliedAt, applyPr
 use Rattle.diff.specs.Encoding.{listed, listedDiff, encode}
 use Rattle.diff.specs.Marks.{isMarked}
 use Rattle.diff.specs.Making.{priceOn, madeDiff, makeDiff}
-use Rattle.diff.specs.OnlyDiff.{Allowed, Turns, DiffOf, OneDiff}
-use Rattle.diff.specs.MadeDiff.{Lent, AllMarked, pricesOn, MadeOfMarks, MadeOfMarksOnly, MakesAllowedDiff}
+use Rattle.diff.specs.OnlyDiff.{Allowed, DiffOf, OneDiff}
+use Rattle.diff.specs.MadeDiff.{Turns, Lent, AllMarked, pricesOn, MadeOfMarks, MadeOfMarksOnly}
+use Rattle.diff.specs.MadeDiff.{MakesAllowedDiff}
 use Rattle.diff.proofs.Prices.{names-past, applied-unnamed, applied-named, length-apply, apply-at}
 use Rattle.diff.proofs.PageCount.{listed-page}
 use Rattle.diff.proofs.Marks.{marked-at, unmarked, marked-listed}

@@ -7,8 +7,8 @@ use Rattle.diff.specs.Prices.{pricesOf, names, appliedAt}
 use Rattle.diff.specs.Encoding.{priceAt, listed, encode}
 use Rattle.diff.specs.Marks.{isMarked, changeMarks}
 use Rattle.diff.specs.Making.{priceOn, madeDiff}
-use Rattle.diff.specs.OnlyDiff.{Turns, Names, DiffOf}
-use Rattle.diff.specs.MadeDiff.{Differs, MadeOfMarks, differencesFrom, ChangesMarked, MarksAreChanges}
+use Rattle.diff.specs.OnlyDiff.{Names, DiffOf}
+use Rattle.diff.specs.MadeDiff.{Turns, Differs, MadeOfMarks, differencesFrom, ChangesMarked, MarksAreChanges}
 use Rattle.diff.specs.MadeDiff.{StoresChanges, MadeIsOnlyDiff}
 use Rattle.diff.proofs.Prices.{applied-unnamed, applied-named, apply-at}
 use Rattle.diff.proofs.Marks.{isChanged, length-changes, changes-small, changes-marked}

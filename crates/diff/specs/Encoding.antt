@@ -1,5 +1,5 @@
 -- How prices become the words of a diff (document 01, "The list of changes"): the one allowed diff of the labels that
--- are named, at their prices. Which labels are named is told apart from it, by a test.
+-- are named, at their prices. Which labels are named is stated apart from it, as a test.
 -- Assumes nothing: these are definitions.
 use Rattle.laws.specs.Prelude.{ℕ, zero, suc, _+_, _*_, _/_, _%_, List, [], _∷_, _++_, Bool, cond, _&&_, length, leb, eqb}
 use Rattle.diff.specs.Format.{pageWord, runWord, endWord}

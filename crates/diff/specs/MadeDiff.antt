@@ -8,7 +8,11 @@ use Rattle.diff.specs.Prices.{Price, pricesOf, names, applyPrices}
 use Rattle.diff.specs.Encoding.{priceAt, encode}
 use Rattle.diff.specs.Marks.{isMarked, changeMarks}
 use Rattle.diff.specs.Making.{priceOn, madeDiff, makeDiff, bufferAfter, markChanges, marksAfter}
-use Rattle.diff.specs.OnlyDiff.{Allowed, Turns, Names, DiffOf}
+use Rattle.diff.specs.OnlyDiff.{Allowed, Names, DiffOf}
+
+-- the pages `twins`, with the diff's prices, are the pages `working`
+abbrev pub Turns : ℕ → List ℕ → List ℕ → List ℕ → Type 0
+Turns pages diff twins working = applyPrices (pricesOf pages diff) twins ≡ working
 
 -- the label's price is not its twin
 abbrev pub Differs : List ℕ → List ℕ → ℕ → Type 0
@@ -73,7 +77,7 @@ MakesAllowedDiff =
 
 -- ---- with the marks of what differs
 
--- the working prices that differ from their twins, from a label on: what a list named before there were marks
+-- the working prices that differ from their twins, from a label on: what document 01's list maker names
 unfoldable pub differencesFrom : ℕ → List ℕ → List ℕ → List Price
 differencesFrom label [] twins = []
 differencesFrom label (w ∷ ws) [] = []
@@ -86,7 +90,7 @@ pub record ChangesMarked (working twins : List ℕ) : Type 0 where
   pub marks-what-differs : AllMarked working twins (changeMarks working twins)
   pub marks-no-other :
       (label : ℕ) → isMarked (changeMarks working twins) label ≡ true → Differs working twins label
-  -- the list made with them is the one that was made before there were marks
+  -- the list made with them is document 01's, which "names exactly the words that differ"
   pub same-diff : madeDiff working (changeMarks working twins) ≡ encode (differencesFrom 0 working twins)
 
 -- They are such marks whenever marking the changes is accepted.

@@ -3,16 +3,12 @@
 use Rattle.laws.specs.Prelude.{ℕ, _*_, _<_, _≤_, _≡_, List, Bool, true, length}
 use Rattle.diff.specs.Format.{mostWords}
 use Rattle.diff.specs.Reading.{checkDiff}
-use Rattle.diff.specs.Prices.{pricesOf, names, appliedAt, applyPrices}
+use Rattle.diff.specs.Prices.{pricesOf, names, appliedAt}
 use Rattle.diff.specs.Encoding.{listedDiff}
 
 -- a list that document 01 allows on a rack of so many pages: handed in, it is not refused
 abbrev pub Allowed : ℕ → List ℕ → Type 0
 Allowed pages diff = checkDiff pages diff .number ≡ 0
-
--- the pages `twins`, with the diff's prices, are the pages `working`
-abbrev pub Turns : ℕ → List ℕ → List ℕ → List ℕ → Type 0
-Turns pages diff twins working = applyPrices (pricesOf pages diff) twins ≡ working
 
 -- the diff names the label
 abbrev pub Names : ℕ → List ℕ → ℕ → Type 0

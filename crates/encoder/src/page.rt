@@ -6,7 +6,7 @@ ghost use Rattle.diff.specs.Format.{runWord};
 ghost use Rattle.diff.specs.Marks.{changedWords};
 ghost use Rattle.encoder.specs.Page.{pageWords, runWords, FirstRun};
 
-// Words of a page that are marked one after the other.
+// Consecutive marked words of a page.
 struct Run {
     offset: u32,
     count: u32,
@@ -23,7 +23,7 @@ fn first_run(marks: u32) -> Run
     Run { offset, count }
 }
 
-// The marks behind the first run, the word at its end being bit 0.
+// The marks past the first run, shifted down: bit 0 is for the word after the run.
 fn marks_behind(marks: u32, run: Run) -> u32
     requires { ⌜ FirstRun marks run ⌝ }
     ensures { λ r. ⌜ r ≡ marks / 2 ^ (run .offset + run .count) ⌝ }
@@ -37,7 +37,8 @@ fn marks_behind(marks: u32, run: Run) -> u32
 
 // How many words a page takes in a diff: none if no word is marked, else its page word, a word for
 // each run and the prices. A run ends where the next word is not marked. Runs and prices are
-// counted at once, as the ones of two words side by side.
+// counted at once, as the ones of two words side by side. `short` is what the sum over 64 pages
+// needs; a page takes 34 words at most.
 pub fn page_words(marks: u32) -> u32
     ensures short { λ r. ⌜ r ≤ 65 ⌝ }
     ensures counted { λ r. ⌜ ((page : ℕ) (prices : List ℕ)

@@ -1,5 +1,5 @@
-// The list maker: the diff of the marked words of working pages, written into a lent buffer; and the
-// marks of what differs, for a desk that keeps none.
+// The list maker: the diff of the marked words of working pages, written into a lent buffer; and
+// the marks of what differs, for a desk that keeps none.
 ghost use Rattle.laws.specs.Prelude.{_≡_, _*_, _≤_, length};
 ghost use Rattle.answer.specs.Outcome.{answerOf};
 ghost use Rattle.diff.specs.Marks.{changeMarks};
