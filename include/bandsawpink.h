@@ -375,12 +375,12 @@ rack_answer rack_move_back(const uint32_t *memory, size_t words, const rack_dire
 ** Makes the list of changes of the marked words, one word of marks for each page: bit w, which is
 ** (uint32_t)1 << w, marks word w. A desk marks a word when it sets its price. Once a release is
 ** closed it clears the marks that the list was made of, and keeps those set since, which are for
-** the next list. The list names exactly the marked words, at their prices on the working pages: also
-** a word whose price is what it was, and not a word that has a new price and no mark. Working pages
-** and twins, the pages as they were fetched, hold all pages of the rack, or the first of them, one
-** after the other; of the twins only the number of words counts. Laid on the twins, the list sets
-** exactly the marked words. Gives the length of the list; words of the buffer past it are kept.
-** Refusals: 1, 17.
+** the next list. The list names exactly the marked words, at their prices on the working pages:
+** also a word whose price is what it was, and not one that has a new price and no mark. Working
+** pages and twins, the pages as they were fetched, hold all pages of the rack, or the first of
+** them, one after the other; of the twins only the number of words counts. Laid on the twins, the
+** list sets exactly the marked words. Gives the length of the list; words of the buffer past it are
+** kept. Refusals: 1, 17.
 */
 rack_answer rack_make_list(const uint32_t *working, size_t working_words, const uint32_t *twins,
                            size_t twins_words, const uint32_t *marks, size_t marks_words,
