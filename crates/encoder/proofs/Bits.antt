@@ -3,17 +3,13 @@
 use Rattle.laws.proofs.Prelude.{ℕ, zero, suc, _+_, _-_, _/_, _%_, _^_, _<_, _≤_, _≡_, refl, sym, ap, _∙_, arith}
 use Rattle.laws.proofs.Prelude.{decLt}
 use native.Mathlib.Nat.{pow-zero, pow-suc, zero-add, lt-of-lt-of-le}
-use native.Mathlib.Numerals.{add-one}
 use lib.Count.{trailingZeros, under, trailing-le}
 use lib.Pow.{shr-lt, shr-le, pow-mono}
 use Rattle.diff.specs.Marks.{bit}
-use Rattle.diff.proofs.Bits.{bit-shifted, bit-half, bit-first}
+use Rattle.diff.proofs.Bits.{bit-shifted, bit-half, bit-first, half-small}
 use Rattle.encoder.specs.Page.{FirstRun}
 
 -- ---- trailing zeros
-
-half-fits : {word : ℕ} (bits : ℕ) → word < 2 ^ suc bits → word / 2 < 2 ^ bits
-half-fits bits small = shr-lt bits 1 (rw add-one small)
 
 -- no bit below them is set
 zeros-below : (bits word w : ℕ) → w < trailingZeros bits word → bit word w ≡ 0
@@ -54,7 +50,7 @@ zeros-short (suc bits) word some small = go (word % 2) refl (zeros-short bits (w
     go : (first : ℕ) → word % 2 ≡ first
         → (0 < word / 2 → word / 2 < 2 ^ bits → trailingZeros bits (word / 2) < bits)
         → under first (trailingZeros bits (word / 2)) < suc bits
-    go zero even rest = omega (arith, rest (omega arith) (half-fits bits small))
+    go zero even rest = omega (arith, rest (omega arith) (half-small bits word small))
     go (suc first) odd rest = omega arith
 
 -- ---- the complement in a word of so many bits
@@ -76,7 +72,7 @@ bit-complement (suc bits) word zero small below =
     ∙ ap (λ (first : ℕ). 1 - first) (sym (bit-first word))
 bit-complement (suc bits) word (suc w) small below =
     sym (bit-half (complement (suc bits) word) w) ∙ ap (λ (half : ℕ). bit half w) (complement-half bits word small)
-    ∙ bit-complement bits (word / 2) w (half-fits bits small) (omega arith)
+    ∙ bit-complement bits (word / 2) w (half-small bits word small) (omega arith)
     ∙ ap (λ (b : ℕ). 1 - b) (bit-half word w)
 
 -- ---- the first run
@@ -122,8 +118,8 @@ module _ (marks : ℕ) (some : 0 < marks) (small : marks < 2 ^ 32) where
           let place : offset + count ≡ offset = omega arith in
           absurd (omega (arith, one-at-end 32 marks offset-short, rw place at (unmarked (omega arith))))
 
-  run-within : offset + count ≤ 32
-  run-within = go (decLt 32 (offset + count))
+  run-fits : offset + count ≤ 32
+  run-fits = go (decLt 32 (offset + count))
     where
       go : Dec (32 < offset + count) → offset + count ≤ 32
       go (no within) = omega arith
@@ -135,7 +131,7 @@ module _ (marks : ℕ) (some : 0 < marks) (small : marks < 2 ^ 32) where
   pub first-run : FirstRun marks (record { offset = offset; count = count })
   first-run =
       record {
-        within = run-within;
+        within = run-fits;
         some = count-some;
         none-before = λ w below. zeros-below 32 marks w below;
         all-marked = marked;

@@ -1,7 +1,7 @@
 -- How many words a page takes in a diff, by its marks: its page word, a word for each run and a price for each mark.
 -- The runs are counted by their ends, the marked words whose next word is not.
 use Rattle.laws.proofs.Prelude.{ℕ, zero, suc, _+_, _-_, _*_, _/_, _%_, _^_, _<_, _≤_, _≡_, refl, ap, _∙_, arith}
-use Rattle.laws.proofs.Prelude.{List, Bool, length, getD, ne-eqb, eq-eqb, ℕ-discrete}
+use Rattle.laws.proofs.Prelude.{List, length, ne-eqb, eq-eqb, ℕ-discrete}
 use Prim.Native.Nat.{min}
 use native.Mathlib.Nat.{lt-of-le-of-lt, div-one, add-zero}
 use lib.Bits.{bitAnd, and-step, and-shr, and-le-l}
@@ -10,10 +10,10 @@ use lib.ListN.{length-append}
 use lib.Pow.{shr-shr, shr-lt}
 use Rattle.diff.specs.declared.Price.{Price}
 use Rattle.diff.specs.Encoding.{priceAt, listed, encodeFrom, runHeader, runLength}
-use Rattle.diff.specs.Marks.{bit, isSet}
+use Rattle.diff.specs.Marks.{bit}
 use Rattle.diff.proofs.Listed.{label-at, listed-none, listed-skip, listed-take}
 use Rattle.diff.proofs.Encoding.{encode-none, encode-price, run-header-page, run-header-run, run-header-none}
-use Rattle.encoder.specs.Page.{pageWords}
+use Rattle.encoder.specs.Page.{markedBy, pricedBy, pageWords}
 use Rattle.encoder.proofs.Bits.{complement, complement-half, complement-first}
 
 -- ---- runs and marks of so many words, lowest bit first
@@ -60,18 +60,12 @@ module _ (words marks : ℕ) (small : marks < 2 ^ suc words) where
 -- ---- the words of a page
 
 module _ (page marks : ℕ) (prices : List ℕ) where
-  abbrev named : ℕ → Bool
-  named label = isSet marks (label % 32)
-
-  abbrev priceOf : ℕ → ℕ
-  priceOf label = getD prices (label % 32) 0
-
   abbrev labelAt : ℕ → ℕ
   labelAt w = 32 * page + w
 
   -- how many words of a diff n words of the page bring, w first; `next` is one more than the label named last
   abbrev wordsFrom : ℕ → ℕ → ℕ → ℕ
-  wordsFrom next w n = length (encodeFrom next (listed named priceOf (labelAt w) n))
+  wordsFrom next w n = length (encodeFrom next (listed (markedBy marks) (pricedBy prices) (labelAt w) n))
 
   bit-of : (w : ℕ) → w < 32 → bit marks (labelAt w % 32) ≡ bit marks w
   bit-of w within = ap (bit marks) (omega arith)
@@ -85,26 +79,26 @@ module _ (page marks : ℕ) (prices : List ℕ) where
 
   -- no word, one that is not marked, one that is
   words-none : (next w : ℕ) → wordsFrom next w 0 ≡ 0
-  words-none next w = rw (listed-none named priceOf (labelAt w), encode-none next)
+  words-none next w = rw (listed-none (markedBy marks) (pricedBy prices) (labelAt w), encode-none next)
 
   words-unmarked : (next w n : ℕ) → w < 32 → bit marks w ≡ 0 → wordsFrom next w (suc n) ≡ wordsFrom next (suc w) n
   words-unmarked next w n within unset =
       let b = bit marks (labelAt w % 32) in
       let zero : b ≡ 0 = bit-of w within ∙ unset in
-      rw (listed-skip named priceOf (labelAt w) n (ne-eqb b 1 (λ one. omega arith)), next-label w)
+      rw (listed-skip (markedBy marks) (pricedBy prices) (labelAt w) n (ne-eqb b 1 (λ one. omega arith)), next-label w)
 
   words-marked : (next w n header : ℕ) → w < 32 → bit marks w ≡ 1 → Headed next w header
       → wordsFrom next w (suc n) ≡ header + suc (wordsFrom (labelAt (suc w)) (suc w) n)
   words-marked next w n header within set headed =
       let label = labelAt w in
-      let p = priceAt label (priceOf label) in
-      let rest = listed named priceOf (label + 1) n in
+      let p = priceAt label (pricedBy prices label) in
+      let rest = listed (markedBy marks) (pricedBy prices) (label + 1) n in
       rw (
-        listed-take named priceOf label n (eq-eqb _ _ (bit-of w within ∙ set)),
+        listed-take (markedBy marks) (pricedBy prices) label n (eq-eqb _ _ (bit-of w within ∙ set)),
         encode-price next p rest (runHeader next p (runLength p rest)) refl,
         length-append (runHeader next p (runLength p rest)),
-        headed (priceOf label) (runLength p rest),
-        label-at label (priceOf label),
+        headed (pricedBy prices label) (runLength p rest),
+        label-at label (pricedBy prices label),
         next-label w,
       )
 
@@ -193,7 +187,7 @@ module _ (page marks : ℕ) (prices : List ℕ) where
             omega (arith, counted-marked 0 w n 2 all set header behind)
         go (suc (suc b)) more rest some = absurd (omega arith)
 
-    pub page-words-some : 0 < marks → length (pageWords page marks prices) ≡ 1 + runsAndMarks 32 marks
+    pub length-page-words : 0 < marks → length (pageWords page marks prices) ≡ 1 + runsAndMarks 32 marks
     unfolding pageWords
-    page-words-some some =
+    length-page-words some =
         rw (div-one marks, add-zero (32 * page)) at (counted-first 32 0 refl (rw (div-one marks) some))

@@ -9,12 +9,12 @@ use Rattle.diff.specs.Format.{pageWord, runWord}
 use Rattle.diff.specs.declared.Price.{Price}
 use Rattle.diff.specs.Prices.{labelOf}
 use Rattle.diff.specs.Encoding.{follows, listed, runLength, runHeader, encodeFrom}
-use Rattle.diff.specs.Marks.{bit, isSet}
+use Rattle.diff.specs.Marks.{bit}
 use Rattle.diff.proofs.Bits.{bit-shifted}
 use Rattle.diff.proofs.Encoding.{Ascending, none, more, follows-page, follows-word, follows-yes, run-goes-on, run-stops}
 use Rattle.diff.proofs.Encoding.{run-last, run-header-page, run-header-run, run-header-none, encode-none, encode-price}
 use Rattle.diff.proofs.Listed.{listed-none, listed-take, listed-append, listed-unnamed, listed-ascends}
-use Rattle.encoder.specs.Page.{pageWords, runWords, FirstRun, Run}
+use Rattle.encoder.specs.Page.{markedBy, pricedBy, pageWords, runWords, FirstRun, Run}
 
 -- no bit is set where nothing is left of a word after a shift
 bit-behind : (word by w : ℕ) → word / 2 ^ by ≡ 0 → by ≤ w → bit word w ≡ 0
@@ -51,14 +51,8 @@ module _ (page marks : ℕ) (prices : List ℕ) where
   abbrev priceOf : ℕ → Price
   priceOf word = record { page = page; word = word; price = getD prices word 0 }
 
-  abbrev named : ℕ → Bool
-  named label = isSet marks (label % 32)
-
-  abbrev price : ℕ → ℕ
-  price label = getD prices (label % 32) 0
-
   abbrev markedFrom : ℕ → List Price
-  markedFrom word = listed named price (32 * page + word) (32 - word)
+  markedFrom word = listed (markedBy marks) (pricedBy prices) (32 * page + word) (32 - word)
 
   -- the words of their runs: all but the page word
   abbrev pub runsFrom : ℕ → List ℕ
@@ -66,10 +60,10 @@ module _ (page marks : ℕ) (prices : List ℕ) where
 
   -- words that are not marked, and one that is
   unmarked : (word n : ℕ) → word + n ≤ 32 → ((w : ℕ) → w < n → bit marks (word + w) ≡ 0)
-      → listed named price (32 * page + word) n ≡ []
-  unmarked word n fits none-marked = listed-unnamed named price (32 * page + word) n unnamed
+      → listed (markedBy marks) (pricedBy prices) (32 * page + word) n ≡ []
+  unmarked word n fits none-marked = listed-unnamed (markedBy marks) (pricedBy prices) (32 * page + word) n unnamed
     where
-      unnamed : (i : ℕ) → 32 * page + word ≤ i → i < 32 * page + word + n → named i ≡ false
+      unnamed : (i : ℕ) → 32 * page + word ≤ i → i < 32 * page + word + n → markedBy marks i ≡ false
       unnamed i above below =
           let at : i % 32 ≡ word + (i - (32 * page + word)) = omega arith in
           let zero : bit marks (i % 32) ≡ 0 = rw at (none-marked (i - (32 * page + word)) (omega arith)) in
@@ -81,7 +75,7 @@ module _ (page marks : ℕ) (prices : List ℕ) where
       let first = 32 * page + word in
       let parts : 32 - word ≡ n + (32 - (word + n)) = omega arith in
       let at : first + n ≡ 32 * page + (word + n) = omega arith in
-      rw (parts, listed-append named price first n (32 - (word + n)), unmarked word n fits none-marked, at)
+      rw (parts, listed-append (markedBy marks) (pricedBy prices) first n (32 - (word + n)), unmarked word n fits none-marked, at)
 
   marked-take : (word : ℕ) → word < 32 → bit marks word ≡ 1 → markedFrom word ≡ priceOf word ∷ markedFrom (word + 1)
   marked-take word within marked =
@@ -90,8 +84,8 @@ module _ (page marks : ℕ) (prices : List ℕ) where
       let here : first % 32 ≡ word = omega arith in
       let on : first / 32 ≡ page = omega arith in
       let at : first + 1 ≡ 32 * page + (word + 1) = omega arith in
-      let is : named first ≡ true = rw here (eq-eqb (bit marks word) 1 marked) in
-      rw (many, listed-take named price first (32 - (word + 1)) is, at, on, here)
+      let is : markedBy marks first ≡ true = rw here (eq-eqb (bit marks word) 1 marked) in
+      rw (many, listed-take (markedBy marks) (pricedBy prices) first (32 - (word + 1)) is, at, on, here)
 
   -- the words from one on that is not marked, or from the end of the page on
   unmarked-ascends : (word : ℕ) → word ≤ 32 → (word < 32 → bit marks word ≡ 0)
@@ -102,10 +96,10 @@ module _ (page marks : ℕ) (prices : List ℕ) where
       go (yes within) =
           let at : 32 * page + word + 1 ≡ 32 * page + (word + 1) = omega arith in
           rw (at, marked-skip word 1 (omega arith) (λ w below. ap (bit marks) (omega arith) ∙ ends within))
-          (listed-ascends named price (page + 1) (32 * page + (word + 1)) (32 - (word + 1)) (omega arith))
+          (listed-ascends (markedBy marks) (pricedBy prices) (page + 1) (32 * page + (word + 1)) (32 - (word + 1)) (omega arith))
       go (no past) =
           let none-left : 32 - word ≡ 0 = omega arith in
-          rw (none-left, listed-none named price (32 * page + word)) none
+          rw (none-left, listed-none (markedBy marks) (pricedBy prices) (32 * page + word)) none
 
   -- ---- a run: its words are marked, the one behind it is not
 

@@ -58,11 +58,11 @@ module _ {marks : ℕ} {prices before : List ℕ} {start : ℕ} {list : List ℕ
     abbrev runPrices : List ℕ
     runPrices = take (run .count) (drop first prices)
 
-    first-run : FirstRun (marks / 2 ^ word) run
-    first-run = rw (← so-far .shifted) is
+    first-left : FirstRun (marks / 2 ^ word) run
+    first-left = rw (← so-far .shifted) is
 
     pub run-on-page : first + run .count ≤ 32
-    run-on-page = run-within 0 marks prices word run first-run (so-far .small) (so-far .size)
+    run-on-page = run-within 0 marks prices word run first-left (so-far .small) (so-far .size)
 
     length-prices : length runPrices ≡ run .count
     length-prices = simp (length-take, length-drop) (omega (arith, run-on-page, so-far .size))
@@ -70,7 +70,7 @@ module _ {marks : ℕ} {prices before : List ℕ} {start : ℕ} {list : List ℕ
     module _ (page : ℕ) where
       runs : runsFrom page marks prices word
           ≡ runWord first (run .count) ∷ runPrices ++ runsFrom page marks prices (first + run .count)
-      runs = runs-first page marks prices word run first-run (so-far .small) (so-far .size)
+      runs = runs-first page marks prices word run first-left (so-far .small) (so-far .size)
 
       length-runs : at + length (runsFrom page marks prices word)
           ≡ at + 1 + run .count + length (runsFrom page marks prices (first + run .count))

@@ -4,6 +4,7 @@ ghost use Rattle.laws.specs.Prelude.{_≡_, _*_, _≤_, List, ℕ, length};
 ghost use lib.Seq.{sets};
 ghost use Rattle.diff.specs.Making.{madeDiff};
 
+pub mod changes;
 pub mod page;
 
 // How many words the diff of the marked words has.

@@ -3,7 +3,6 @@
 ghost use Rattle.laws.specs.Prelude.{_≡_, ℕ, _+_, _/_, _^_, _<_, _≤_, List, length};
 ghost use lib.Seq.{sets};
 ghost use Rattle.diff.specs.Format.{runWord};
-ghost use Rattle.diff.specs.Marks.{changedWords};
 ghost use Rattle.encoder.specs.Page.{pageWords, runWords, FirstRun};
 
 // Consecutive marked words of a page.
@@ -100,21 +99,4 @@ pub fn write_page(page: usize, marks: u32, prices: &[u32], list: &mut [u32], sta
     }
     list[start] = 0x10000000 + page as u32;
     write_runs(marks, prices, list, start + 1)
-}
-
-// The marks of the words of a page that differ from their twins.
-pub fn changed_words(words: &[u32], twins: &[u32]) -> u32
-    requires { ⌜ length (now words) ≡ 32 ⌝ }
-    requires { ⌜ length (now twins) ≡ 32 ⌝ }
-    ensures { λ r. ⌜ r ≡ changedWords (now (words .entry)) (now (twins .entry)) ⌝ }
-{
-    let mut marks: u32 = 0;
-    let mut word: u32 = 0;
-    while word < 32 {
-        if words[word as usize] != twins[word as usize] {
-            marks += 1 << word;
-        }
-        word += 1;
-    }
-    marks
 }

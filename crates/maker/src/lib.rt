@@ -87,7 +87,7 @@ fn mark_pages(working: &[u32], twins: &[u32], marks: &mut [u32])
     while page < marks.len() {
         let first = 32 * page;
         let end = first + 32;
-        marks[page] = encoder::page::changed_words(&working[first..end], &twins[first..end]);
+        marks[page] = encoder::changes::changed_words(&working[first..end], &twins[first..end]);
         page += 1;
     }
 }

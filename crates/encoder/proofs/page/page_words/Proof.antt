@@ -7,7 +7,7 @@ use lib.Count.{ones}
 use lib.ListN.{length}
 use Rattle.encoder.proofs.Runs.{page-words-none}
 use Rattle.encoder.proofs.Counting.{runEnds, runsAndMarks, run-ends-small, runs-and-marks-most}
-use Rattle.encoder.proofs.Counting.{runs-and-marks-ones, page-words-some}
+use Rattle.encoder.proofs.Counting.{runs-and-marks-ones, length-page-words}
 use Rattle.encoder.proofs.page.page_words.Statement.{statement}
 use Rattle.encoder.proofs.page.page_words.Tie as tie
 use Rattle.encoder.proofs.page.page_words.Reads as reads
@@ -36,7 +36,7 @@ returns-2 c = (
   omega (arith, most c, counted c),
   λ page prices.
       omega
-      (arith, page-words-some page (c .before .args .marks) prices (search needs) (search needs), counted c),
+      (arith, length-page-words page (c .before .args .marks) prices (search needs) (search needs), counted c),
 )
 
 pub page-words-spec : {M : Type 1} → statement M

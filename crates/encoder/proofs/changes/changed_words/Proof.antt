@@ -1,4 +1,4 @@
--- `page::changed_words` meets its contract. The loop's invariant: the marks are those of the words before `word`.
+-- `changes::changed_words` meets its contract. The loop's invariant: the marks are those of the words before `word`.
 use Prim.Native.Nat.{_-_, _≤_}
 use mathlib.Core.Path.{_≡_, _∙_}
 use mathlib.Core.Logic.{⊎-elim}
@@ -7,8 +7,8 @@ use borrow.Author.Needs.{needs}
 use Rattle.diff.specs.Marks.{changedWords}
 use Rattle.encoder.proofs.Changed.{changedFirst, changed-same, changed-differs, changed-fits, changed-all}
 use Rattle.encoder.proofs.Changed.{word-bit}
-use Rattle.encoder.proofs.page.changed_words.Statement.{statement}
-use Rattle.encoder.proofs.page.changed_words.Tie as tie
+use Rattle.encoder.proofs.changes.changed_words.Statement.{statement}
+use Rattle.encoder.proofs.changes.changed_words.Tie as tie
 
 abbrev Inv-loop : tie.InvT-loop
 Inv-loop words twins marks₀ word₀ marks word = (word ≤ 32) × (marks ≡ changedFirst words twins word)
