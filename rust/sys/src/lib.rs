@@ -165,4 +165,12 @@ extern "C" {
         marks: *mut u32,
         marks_words: usize,
     ) -> Answer;
+    pub fn rack_merge_lists(
+        first: *const u32,
+        first_words: usize,
+        second: *const u32,
+        second_words: usize,
+        buffer: *mut u32,
+        buffer_words: usize,
+    ) -> Answer;
 }

@@ -14,6 +14,7 @@ pub const NUMBER_AHEAD: u32 = 6;
 pub const FAULTY_LIST: u32 = 7;
 pub const WORD_IN_USE: u32 = 8;
 pub const NONE_OPEN: u32 = 16;
+pub const LIST_TOO_LONG: u32 = 19;
 
 // the reader
 pub const NO_PAGE: u32 = 9;
