@@ -29,6 +29,10 @@ refusedAt number place = record { number = number; value = place }
 abbrev pub refused : ℕ → Outcome
 refused number = refusedAt number 0
 
+-- two checks in order: the refusal of the first, else what the second comes to
+abbrev pub andThen : Outcome → Outcome → Outcome
+andThen first second = cond (eqb (first .number) 0) second first
+
 -- number and value as words, for worked examples
 abbrev pub inWords : Outcome → List ℕ
 inWords o = o .number ∷ o .value ∷ []
@@ -72,6 +76,10 @@ wordInUse = 8
 -- A step with no release open.
 abbrev pub noneOpen : ℕ
 noneOpen = 16
+
+-- Document 02, request 9: a list made of others would have over 512 words.
+abbrev pub listTooLong : ℕ
+listTooLong = 19
 
 -- The reader.
 abbrev pub noPage : ℕ

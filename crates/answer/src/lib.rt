@@ -40,6 +40,8 @@ pub const WRONG_BUFFER: u32 = 17;
 pub const UNREADABLE: u32 = 18;
 
 // Document 02.
+pub const LIST_TOO_LONG: u32 = 19;
+
 pub const STAMP_TOO_HIGH: u32 = 20;
 
 // What a call came to, in these numbers.

@@ -1,5 +1,6 @@
 -- Laws on diffs.
 pub mod Examples
+pub mod MergeExamples
 pub mod Reading
 pub mod Derivation
 pub mod Stored
@@ -16,3 +17,7 @@ pub mod Making
 pub mod OnlyDiff
 pub mod MadeDiff
 pub mod MadeOfChanges
+pub mod Merging
+pub mod Effects
+pub mod MergedDiff
+pub mod Merges

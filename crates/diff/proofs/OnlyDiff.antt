@@ -13,7 +13,7 @@ use Rattle.diff.specs.Prices.{Price, pricesOf, names, appliedAt}
 use Rattle.diff.specs.Encoding.{encodeFrom, encode, listed, listedDiff}
 use Rattle.diff.specs.OnlyDiff.{Allowed, DiffOf, OneDiffForPrices}
 use Rattle.diff.proofs.Derivation.{Reads, ReadsWhole, good-within, reads-good, reads-prices, reads-derived}
-use Rattle.diff.proofs.Derivation.{reads-some}
+use Rattle.diff.proofs.Derivation.{reads-some, reads-more-pages}
 use Rattle.diff.proofs.Stored.{good-few}
 use Rattle.diff.proofs.Encoding.{Ascending}
 use Rattle.diff.proofs.Coded.{BetweenRuns, reads-coded}
@@ -81,6 +81,21 @@ module _ (pages : ℕ) (diff : List ℕ) (allowed : Allowed pages diff) where
       let end : last ≡ length (encodeFrom 0 (pricesOf pages diff)) = omega
       (arith, simp length-append at (ap length (allowed-coded .code))) in
       allowed-coded .code ∙ rw end
+
+-- a rack with more pages allows it too, and reads the same prices
+module _ {pages pages′ : ℕ} (more : pages ≤ pages′) (diff : List ℕ) (allowed : Allowed pages diff) where
+  few-words : 0 + length diff ≤ mostWords
+  few-words = omega (arith, allowed-few pages diff allowed)
+
+  reads-more : Reads pages′ start 0 diff (pricesOf pages diff)
+  reads-more = reads-more-pages more (allowed-reads pages diff allowed)
+
+  pub more-allowed : Allowed pages′ diff
+  more-allowed = whole-allowed pages′ diff (0 + length (pricesOf pages diff)) (reads-good pages′ reads-more few-words)
+
+  pub more-prices : pricesOf pages′ diff ≡ pricesOf pages diff
+  unfolding pricesOf
+  more-prices = reads-prices pages′ reads-more few-words
 
 -- ---- the encoding of ascending prices is allowed, and has these prices
 

@@ -1,6 +1,6 @@
 -- What prices do to a label, one label at a time.
-use Rattle.laws.proofs.Prelude.{ℕ, _*_, _<_, _≤_, _≡_, refl, sym, _∙_, _≢_, List, [], _∷_, true, false, true≢false}
-use Rattle.laws.proofs.Prelude.{arith, ℕ-discrete, eq-eqb, ne-eqb, length, getD, set}
+use Rattle.laws.proofs.Prelude.{ℕ, _*_, _<_, _≤_, _≡_, refl, sym, _∙_, _≢_, List, [], _∷_, _++_, true, false, cond}
+use Rattle.laws.proofs.Prelude.{_||_, true≢false, arith, ℕ-discrete, eq-eqb, ne-eqb, length, getD, set, eqb}
 use lib.ListN.{length-set}
 use lib.Seq.{getD-set-same, getD-set-other}
 use Rattle.diff.specs.Prices.{Price, labelOf, names, appliedAt, applyPrices}
@@ -21,6 +21,14 @@ pub names-none : (label : ℕ) → names [] label ≡ false
 unfolding names
 names-none label = refl
 
+pub names-append : (ps qs : List Price) (label : ℕ) → names (ps ++ qs) label ≡ (names ps label || names qs label)
+names-append [] qs label = rw (names-none label)
+names-append (p ∷ ps) qs label = elim (ℕ-discrete (labelOf p) label) [
+  | yes here ↦ names-first p (ps ++ qs) label here ∙ sym (rw (names-first p ps label here))
+  | no there ↦
+      names-later p (ps ++ qs) label there ∙ names-append ps qs label ∙ sym (rw (names-later p ps label there))
+]
+
 -- ---- the price of a label after prices are applied to it
 
 module _ (p : Price) (ps : List Price) (label price : ℕ) where
@@ -35,6 +43,13 @@ module _ (p : Price) (ps : List Price) (label price : ℕ) where
 pub applied-none : (label price : ℕ) → appliedAt [] label price ≡ price
 unfolding appliedAt
 applied-none label price = refl
+
+-- prices one after the other
+pub applied-append : (ps qs : List Price) (label price : ℕ)
+    → appliedAt (ps ++ qs) label price ≡ appliedAt qs label (appliedAt ps label price)
+unfolding appliedAt
+applied-append [] qs label price = refl
+applied-append (p ∷ ps) qs label price = applied-append ps qs label (cond (eqb (labelOf p) label) (p .price) price)
 
 -- a label that the prices do not name keeps its price
 pub applied-unnamed : (ps : List Price) (label price : ℕ) → names ps label ≡ false → appliedAt ps label price ≡ price
@@ -86,6 +101,12 @@ unfolding applyPrices
 length-apply [] words = refl
 length-apply (p ∷ ps) words =
     length-apply ps (set words (labelOf p) (p .price)) ∙ length-set words (labelOf p) (p .price)
+
+pub apply-append : (ps qs : List Price) (words : List ℕ)
+    → applyPrices (ps ++ qs) words ≡ applyPrices qs (applyPrices ps words)
+unfolding applyPrices
+apply-append [] qs words = refl
+apply-append (p ∷ ps) qs words = apply-append ps qs (set words (labelOf p) (p .price))
 
 pub apply-at : (ps : List Price) (words : List ℕ) (label : ℕ) → label < length words
     → getD (applyPrices ps words) label 0 ≡ appliedAt ps label (getD words label 0)

@@ -7,4 +7,7 @@ pub mod Marks
 pub mod Making
 pub mod OnlyDiff
 pub mod MadeDiff
+pub mod Merging
+pub mod MergedDiff
 pub mod Examples
+pub mod MergeExamples

@@ -26,10 +26,11 @@ lentPages working twins = eqb working twins && (eqb (working % 32) 0 && (leb 1 w
 unfoldable pub lentMarked : ℕ → ℕ → ℕ → Bool
 lentMarked working twins marks = lentPages working twins && eqb (32 * marks) working
 
--- refusal 17: "a list buffer shorter than the list, or a list over 512 words"; else the length of the list
-abbrev pub roomFor : ℕ → ℕ → Outcome
-roomFor words room =
-    cond (ltb mostWords words) (refused wrongBuffer) (cond (ltb room words) (refused wrongBuffer) (given words))
+-- Refusal 17, "a list buffer shorter than the list", and before it a list over 512 words, by the number that the call has
+-- for it; else the length of the list.
+abbrev pub roomFor : ℕ → ℕ → ℕ → Outcome
+roomFor tooLong words room =
+    cond (ltb mostWords words) (refused tooLong) (cond (ltb room words) (refused wrongBuffer) (given words))
 
 -- a buffer after the making of a diff came to this outcome: the diff and the words that stood past its end; a refusal
 -- changes none
@@ -38,10 +39,11 @@ writtenBy outcome diff buffer = cond (eqb (outcome .number) 0) (diff ++ drop (le
 
 -- ---- the calls
 
--- What making a diff comes to, in a buffer of so many words. The twins' words are not looked at, only their number.
+-- What making a diff comes to, in a buffer of so many words: 17 also for "a list over 512 words". The twins' words are not
+-- looked at, only their number.
 unfoldable pub makeDiff : List ℕ → List ℕ → List ℕ → ℕ → Outcome
 makeDiff working twins marks room =
-    cond (lentMarked (length working) (length twins) (length marks)) (roomFor (length (madeDiff working marks)) room)
+    cond (lentMarked (length working) (length twins) (length marks)) (roomFor wrongBuffer (length (madeDiff working marks)) room)
     (refused limits)
 
 -- the buffer after it

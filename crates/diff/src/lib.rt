@@ -1,11 +1,14 @@
 // The diff (document 01's list of changes): its definitions, and the theorems on the one that
-// prices, marked words, or two states of the pages make.
+// prices, marked words, two states of the pages, or two diffs make.
 // The types are declared here; the code that reads and makes diffs stands in the crates above.
 ghost use Rattle.laws.specs.Examples.{AllHold};
 ghost use Rattle.diff.specs.OnlyDiff.{OneDiffForPrices};
 ghost use Rattle.diff.specs.MadeDiff.{MadeOfMarksOnly, MakesAllowedDiff, MarksAreChanges};
 ghost use Rattle.diff.specs.MadeDiff.{StoresChanges, MadeIsOnlyDiff};
+ghost use Rattle.diff.specs.MergedDiff.{MergedIsBoth, AnswersMerges, MergesEitherWay};
+ghost use Rattle.diff.specs.MergedDiff.{EmptyChangesNothing};
 ghost use Rattle.diff.specs.Examples.{examples};
+ghost use Rattle.diff.specs.MergeExamples.{mergeExamples};
 
 // Where the reading of a diff stands.
 pub struct Cursor {
@@ -74,7 +77,19 @@ pub fn made_is_only_diff()
     ensures { λ _. ⌜ MadeIsOnlyDiff ⌝ }
 {}
 
+// The diff that two others are merged into does what the first and then the second do, and is the
+// only such diff that document 01 allows, where the gate shows it; and what merging answers, for
+// three diffs in either bracketing, and for the diff that changes nothing. It does nothing when it
+// is called.
+pub fn merged_is_both()
+    ensures merged { λ _. ⌜ MergedIsBoth ⌝ }
+    ensures answered { λ _. ⌜ AnswersMerges ⌝ }
+    ensures three { λ _. ⌜ MergesEitherWay ⌝ }
+    ensures empty { λ _. ⌜ EmptyChangesNothing ⌝ }
+{}
+
 // Worked examples of diffs, computed from the definitions. It does nothing when it is called.
 pub fn examples_hold()
-    ensures { λ _. ⌜ AllHold examples ⌝ }
+    ensures lists { λ _. ⌜ AllHold examples ⌝ }
+    ensures merges { λ _. ⌜ AllHold mergeExamples ⌝ }
 {}

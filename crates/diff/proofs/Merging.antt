@@ -1,0 +1,73 @@
+-- What merging two diffs comes to, check by check, and what an accepted merge says of the lists.
+use Rattle.laws.proofs.Prelude.{ℕ, _≤_, _<_, _≡_, _≢_, refl, List, Bool, true, false, cond, arith, ltb-false, lt-ltb}
+use Rattle.laws.proofs.Prelude.{le-ltb, length, ltb}
+use Rattle.answer.specs.declared.Outcome.{Outcome}
+use Rattle.answer.specs.Outcome.{given, refused, andThen, wrongBuffer, listTooLong}
+use Rattle.answer.proofs.InOrder.{first-refuses, first-passes, both-pass}
+use Rattle.diff.specs.Format.{mostWords}
+use Rattle.diff.specs.Reading.{checkDiff}
+use Rattle.diff.specs.Making.{roomFor}
+use Rattle.diff.specs.OnlyDiff.{Allowed}
+use Rattle.diff.specs.Merging.{mergePages, mergedDiff, mergeDiffs}
+
+-- ---- room
+
+module _ (tooLong words room : ℕ) where
+  pub over-limit : mostWords < words → roomFor tooLong words room ≡ refused tooLong
+  over-limit over = rw (lt-ltb mostWords words over)
+
+  pub no-room : words ≤ mostWords → room < words → roomFor tooLong words room ≡ refused wrongBuffer
+  no-room within short = rw (le-ltb mostWords words within, lt-ltb room words short)
+
+  pub has-room : words ≤ mostWords → words ≤ room → roomFor tooLong words room ≡ given words
+  has-room within fits = rw (le-ltb mostWords words within, le-ltb room words fits)
+
+  pub within-limit : 0 < tooLong → roomFor tooLong words room .number ≡ 0 → words ≤ mostWords
+  within-limit some e = go (ltb mostWords words) refl e
+    where
+      go : (over : Bool) → ltb mostWords words ≡ over
+          → cond over (refused tooLong) (cond (ltb room words) (refused wrongBuffer) (given words)) .number ≡ 0
+          → words ≤ mostWords
+      go true over e = absurd (omega arith)
+      go false within e = ltb-false mostWords words within
+
+-- ---- merging
+
+pub record MergeAccepted (first second : List ℕ) : Type 0 where
+  pub first-allowed : Allowed mergePages first
+  pub second-allowed : Allowed mergePages second
+  pub short : length (mergedDiff first second) ≤ mostWords
+
+module _ (first second : List ℕ) (room : ℕ) where
+  abbrev sized : Outcome
+  sized = roomFor listTooLong (length (mergedDiff first second)) room
+
+  pub merge-first : checkDiff mergePages first .number ≢ 0 → mergeDiffs first second room ≡ checkDiff mergePages first
+  unfolding mergeDiffs
+  merge-first faulty = first-refuses (checkDiff mergePages first) (andThen (checkDiff mergePages second) sized) faulty
+
+  pub merge-second : Allowed mergePages first → checkDiff mergePages second .number ≢ 0
+      → mergeDiffs first second room ≡ checkDiff mergePages second
+  unfolding mergeDiffs
+  merge-second allowed faulty =
+      rw (first-passes (checkDiff mergePages first) (andThen (checkDiff mergePages second) sized) allowed)
+      (first-refuses (checkDiff mergePages second) sized faulty)
+
+  -- where both are allowed, the length decides
+  pub merge-sized : Allowed mergePages first → Allowed mergePages second
+      → mergeDiffs first second room ≡ roomFor listTooLong (length (mergedDiff first second)) room
+  unfolding mergeDiffs
+  merge-sized allowed allowed′ =
+      rw (first-passes (checkDiff mergePages first) (andThen (checkDiff mergePages second) sized) allowed)
+      (first-passes (checkDiff mergePages second) sized allowed′)
+
+  pub merge-accepted : mergeDiffs first second room .number ≡ 0 → MergeAccepted first second
+  unfolding mergeDiffs
+  merge-accepted e =
+      let outer = both-pass (checkDiff mergePages first) (andThen (checkDiff mergePages second) sized) e in
+      let inner = both-pass (checkDiff mergePages second) sized (outer .1) in
+      record {
+        first-allowed = outer .0;
+        second-allowed = inner .0;
+        short = within-limit listTooLong (length (mergedDiff first second)) room (omega arith) (inner .1);
+      }
