@@ -13,6 +13,7 @@ pub mod Listed
 pub mod Bits
 pub mod PageCount
 pub mod Marks
+pub mod Room
 pub mod Making
 pub mod OnlyDiff
 pub mod MadeDiff

@@ -1,11 +1,13 @@
 -- What an accepted making of a diff, or marking of the changes, says of what is lent, and what is accepted.
 use Rattle.laws.proofs.Prelude.{ℕ, _*_, _%_, _≤_, _≡_, refl, sym, List, Bool, true, false, cond, arith, eqb-true}
-use Rattle.laws.proofs.Prelude.{leb-true, ltb-false, eq-eqb, le-leb, le-ltb, length, eqb, leb, ltb}
+use Rattle.laws.proofs.Prelude.{leb-true, eq-eqb, le-leb, length, eqb, leb}
 use Rattle.answer.specs.Outcome.{given, refused, limits, wrongBuffer}
 use Rattle.laws.proofs.Bools.{and-first, and-second}
 use Rattle.diff.specs.Format.{mostWords}
+use Rattle.diff.specs.Room.{roomFor}
 use Rattle.diff.specs.Making.{madeDiff, lentPages, lentMarked, makeDiff, markChanges}
 use Rattle.diff.specs.MadeDiff.{Lent}
+use Rattle.diff.proofs.Room.{has-room, within-limit}
 
 pub record LentPages (working twins : ℕ) : Type 0 where
   pub even : working ≡ twins
@@ -44,7 +46,7 @@ pub record MakeAccepted (working twins marks : List ℕ) : Type 0 where
 pub make-accepted : (working twins marks : List ℕ) (room : ℕ) → makeDiff working twins marks room .number ≡ 0
     → MakeAccepted working twins marks
 unfolding makeDiff
-make-accepted working twins marks room = go (lentMarked n (length twins) k) refl (ltb mostWords words) refl
+make-accepted working twins marks room = go (lentMarked n (length twins) k) refl
   where
     n : ℕ
     n = length working
@@ -55,14 +57,14 @@ make-accepted working twins marks room = go (lentMarked n (length twins) k) refl
     words : ℕ
     words = length (madeDiff working marks)
 
-    go : (lent : Bool) → lentMarked n (length twins) k ≡ lent → (over : Bool) → ltb mostWords words ≡ over
-        → cond lent (cond over (refused wrongBuffer) (cond (ltb room words) (refused wrongBuffer) (given words)))
-        (refused limits) .number ≡ 0
-        → MakeAccepted working twins marks
-    go true lent true over e = absurd (omega arith)
-    go true lent false within e =
-        record { lent = lent-marked n (length twins) k lent; short = ltb-false mostWords words within }
-    go false lent over _ e = absurd (omega arith)
+    go : (lent : Bool) → lentMarked n (length twins) k ≡ lent
+        → cond lent (roomFor wrongBuffer words room) (refused limits) .number ≡ 0 → MakeAccepted working twins marks
+    go true lent e =
+        record {
+          lent = lent-marked n (length twins) k lent;
+          short = within-limit wrongBuffer words room (omega arith) e;
+        }
+    go false lent e = absurd (omega arith)
 
 pub marking-accepted : (working twins marks : ℕ) → markChanges working twins marks .number ≡ 0
     → LentMarked working twins marks
@@ -103,9 +105,7 @@ module _ {pages : ℕ} {working twins marks : List ℕ} (lent : Lent pages worki
   pub make-accepts : (room : ℕ) → length (madeDiff working marks) ≤ mostWords → length (madeDiff working marks) ≤ room
       → makeDiff working twins marks room ≡ given (length (madeDiff working marks))
   unfolding makeDiff
-  make-accepts room short fits =
-      let words = length (madeDiff working marks) in
-      rw (lent-passes, le-ltb mostWords words short, le-ltb room words fits)
+  make-accepts room short fits = rw lent-passes (has-room wrongBuffer (length (madeDiff working marks)) room short fits)
 
   pub marking-accepts : markChanges (length working) (length twins) (length marks) ≡ given 0
   unfolding markChanges

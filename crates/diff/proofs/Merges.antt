@@ -7,7 +7,7 @@ use Rattle.diff.specs.Format.{mostWords}
 use Rattle.diff.specs.Reading.{wordStep, readFrom, checkDiff}
 use Rattle.diff.specs.Prices.{Price, pricesFrom, pricesOf, names, appliedAt, applyPrices}
 use Rattle.diff.specs.Encoding.{listed, encode}
-use Rattle.diff.specs.Making.{roomFor}
+use Rattle.diff.specs.Room.{roomFor}
 use Rattle.diff.specs.OnlyDiff.{Allowed}
 use Rattle.diff.specs.Merging.{mergePages, eitherNames, lastPrice, mergedDiff, mergeDiffs}
 use Rattle.diff.specs.MergedDiff.{effect, DoesBoth, Gives, MergedOfTwo, MergedIsBoth, AnswersMerges}
@@ -15,8 +15,8 @@ use Rattle.diff.specs.MergedDiff.{MergesEitherWay, emptyDiff, EmptyChang
 use Rattle.diff.proofs.Prices.{applied-append}
 use Rattle.diff.proofs.Listed.{listed-agree}
 use Rattle.diff.proofs.OnlyDiff.{allowed-few}
-use Rattle.diff.proofs.Merging.{over-limit, no-room, has-room, merge-first, merge-second, merge-sized}
-use Rattle.diff.proofs.Merging.{MergeAccepted, merge-accepted}
+use Rattle.diff.proofs.Room.{over-limit, no-room, has-room}
+use Rattle.diff.proofs.Merging.{merge-first, merge-second, merge-sized, MergeAccepted, merge-accepted}
 use Rattle.diff.proofs.MergedDiff.{last-in-turn, merged-list, only-both, merged-applied, merged-of-two}
 
 pub merged-is-both : MergedIsBoth

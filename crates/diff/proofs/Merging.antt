@@ -1,37 +1,14 @@
 -- What merging two diffs comes to, check by check, and what an accepted merge says of the lists.
-use Rattle.laws.proofs.Prelude.{ℕ, _≤_, _<_, _≡_, _≢_, refl, List, Bool, true, false, cond, arith, ltb-false, lt-ltb}
-use Rattle.laws.proofs.Prelude.{le-ltb, length, ltb}
+use Rattle.laws.proofs.Prelude.{ℕ, _≤_, _≡_, _≢_, List, arith, length}
 use Rattle.answer.specs.declared.Outcome.{Outcome}
-use Rattle.answer.specs.Outcome.{given, refused, andThen, wrongBuffer, listTooLong}
+use Rattle.answer.specs.Outcome.{andThen, listTooLong}
 use Rattle.answer.proofs.InOrder.{first-refuses, first-passes, both-pass}
 use Rattle.diff.specs.Format.{mostWords}
 use Rattle.diff.specs.Reading.{checkDiff}
-use Rattle.diff.specs.Making.{roomFor}
+use Rattle.diff.specs.Room.{roomFor}
 use Rattle.diff.specs.OnlyDiff.{Allowed}
 use Rattle.diff.specs.Merging.{mergePages, mergedDiff, mergeDiffs}
-
--- ---- room
-
-module _ (tooLong words room : ℕ) where
-  pub over-limit : mostWords < words → roomFor tooLong words room ≡ refused tooLong
-  over-limit over = rw (lt-ltb mostWords words over)
-
-  pub no-room : words ≤ mostWords → room < words → roomFor tooLong words room ≡ refused wrongBuffer
-  no-room within short = rw (le-ltb mostWords words within, lt-ltb room words short)
-
-  pub has-room : words ≤ mostWords → words ≤ room → roomFor tooLong words room ≡ given words
-  has-room within fits = rw (le-ltb mostWords words within, le-ltb room words fits)
-
-  pub within-limit : 0 < tooLong → roomFor tooLong words room .number ≡ 0 → words ≤ mostWords
-  within-limit some e = go (ltb mostWords words) refl e
-    where
-      go : (over : Bool) → ltb mostWords words ≡ over
-          → cond over (refused tooLong) (cond (ltb room words) (refused wrongBuffer) (given words)) .number ≡ 0
-          → words ≤ mostWords
-      go true over e = absurd (omega arith)
-      go false within e = ltb-false mostWords words within
-
--- ---- merging
+use Rattle.diff.proofs.Room.{within-limit}
 
 pub record MergeAccepted (first second : List ℕ) : Type 0 where
   pub first-allowed : Allowed mergePages first

@@ -4,6 +4,7 @@ pub mod Reading
 pub mod Prices
 pub mod Encoding
 pub mod Marks
+pub mod Room
 pub mod Making
 pub mod OnlyDiff
 pub mod MadeDiff

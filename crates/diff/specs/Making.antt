@@ -1,12 +1,12 @@
 -- The list maker (document 01, "The list of changes", as document 02, request 2, makes it): it "names exactly the marked
 -- words", at the working prices; and the call that marks what differs, for a desk that keeps no marks.
 -- Assumes nothing: these are definitions.
-use Rattle.laws.specs.Prelude.{ℕ, _*_, _%_, List, _++_, Bool, cond, _&&_, length, getD, drop, ltb, leb, eqb}
+use Rattle.laws.specs.Prelude.{ℕ, _*_, _%_, List, Bool, cond, _&&_, length, getD, leb, eqb}
 use Rattle.answer.specs.declared.Outcome.{Outcome}
 use Rattle.answer.specs.Outcome.{given, refused, limits, wrongBuffer}
-use Rattle.diff.specs.Format.{mostWords}
 use Rattle.diff.specs.Encoding.{listedDiff}
 use Rattle.diff.specs.Marks.{isMarked, changeMarks}
+use Rattle.diff.specs.Room.{roomFor, writtenBy}
 
 -- a label's price on the working pages
 abbrev pub priceOn : List ℕ → ℕ → ℕ
@@ -25,17 +25,6 @@ lentPages working twins = eqb working twins && (eqb (working % 32) 0 && (leb 1 w
 -- "One mark word per page, or 1."
 unfoldable pub lentMarked : ℕ → ℕ → ℕ → Bool
 lentMarked working twins marks = lentPages working twins && eqb (32 * marks) working
-
--- Refusal 17, "a list buffer shorter than the list", and before it a list over 512 words, by the number that the call has
--- for it; else the length of the list.
-abbrev pub roomFor : ℕ → ℕ → ℕ → Outcome
-roomFor tooLong words room =
-    cond (ltb mostWords words) (refused tooLong) (cond (ltb room words) (refused wrongBuffer) (given words))
-
--- a buffer after the making of a diff came to this outcome: the diff and the words that stood past its end; a refusal
--- changes none
-abbrev pub writtenBy : Outcome → List ℕ → List ℕ → List ℕ
-writtenBy outcome diff buffer = cond (eqb (outcome .number) 0) (diff ++ drop (length diff) buffer) buffer
 
 -- ---- the calls
 

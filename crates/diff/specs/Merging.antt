@@ -7,7 +7,7 @@ use Rattle.answer.specs.Outcome.{andThen, listTooLong}
 use Rattle.diff.specs.Reading.{checkDiff}
 use Rattle.diff.specs.Prices.{Price, pricesOf, names, appliedAt}
 use Rattle.diff.specs.Encoding.{listedDiff}
-use Rattle.diff.specs.Making.{roomFor, writtenBy}
+use Rattle.diff.specs.Room.{roomFor, writtenBy}
 
 -- "pages to 63", whatever a rack has
 abbrev pub mergePages : ℕ

@@ -3,8 +3,8 @@
 ghost use Rattle.laws.specs.Prelude.{_≡_, _*_, _≤_, length};
 ghost use Rattle.answer.specs.Outcome.{answerOf};
 ghost use Rattle.diff.specs.Marks.{changeMarks};
-ghost use Rattle.diff.specs.Making.{lentPages, lentMarked, roomFor, writtenBy, madeDiff, makeDiff};
-ghost use Rattle.diff.specs.Making.{bufferAfter, markChanges, marksAfter};
+ghost use Rattle.diff.specs.Making.{lentPages, lentMarked, makeDiff, bufferAfter, markChanges};
+ghost use Rattle.diff.specs.Making.{marksAfter};
 use answer::Answer;
 
 // Whether so many words of working pages and so many of their twins are equally many whole pages.
@@ -31,32 +31,6 @@ fn lent_marked(working: usize, twins: usize, marks: usize) -> bool
     false
 }
 
-// Writes the diff of the marked words to the front of a buffer: gives its length, or refusal 17. It
-// is sized before a word is written, so that a refusal changes none.
-fn write_marked(prices: &[u32], marks: &[u32], buffer: &mut [u32]) -> Answer
-    requires { ⌜ length (now marks) ≤ 64 ⌝ }
-    requires { ⌜ length (now prices) ≡ 32 * length (now marks) ⌝ }
-    ensures answer { λ r. ⌜ r
-        ≡ answerOf
-        (roomFor (length (madeDiff (now (prices .entry)) (now (marks .entry))))
-        (length (now (buffer .entry)))) ⌝ }
-    ensures written { λ _. ⌜ now (buffer .exit)
-        ≡ writtenBy
-        (roomFor (length (madeDiff (now (prices .entry)) (now (marks .entry))))
-        (length (now (buffer .entry))))
-        (madeDiff (now (prices .entry)) (now (marks .entry))) (now (buffer .entry)) ⌝ }
-{
-    let words = encoder::diff_words(marks);
-    if 512 < words {
-        return Answer::Refused(answer::WRONG_BUFFER, 0);
-    }
-    if buffer.len() < words {
-        return Answer::Refused(answer::WRONG_BUFFER, 0);
-    }
-    encoder::write_diff(prices, marks, words, buffer);
-    Answer::Given(words as u64)
-}
-
 // Makes the diff of the marked words, at the working prices: gives its length, or refusal 1 or 17.
 // Of the twins only their number counts. The words of the buffer past the diff are kept, and all of
 // them if it is refused.
@@ -70,7 +44,7 @@ pub fn make(working: &[u32], twins: &[u32], marks: &[u32], buffer: &mut [u32]) -
         (now (buffer .entry)) ⌝ }
 {
     if lent_marked(working.len(), twins.len(), marks.len()) {
-        return write_marked(working, marks, buffer);
+        return encoder::write_marked(working, marks, answer::WRONG_BUFFER, buffer);
     }
     Answer::Refused(answer::LIMITS, 0)
 }

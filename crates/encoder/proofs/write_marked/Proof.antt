@@ -1,25 +1,26 @@
--- `maker::write_marked` meets its contract: the list is sized, and refused, before the first store.
+-- `encoder::write_marked` meets its contract: the list is sized, and refused, before the first store.
 use mathlib.Core.Path.{sym, _∙_}
 use native.Mathlib.Omega.{arith}
-use borrow.Author.Tests.{lt-ltb, le-ltb}
+use borrow.Author.Tests.{ne-eqb, lt-ltb, le-ltb}
 use borrow.Author.Needs.{needs}
 use denote.Ref.{now}
 use Rattle.laws.proofs.Lists.{sets-front}
 use Rattle.diff.specs.Making.{madeDiff}
-use Rattle.maker.proofs.write_marked.Statement.{statement}
-use Rattle.maker.proofs.write_marked.Tie as tie
+use Rattle.encoder.proofs.write_marked.Statement.{statement}
+use Rattle.encoder.proofs.write_marked.Tie as tie
 
 returns : tie.Need-returns
 returns c =
     let start = c .before .before .before .before .before in
-    let words = sym (c .before .diff-words .ensures (now (start .args .prices)) (start .pre .1)) in
+    let words = sym (c .before .diff-words .ensures (now (start .args .prices)) (start .pre .1 .0)) in
     let long = lt-ltb _ _ (c .if1 .taken) in
-    (simp (words, long), simp (words, long))
+    let refusal = ne-eqb (start .args .over) 0 (λ none. omega (arith, start .pre .1 .1)) in
+    (simp (words, long, refusal), simp (words, long, refusal))
 
 returns-2 : tie.Need-returns-2
 returns-2 c =
     let start = c .before .before .before .before .before .before in
-    let words = sym (c .before .before .diff-words .ensures (now (start .args .prices)) (start .pre .1)) in
+    let words = sym (c .before .before .diff-words .ensures (now (start .args .prices)) (start .pre .1 .0)) in
     let few = le-ltb _ _ (c .before .if1 .left) in
     let short = lt-ltb _ _ (c .if2 .taken) in
     (simp (words, few, short), simp (words, few, short))
@@ -27,8 +28,8 @@ returns-2 c =
 write-diff-requires : tie.Need-write-diff-requires
 write-diff-requires c κs =
     let start = c .before .before .before .before .before .before .before in
-    let words = c .before .before .before .diff-words .ensures (now (start .args .prices)) (start .pre .1) in
-    (start .pre .0, (start .pre .1, omega (arith, words, c .before .if2 .left)))
+    let words = c .before .before .before .diff-words .ensures (now (start .args .prices)) (start .pre .1 .0) in
+    (start .pre .0, (start .pre .1 .0, omega (arith, words, c .before .if2 .left)))
 
 returns-3 : tie.Need-returns-3
 returns-3 c =
@@ -36,7 +37,7 @@ returns-3 c =
     let sized = tested .before .before in
     let start = sized .before .before .before .before in
     let prices = now (start .args .prices) in
-    let words = sym (sized .diff-words .ensures prices (start .pre .1)) in
+    let words = sym (sized .diff-words .ensures prices (start .pre .1 .0)) in
     let few = le-ltb _ _ (tested .before .if1 .left) in
     let room = le-ltb _ _ (tested .if2 .left) in
     let made = madeDiff prices (now (start .args .marks)) in

@@ -1,0 +1,68 @@
+-- Words marked beside others: a run of a page, one test after the other, and nothing.
+use Rattle.laws.proofs.Prelude.{ℕ, _+_, _*_, _/_, _%_, _≤_, _<_, _≡_, _≢_, refl, sym, _∙_, List, Bool, true, false, _||_}
+use Rattle.laws.proofs.Prelude.{arith, ℕ-discrete, decLt, length, getD, set}
+use lib.Bits.{bitOr}
+use lib.Seq.{getD-set-same, getD-set-other}
+use Rattle.diff.specs.Marks.{isSet, isMarked}
+use Rattle.merger.specs.Applying.{isAmong, MarkedBeside}
+use Rattle.merger.proofs.Among.{below, past, among-alike}
+use Rattle.merger.proofs.Bits.{set-in-either, onesFrom, ones-set}
+
+-- ---- laws of `||`
+
+or-none : (x : Bool) → (x || false) ≡ x
+or-none true = refl
+or-none false = refl
+
+or-assoc : (x y z : Bool) → ((x || y) || z) ≡ (x || (y || z))
+or-assoc true y z = refl
+or-assoc false y z = refl
+
+-- ---- tests
+
+-- a test that names nothing
+pub marked-none : (marks : List ℕ) (named : ℕ → Bool) → ((label : ℕ) → named label ≡ false)
+    → MarkedBeside marks named marks
+marked-none marks named none label = rw (none label) (sym (or-none (isMarked marks label)))
+
+-- what one test names, and then another
+pub marked-both : (marks after last : List ℕ) (named then both : ℕ → Bool) → MarkedBeside marks named after
+    → MarkedBeside after then last → ((label : ℕ) → both label ≡ (named label || then label))
+    → MarkedBeside marks both last
+marked-both marks after last named then both one two all label =
+    two label ∙ rw (one label, all label) (or-assoc (isMarked marks label) (named label) (then label))
+
+-- ---- a run of a page
+
+module _ (marks : List ℕ) (page offset count : ℕ) (inside : page < length marks) (fits : offset + count ≤ 32) where
+  abbrev joined : ℕ
+  joined = bitOr (getD marks page 0) (onesFrom offset count)
+
+  on-page : (label : ℕ) → label / 32 ≡ page
+      → isMarked (set marks page joined) label ≡ (isMarked marks label || isAmong (32 * page + offset) count label)
+  on-page label here =
+      rw (here, getD-set-same marks page joined 0 inside)
+      (set-in-either (getD marks page 0) (onesFrom offset count) (label % 32)
+      ∙ rw (ones-set offset count (label % 32), same))
+    where
+      same : isAmong offset count (label % 32) ≡ isAmong (32 * page + offset) count label
+      same =
+          among-alike offset count (label % 32) (32 * page + offset) count label (λ h. omega arith) (λ h. omega arith)
+          (λ h. omega arith) (λ h. omega arith)
+
+  elsewhere : (label : ℕ) → label / 32 ≢ page
+      → isMarked (set marks page joined) label ≡ (isMarked marks label || isAmong (32 * page + offset) count label)
+  elsewhere label there =
+      rw (getD-set-other marks page (label / 32) joined 0 there, outside) (sym (or-none (isMarked marks label)))
+    where
+      outside : isAmong (32 * page + offset) count label ≡ false
+      outside = elim (decLt label (32 * page)) [
+        | yes low ↦ below (32 * page + offset) count label (omega arith)
+        | no high ↦ past (32 * page + offset) count label (omega (arith, there)) (omega (arith, there))
+      ]
+
+  pub run-marked : MarkedBeside marks (isAmong (32 * page + offset) count) (set marks page joined)
+  run-marked label = elim (ℕ-discrete (label / 32) page) [
+    | yes here ↦ on-page label here
+    | no there ↦ elsewhere label there
+  ]

@@ -1,0 +1,2 @@
+-- What the contracts on merging cite beside the definitions of `diff`.
+pub mod Applying
