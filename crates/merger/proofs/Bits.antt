@@ -1,9 +1,9 @@
 -- The bits of two words together, and of a word that has so many ones from an offset on.
-use Rattle.laws.proofs.Prelude.{ℕ, zero, suc, _+_, _-_, _/_, _%_, _^_, _<_, _≤_, _≡_, refl, sym, _∙_, _||_, arith, eqb}
+use Rattle.laws.proofs.Prelude.{ℕ, zero, suc, _+_, _-_, _*_, _/_, _%_, _^_, _<_, _≤_, _≡_, refl, sym, _∙_, _||_, arith, eqb}
 use Prim.Native.Nat.{max}
-use native.Mathlib.Nat.{pow-suc, pow-zero, suc-add, add-zero, zero-add}
+use native.Mathlib.Nat.{pow-suc, suc-add, zero-add, one-mul}
 use lib.Bits.{bitOr, or-step}
-use lib.Pow.{pow-pos, pow-mono}
+use lib.Pow.{pow-pos, pow-mono, shl-exact}
 use Rattle.diff.specs.Marks.{bit, isSet}
 use Rattle.diff.proofs.Bits.{bit-half, bit-first, none-set}
 use Rattle.merger.specs.Applying.{isAmong}
@@ -66,6 +66,12 @@ ones-set zero (suc count) (suc w) =
     ∙ among-alike 0 count w 0 (suc count) (suc w) (λ h. omega arith) (λ h. omega arith) (λ h. omega arith)
     (λ h. omega arith))
 
+-- the powers of two that they are the difference of, in a word of 64 bits
+pub shifted : (n : ℕ) → n ≤ 32 → (1 * 2 ^ n) % 2 ^ 64 ≡ 2 ^ n
+shifted n fits = shl-exact {a = 1} 1 n 64 (omega arith) (omega arith) ∙ one-mul (2 ^ n)
+
+pub below-end : (offset count : ℕ) → 2 ^ offset ≤ 2 ^ (offset + count)
+below-end offset count = pow-mono {i = offset} {j = offset + count} (omega arith)
+
 pub ones-fit : (offset count : ℕ) → offset + count ≤ 32 → onesFrom offset count < 2 ^ 32
-ones-fit offset count fits =
-    omega (arith, pow-mono {i = offset + count} {j = 32} fits, pow-pos offset, pow-mono {i = offset} {j = offset + count} (omega arith))
+ones-fit offset count fits = omega (arith, pow-mono {i = offset + count} {j = 32} fits, pow-pos offset)

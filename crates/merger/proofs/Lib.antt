@@ -3,3 +3,4 @@ pub mod Among
 pub mod Bits
 pub mod Marking
 pub mod Runs
+pub mod Laid

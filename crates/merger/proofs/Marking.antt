@@ -25,12 +25,15 @@ pub marked-none : (marks : List ℕ) (named : ℕ → Bool) → ((label : ℕ) �
     → MarkedBeside marks named marks
 marked-none marks named none label = rw (none label) (sym (or-none (isMarked marks label)))
 
--- what one test names, and then another
-pub marked-both : (marks after last : List ℕ) (named then both : ℕ → Bool) → MarkedBeside marks named after
-    → MarkedBeside after then last → ((label : ℕ) → both label ≡ (named label || then label))
-    → MarkedBeside marks both last
-marked-both marks after last named then both one two all label =
-    two label ∙ rw (one label, all label) (or-assoc (isMarked marks label) (named label) (then label))
+-- what is left to be marked, once a part of it is
+pub marked-part : (marks after : List ℕ) (named : ℕ → Bool) (label : ℕ) (left whole : Bool)
+    → MarkedBeside marks named after → whole ≡ (named label || left)
+    → (isMarked after label || left) ≡ (isMarked marks label || whole)
+marked-part marks after named label left whole beside all =
+    rw (beside label, all) (or-assoc (isMarked marks label) (named label) left)
+
+pub none-left : (marks : List ℕ) (label : ℕ) (left : Bool) → left ≡ false → (isMarked marks label || left) ≡ isMarked marks label
+none-left marks label left none = rw none (or-none (isMarked marks label))
 
 -- ---- a run of a page
 

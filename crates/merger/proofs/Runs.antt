@@ -3,7 +3,7 @@ use Rattle.laws.proofs.Prelude.{ℕ, zero, suc, _+_, _-_, _*_, _/_, _%_, _≤_,
 use Rattle.laws.proofs.Prelude.{false, _||_, set, arith, decLt, ℕ-discrete, length, getD, take, drop}
 use native.Mathlib.Nat.{add-zero}
 use native.Mathlib.Numerals.{add-one}
-use lib.ListN.{drop-of-length-le}
+use lib.ListN.{drop-of-length-le, length-take, length-drop}
 use lib.Seq.{sets, drop-cons}
 use Rattle.diff.specs.declared.Cursor.{Cursor}
 use Rattle.diff.specs.declared.Price.{Price}
@@ -19,7 +19,7 @@ use Rattle.reader.proofs.Turns.{prices-end, prices-due}
 use Rattle.reader.proofs.Runs.{Due, past-none, past-more, due-later}
 use Rattle.reader.proofs.Walking.{Reached, pricesLeft, left-passed}
 use Rattle.merger.specs.Applying.{labelDue, wordsDue, isAmong}
-use Rattle.merger.proofs.Among.{among, below, past, among-alike}
+use Rattle.merger.proofs.Among.{among, none-among, among-alike}
 
 -- ---- words as the prices of the labels from one on
 
@@ -48,11 +48,7 @@ run-applied (w ∷ ws) label words =
 -- and name them, and no others
 pub run-named : (ws : List ℕ) (label l : ℕ) → names (pricesAt label ws) l ≡ isAmong label (length ws) l
 unfolding pricesAt
-run-named [] label l = names-none l ∙ sym (none (decLt l label))
-  where
-    none : Dec (l < label) → isAmong label 0 l ≡ false
-    none (yes low) = below label 0 l low
-    none (no high) = past label 0 l (omega arith) (omega arith)
+run-named [] label l = names-none l ∙ sym (none-among label l)
 run-named (w ∷ ws) label l = elim (ℕ-discrete label l) [
   | yes here ↦
       names-first (priceAt label w) (pricesAt (label + 1) ws) l (label-at label w ∙ here)
@@ -127,6 +123,23 @@ module _ (pages : ℕ) (list : List ℕ) where
             drop-of-length-le list over,
             no-prices (labelDue s),
           )
+
+-- ---- how many they are
+
+module _ (list : List ℕ) (index : ℕ) (s : Cursor) (count : ℕ) (all : count ≡ length (wordsDue list index s)) where
+  pub due-bounds : index ≤ length list → (count ≤ s .due) × (index + count ≤ length list)
+  due-bounds inside = rw all (simp (length-take, length-drop) (omega arith, omega arith))
+
+  -- they are the words up to there
+  pub due-words : take (index + count - index) (drop index list) ≡ wordsDue list index s
+  due-words =
+      let many : index + count - index ≡ length (wordsDue list index s) = omega arith in
+      rw many (front (s .due) (drop index list))
+    where
+      front : (n : ℕ) (ws : List ℕ) → take (length (take n ws)) ws ≡ take n ws
+      front zero ws = refl
+      front (suc n) [] = refl
+      front (suc n) (w ∷ ws) = ap (λ rest. w ∷ rest) (front n ws)
 
 -- ---- a turn of the walk
 

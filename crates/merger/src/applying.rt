@@ -20,6 +20,19 @@ fn mark_run(marks: &mut [u32], page: usize, offset: u32, count: u32)
     marks[page] = marks[page] | run;
 }
 
+// Stores a run of prices on a page from an offset on, and marks their words.
+fn apply_run(run: &[u32], page: usize, offset: u32, prices: &mut [u32], marks: &mut [u32])
+    requires { ⌜ (page < 64) × (offset + length (now run) ≤ 32) ⌝ }
+    requires { ⌜ (length (now prices) ≡ 2048) × (length (now marks) ≡ 64) ⌝ }
+    ensures prices { λ _. ⌜ now (prices .exit)
+        ≡ sets (now (prices .entry)) (32 * page + offset) (now (run .entry)) ⌝ }
+    ensures marks { λ _. ⌜ MarkedBeside (now (marks .entry))
+        (isAmong (32 * page + offset) (length (now (run .entry)))) (now (marks .exit)) ⌝ }
+{
+    memory::store_run_in(prices, 32 * page + offset as usize, run);
+    mark_run(marks, page, offset, run.len() as u32);
+}
+
 // How many prices of those that are due from an index on the list has.
 fn count_due(list: &[u32], index: usize, s: Cursor) -> usize
     requires { ⌜ index ≤ length (now list) ⌝ }
@@ -44,11 +57,8 @@ fn apply_due(list: &[u32], index: usize, s: Cursor, prices: &mut [u32], marks: &
     let count = count_due(list, index, s);
     if 0 < count {
         let page = (s.next - 1) as usize;
-        let word = s.word;
-        let label = 32 * page + word as usize;
         let end = index + count;
-        memory::store_run_in(prices, label, &list[index..end]);
-        mark_run(marks, page, word, count as u32);
+        apply_run(&list[index..end], page, s.word, prices, marks);
     }
 }
 

@@ -1,65 +1,61 @@
+-- `applying::apply` meets its contract. The loop's invariant: what is left of the diff, laid on the pages, gives the whole.
+use Prim.Native.Nat.{_-_}
+use mathlib.Core.Path.{sym, _∙_}
+use native.Mathlib.Omega.{arith}
+use lib.ListN.{length}
+use borrow.Author.Needs.{needs}
+use denote.Ref.{now}
+use Rattle.diff.specs.Merging.{mergePages}
+use Rattle.reader.proofs.Walking.{run-fewer}
+use Rattle.merger.proofs.Laid.{Laid, laid-first, laid-run, laid-prices, laid-marks}
 use Rattle.merger.proofs.applying.apply.Statement.{statement}
 use Rattle.merger.proofs.applying.apply.Tie as tie
-use Rattle.merger.proofs.applying.apply.Reads as reads
-use Rattle.merger.proofs.applying.apply.Lts as lts
-use Rattle.merger.proofs.applying.apply_due.Reads as apply-due-reads
-use Rattle.reader.proofs.walk.first_word.Reads as first-word-reads
-use Rattle.reader.proofs.walk.next_run.Reads as next-run-reads
 
 abbrev Inv-loop : tie.InvT-loop
-Inv-loop list prices₀ marks₀ at₀ prices marks at = ?
+Inv-loop list prices₀ marks₀ at₀ prices marks at = Laid list prices₀ marks₀ prices marks at
 
 abbrev μ-loop : tie.MeasureT-loop
-μ-loop list prices₀ marks₀ at₀ prices marks at = ?
+μ-loop list prices₀ marks₀ at₀ prices marks at = length list - at .index
 
--- src/applying.rt:64:9
-first-word-requires : tie.Need-first-word-requires Inv-loop μ-loop
-first-word-requires c κs = ?
-
--- src/applying.rt:65:5
 loop-holds : tie.Need-loop-holds Inv-loop μ-loop
-loop-holds c = ?
+loop-holds c = rw (c .first-word .ensures) (laid-first _ _ _)
 
--- src/applying.rt:66:9
 apply-due-requires : tie.Need-apply-due-requires Inv-loop μ-loop
-apply-due-requires c κs = ?
+apply-due-requires c κs =
+    let laid = c .before .before .before .before .loop .inv in
+    let reached = laid .reached in
+    let start = c .before .before .before .before .before .before .before .before .before .pre in
+    let few = start .0 in (
+      record { within = omega arith; one = omega arith; few = omega arith; named = omega arith },
+      ((omega arith, omega arith), (laid .long ∙ start .1 .0, laid .long-marks ∙ start .1 .1)),
+    )
 
--- src/applying.rt:67:9
 next-run-requires : tie.Need-next-run-requires Inv-loop μ-loop
-next-run-requires c κs = ?
+next-run-requires c κs =
+    let reached = c .before .before .before .before .before .before .before .before .before .loop .inv .reached in
+    let few = c .before .before .before .before .before .before .before .before .before .before .before .before .before .before .pre .0 in
+    let inside = c .before .before .before .before .before .before .before .if1 .taken in (
+      record { within = omega arith; one = omega arith; few = omega arith; named = omega arith },
+      ((omega arith, omega arith), omega arith),
+    )
 
--- src/applying.rt:65:5
 loop-less : tie.Need-loop-less Inv-loop μ-loop
-loop-less c = ?
+loop-less c =
+    let at = c .before .before .before .before .before .before .before .before .before .before .loop in
+    let list = c .before .before .before .before .before .before .before .before .before .before .before .before .before .before .before .args .list .now in
+    rw (c .next-run .ensures) (run-fewer mergePages list (at .at) (c .before .before .before .before .before .before .before .before .if1 .taken) (at .inv .reached))
 
--- src/applying.rt:65:5
 loop-again : tie.Need-loop-again Inv-loop μ-loop
-loop-again c = ?
+loop-again c =
+    let laid = c .before .before .before .before .before .apply-due .ensures in
+    rw (c .next-run .ensures)
+    (laid-run (c .before .before .before .before .before .before .before .before .before .before .loop .inv) _ _ (c .before .before .before .before .before .before .before .before .if1 .taken) (laid .0) (laid .1) (search needs))
 
--- src/applying.rt:56:1
-same-length : tie.Need-same-length Inv-loop μ-loop
-same-length c = ?
-
--- src/applying.rt:56:1
-same-length-2 : tie.Need-same-length-2 Inv-loop μ-loop
-same-length-2 c = ?
-
--- src/applying.rt:56:1
 returns : tie.Need-returns Inv-loop μ-loop
-returns c = ?
+returns c = (laid-prices (c .before .before .loop .inv) (c .if1 .left), laid-marks (c .before .before .loop .inv) (c .if1 .left))
 
 pub apply-spec : {M : Type 1} → statement M
 apply-spec =
     tie.close
-    (tie.spec
-    Inv-loop
-    μ-loop
-    first-word-requires
-    loop-holds
-    apply-due-requires
-    next-run-requires
-    loop-less
-    loop-again
-    same-length
-    same-length-2
-    returns)
+    (tie.spec Inv-loop μ-loop (λ c κs. search needs) loop-holds apply-due-requires next-run-requires loop-less loop-again
+    (λ c. search needs) (λ c. search needs) returns)

@@ -1,103 +1,67 @@
+-- `applying::apply_due` meets its contract: the prices that the list has of those due are a run on one page.
+use mathlib.Core.Path.{refl}
+use native.Mathlib.Omega.{arith}
 use borrow.Author.Needs.{needs}
+use denote.Ref.{now}
+use Rattle.diff.proofs.Derivation.{no-words}
+use Rattle.merger.specs.Applying.{labelDue, wordsDue}
+use Rattle.merger.proofs.Among.{none-among}
+use Rattle.merger.proofs.Marking.{marked-none}
+use Rattle.merger.proofs.Runs.{due-bounds, due-words}
 use Rattle.merger.proofs.applying.apply_due.Statement.{statement}
 use Rattle.merger.proofs.applying.apply_due.Tie as tie
-use Rattle.merger.proofs.applying.apply_due.Reads as reads
-use Rattle.merger.proofs.applying.apply_due.Lts as lts
-use Rattle.memory.proofs.store_run_in.Reads as store-run-in-reads
-use Rattle.merger.proofs.applying.count_due.Reads as count-due-reads
-use Rattle.merger.proofs.applying.mark_run.Reads as mark-run-reads
 
--- src/applying.rt:44:9
-count-due-requires : tie.Need-count-due-requires
-count-due-requires c κs = search needs
-
--- src/applying.rt:46:21
 sub-page : tie.Need-sub-page
-sub-page c = ?
+sub-page c =
+    let start = c .before .before .before .before .before .before in
+    let due = due-bounds (now (start .args .list)) (start .args .index) (start .args .s) _
+    (c .before .before .count-due .ensures) (start .pre .1 .0 .1) in
+    omega (arith, due, c .before .if1 .taken, start .pre .0 .named)
 
--- src/applying.rt:46:20
-cast-page : tie.Need-cast-page
-cast-page c = search needs
-
--- src/applying.rt:48:21
-mul-label : tie.Need-mul-label
-mul-label c = search needs
-
--- src/applying.rt:48:33
-cast-label : tie.Need-cast-label
-cast-label c = search needs
-
--- src/applying.rt:48:21
-add-label : tie.Need-add-label
-add-label c = search needs
-
--- src/applying.rt:49:19
 add-end : tie.Need-add-end
-add-end c = ?
+add-end c =
+    let start = c .before .before .before .before .before .before in
+    let due = due-bounds (now (start .args .list)) (start .args .index) (start .args .s) _
+    (c .before .before .count-due .ensures) (start .pre .1 .0 .1) in
+    omega (arith, due)
 
--- src/applying.rt:50:45
-mul-store-run-in : tie.Need-mul-store-run-in
-mul-store-run-in c = search needs
+part-apply-run-end : tie.Need-part-apply-run-end
+part-apply-run-end c =
+    let start = c .before .before .before .before .before .before in
+    let due = due-bounds (now (start .args .list)) (start .args .index) (start .args .s) _
+    (c .before .before .count-due .ensures) (start .pre .1 .0 .1) in
+    omega (arith, due)
 
--- src/applying.rt:50:45
-sub-store-run-in : tie.Need-sub-store-run-in
-sub-store-run-in c = search needs
+apply-run-requires : tie.Need-apply-run-requires
+apply-run-requires c κs =
+    let start = c .before .before .before .before .before .before .before .before .before in
+    let list = now (start .args .list) in
+    let counted = c .before .before .before .before .before .count-due .ensures in
+    let due = due-bounds list (start .args .index) (start .args .s) _ counted (start .pre .1 .0 .1) in
+    let words = due-words list (start .args .index) (start .args .s) _ counted in
+    let fits = start .pre .0 .within in
+    let page = start .pre .1 .0 .0 in
+    let named = start .pre .0 .named in
+    let taken = c .before .before .before .before .if1 .taken in
+    ((omega arith, rw words (omega (arith, counted))), search needs)
 
--- src/applying.rt:50:45
-part-store-run-in-start : tie.Need-part-store-run-in-start
-part-store-run-in-start c = search needs
-
--- src/applying.rt:50:45
-part-store-run-in-end : tie.Need-part-store-run-in-end
-part-store-run-in-end c = ?
-
--- src/applying.rt:50:9
-store-run-in-requires : tie.Need-store-run-in-requires
-store-run-in-requires c κs = ?
-
--- src/applying.rt:51:37
-cast-mark-run : tie.Need-cast-mark-run
-cast-mark-run c = ?
-
--- src/applying.rt:51:9
-mark-run-requires : tie.Need-mark-run-requires
-mark-run-requires c κs = ?
-
--- src/applying.rt:34:1
-same-length : tie.Need-same-length
-same-length c = search needs
-
--- src/applying.rt:34:1
-same-length-2 : tie.Need-same-length-2
-same-length-2 c = search needs
-
--- src/applying.rt:34:1
 returns : tie.Need-returns
-returns c = ?
+returns c =
+    let start = c .before .before .before .before .before .before .before .before .before .before .before .before .before .before in
+    let counted = c .before .before .before .before .before .before .before .before .before .before .count-due .ensures in
+    let words = due-words (now (start .args .list)) (start .args .index) (start .args .s) _ counted in
+    rw words at (c .before .before .before .before .apply-run .ensures)
 
--- src/applying.rt:34:1
 returns-2 : tie.Need-returns-2
-returns-2 c = ?
+returns-2 c =
+    let start = c .before .before .before .before .before in
+    let none = no-words (wordsDue (now (start .args .list)) (start .args .index) (start .args .s))
+    (omega (arith, c .if1 .left, c .before .count-due .ensures)) in
+    rw none (refl, marked-none (now (start .args .marks)) _ (none-among (labelDue (start .args .s))))
 
 pub apply-due-spec : {M : Type 1} → statement M
 apply-due-spec =
     tie.close
-    (tie.spec
-    count-due-requires
-    sub-page
-    cast-page
-    mul-label
-    cast-label
-    add-label
-    add-end
-    mul-store-run-in
-    sub-store-run-in
-    part-store-run-in-start
-    part-store-run-in-end
-    store-run-in-requires
-    cast-mark-run
-    mark-run-requires
-    same-length
-    same-length-2
-    returns
+    (tie.spec (λ c κs. search needs) sub-page (λ c. search needs) add-end (λ c. search needs) (λ c. search needs)
+    (λ c. search needs) part-apply-run-end apply-run-requires (λ c. search needs) (λ c. search needs) returns
     returns-2)
