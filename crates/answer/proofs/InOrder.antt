@@ -21,3 +21,13 @@ module _ (first second : Outcome) where
           → (first .number ≡ 0) × (second .number ≡ 0)
       go true is e = (eqb-true (first .number) 0 is, e)
       go false un e = absurd (true≢false (sym (eq-eqb (first .number) 0 e) ∙ un))
+
+-- three checks in order
+pub in-order : (first second third : Outcome)
+    → andThen (andThen first second) third ≡ andThen first (andThen second third)
+in-order first second third = go (eqb (first .number) 0) refl
+  where
+    go : (is : Bool) → eqb (first .number) 0 ≡ is
+        → andThen (andThen first second) third ≡ andThen first (andThen second third)
+    go true is = rw is
+    go false un = rw un (rw un)

@@ -1,8 +1,8 @@
 -- What merging two diffs comes to, check by check, and what an accepted merge says of the lists.
-use Rattle.laws.proofs.Prelude.{ℕ, _≤_, _≡_, _≢_, List, arith, length}
+use Rattle.laws.proofs.Prelude.{ℕ, _≤_, _≡_, _≢_, sym, _∙_, List, arith, length}
 use Rattle.answer.specs.declared.Outcome.{Outcome}
 use Rattle.answer.specs.Outcome.{andThen, listTooLong}
-use Rattle.answer.proofs.InOrder.{first-refuses, first-passes, both-pass}
+use Rattle.answer.proofs.InOrder.{first-refuses, first-passes, both-pass, in-order}
 use Rattle.diff.specs.Format.{mostWords}
 use Rattle.diff.specs.Reading.{checkDiff}
 use Rattle.diff.specs.Room.{roomFor}
@@ -29,6 +29,14 @@ module _ (first second : List ℕ) (room : ℕ) where
   merge-second allowed faulty =
       rw (first-passes (checkDiff mergePages first) (andThen (checkDiff mergePages second) sized) allowed)
       (first-refuses (checkDiff mergePages second) sized faulty)
+
+  -- one of the two is faulty
+  pub merge-faulty : andThen (checkDiff mergePages first) (checkDiff mergePages second) .number ≢ 0
+      → mergeDiffs first second room ≡ andThen (checkDiff mergePages first) (checkDiff mergePages second)
+  unfolding mergeDiffs
+  merge-faulty faulty =
+      sym (in-order (checkDiff mergePages first) (checkDiff mergePages second) sized)
+      ∙ first-refuses (andThen (checkDiff mergePages first) (checkDiff mergePages second)) sized faulty
 
   -- where both are allowed, the length decides
   pub merge-sized : Allowed mergePages first → Allowed mergePages second

@@ -54,6 +54,10 @@ module _ {list prices₀ marks₀ prices marks : List ℕ} {at : Walk} (laid : L
     laid-prices = sym (ap (λ ps. applyPrices ps prices) (left-end mergePages list at end)) ∙ laid .priced
 
     pub laid-marks : MarkedBeside marks₀ (names (pricesOf mergePages list)) marks
-    laid-marks label =
-        sym (none-left marks label _ (ap (λ ps. names ps label) (left-end mergePages list at end) ∙ names-none label))
-        ∙ laid .marked label
+    laid-marks =
+        record {
+          each = λ label.
+              sym
+              (none-left marks label _ (ap (λ ps. names ps label) (left-end mergePages list at end) ∙ names-none label))
+              ∙ laid .marked label;
+        }

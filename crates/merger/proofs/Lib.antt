@@ -4,3 +4,4 @@ pub mod Bits
 pub mod Marking
 pub mod Runs
 pub mod Laid
+pub mod Merged

@@ -23,14 +23,14 @@ or-assoc false y z = refl
 -- a test that names nothing
 pub marked-none : (marks : List ℕ) (named : ℕ → Bool) → ((label : ℕ) → named label ≡ false)
     → MarkedBeside marks named marks
-marked-none marks named none label = rw (none label) (sym (or-none (isMarked marks label)))
+marked-none marks named none = record { each = λ label. rw (none label) (sym (or-none (isMarked marks label))) }
 
 -- what is left to be marked, once a part of it is
 pub marked-part : (marks after : List ℕ) (named : ℕ → Bool) (label : ℕ) (left whole : Bool)
     → MarkedBeside marks named after → whole ≡ (named label || left)
     → (isMarked after label || left) ≡ (isMarked marks label || whole)
 marked-part marks after named label left whole beside all =
-    rw (beside label, all) (or-assoc (isMarked marks label) (named label) left)
+    rw (beside .each label, all) (or-assoc (isMarked marks label) (named label) left)
 
 pub none-left : (marks : List ℕ) (label : ℕ) (left : Bool) → left ≡ false → (isMarked marks label || left) ≡ isMarked marks label
 none-left marks label left none = rw none (or-none (isMarked marks label))
@@ -65,7 +65,10 @@ module _ (marks : List ℕ) (page offset count : ℕ) (inside : page < length ma
       ]
 
   pub run-marked : MarkedBeside marks (isAmong (32 * page + offset) count) (set marks page joined)
-  run-marked label = elim (ℕ-discrete (label / 32) page) [
-    | yes here ↦ on-page label here
-    | no there ↦ elsewhere label there
-  ]
+  run-marked =
+      record {
+        each = λ label. elim (ℕ-discrete (label / 32) page) [
+          | yes here ↦ on-page label here
+          | no there ↦ elsewhere label there
+        ];
+      }

@@ -17,5 +17,5 @@ abbrev pub isAmong : ℕ → ℕ → ℕ → Bool
 isAmong first count label = leb first label && ltb label (first + count)
 
 -- marked are the labels that were, and those that a test names
-abbrev pub MarkedBeside : List ℕ → (ℕ → Bool) → List ℕ → Type 0
-MarkedBeside before named after = (label : ℕ) → isMarked after label ≡ (isMarked before label || named label)
+pub record MarkedBeside (before : List ℕ) (named : ℕ → Bool) (after : List ℕ) : Type 0 where
+  pub each : (label : ℕ) → isMarked after label ≡ (isMarked before label || named label)
