@@ -4,6 +4,7 @@ ghost use Rattle.laws.specs.Prelude.{_≡_, cond, eqb, length};
 ghost use Rattle.laws.specs.Examples.{AllHold};
 ghost use Rattle.area.specs.Prelude.{releaseOf};
 ghost use Rattle.diff.specs.Making.{makeDiff, bufferAfter, markChanges, marksAfter};
+ghost use Rattle.diff.specs.Merging.{mergeDiffs, mergedBuffer};
 ghost use Rattle.protocol.specs.Calls.{formatting, opening, step, fetch, failure, recovery, join};
 ghost use Rattle.protocol.specs.Calls.{deskQuestion};
 ghost use Rattle.batch.specs.Steps.{steps};
@@ -276,6 +277,19 @@ pub extern "C" fn rack_mark_changes(working: &[u32], twins: &[u32], marks: &mut 
         ≡ marksAfter (now (working .entry)) (now (twins .entry)) (now (marks .entry)) ⌝ }
 {
     let answer = maker::mark_changes(working, twins, marks);
+    answers::in_numbers(answer)
+}
+
+// `merger::merge`.
+#[no_mangle]
+pub extern "C" fn rack_merge_lists(first: &[u32], second: &[u32], buffer: &mut [u32]) -> RackAnswer
+    ensures answer { λ r. ⌜ r
+        ≡ exportedAnswer
+        (mergeDiffs (now (first .entry)) (now (second .entry)) (length (now (buffer .entry)))) ⌝ }
+    ensures written { λ _. ⌜ now (buffer .exit)
+        ≡ mergedBuffer (now (first .entry)) (now (second .entry)) (now (buffer .entry)) ⌝ }
+{
+    let answer = merger::merge(first, second, buffer);
     answers::in_numbers(answer)
 }
 

@@ -1,5 +1,5 @@
 -- Demand 1 over the definitions: "a refusal changes no word of what was lent", and has a number of
--- document 01's table.
+-- document 01's table, or of document 02's.
 -- Assumes nothing: these are definitions.
 use Rattle.laws.specs.Prelude.{ℕ, _≡_, List, [], _∷_, Bool, true, false, cond, length, eqb}
 use Rattle.answer.specs.declared.Outcome.{Outcome}
@@ -7,6 +7,7 @@ use Rattle.directory.specs.declared.Directory.{Directory}
 use Rattle.directory.specs.Directory.{emptyDirectory}
 use Rattle.area.specs.Prelude.{zeros, deskSize}
 use Rattle.diff.specs.Making.{makeDiff, bufferAfter, markChanges, marksAfter}
+use Rattle.diff.specs.Merging.{mergeDiffs, mergedBuffer}
 use Rattle.protocol.specs.Result.{Result, accepted}
 use Rattle.protocol.specs.Formatting.{formatting}
 use Rattle.protocol.specs.Calls.{Call, open-release, make-step, fetch-page, fail-card, recover, join-card}
@@ -42,10 +43,11 @@ pub record Unchanged (refusals : List ℕ) (d : Directory) (m buffer : List ℕ)
   pub memory : result .memory ≡ m
   pub words : result .words ≡ buffer
 
--- refused list work: by one of these numbers, at no place, and the lent buffer, of a list or of marks, holds what it held
-pub record BufferKept (refusals buffer : List ℕ) (outcome : Outcome) (after : List ℕ) : Type 0 where
+-- refused list work: by one of these numbers, of which some name a place, and the lent buffer, of a list or of marks, holds
+-- what it held
+pub record BufferKept (refusals placed buffer : List ℕ) (outcome : Outcome) (after : List ℕ) : Type 0 where
   pub numbered : isAmong refusals (outcome .number) ≡ true
-  pub no-place : outcome .value ≡ 0
+  pub no-place : isAmong placed (outcome .number) ≡ false → outcome .value ≡ 0
   pub words : after ≡ buffer
 
 pub record Demand1 : Type 0 where
@@ -60,11 +62,17 @@ pub record Demand1 : Type 0 where
   -- of marks for each, 17 where the list is longer than its buffer or than 512 words.
   pub lists :
       (working twins marks buffer : List ℕ) → accepted (makeDiff working twins marks (length buffer)) ≡ false
-      → BufferKept (1 ∷ 17 ∷ []) buffer (makeDiff working twins marks (length buffer))
+      → BufferKept (1 ∷ 17 ∷ []) [] buffer (makeDiff working twins marks (length buffer))
       (bufferAfter working twins marks buffer)
   -- The marks of what differs: 1 for any of these lengths.
   pub marks :
       (working twins marks : List ℕ)
       → accepted (markChanges (length working) (length twins) (length marks)) ≡ false
-      → BufferKept (1 ∷ []) marks (markChanges (length working) (length twins) (length marks))
+      → BufferKept (1 ∷ []) [] marks (markChanges (length working) (length twins) (length marks))
       (marksAfter working twins marks)
+  -- Two lists made one (document 02, request 9): 7 where a list is faulty, at its place, 19 where the result is over 512
+  -- words, 17 where it is longer than its buffer.
+  pub merges :
+      (first second buffer : List ℕ) → accepted (mergeDiffs first second (length buffer)) ≡ false
+      → BufferKept (7 ∷ 19 ∷ 17 ∷ []) (7 ∷ []) buffer (mergeDiffs first second (length buffer))
+      (mergedBuffer first second buffer)

@@ -1,11 +1,17 @@
 -- The proof of demand 1: refused calls change nothing, nor does a refused formatting, nor refused list work.
-use Rattle.laws.proofs.Prelude.{ℕ, _≡_, refl, List, [], _∷_, Bool, true, false, cond, true≢false, length, ltb, eqb}
+use Rattle.laws.proofs.Prelude.{ℕ, _≡_, _≢_, refl, List, [], _∷_, Bool, true, false, cond, true≢false, ℕ-discrete}
+use Rattle.laws.proofs.Prelude.{ne-eqb, length, ltb, eqb}
 use Rattle.answer.specs.declared.Outcome.{Outcome}
-use Rattle.answer.specs.Outcome.{given, refused, limits, wrongBuffer}
+use Rattle.answer.specs.Outcome.{given, refused, refusedAt, andThen, limits, faultyList, wrongBuffer, listTooLong}
+use Rattle.answer.proofs.InOrder.{first-refuses, first-passes}
 use Rattle.directory.specs.Directory.{emptyDirectory}
 use Rattle.directory.specs.NewHome.{evenHome}
 use Rattle.diff.specs.Format.{mostWords}
+use Rattle.diff.specs.declared.Verdict.{Verdict}
+use Rattle.diff.specs.declared.Verdict.the-variants.{Good, Faulty}
+use Rattle.diff.specs.Reading.{readDiff, wholeDiff, checkDiff}
 use Rattle.diff.specs.Making.{madeDiff, lentMarked, makeDiff, bufferAfter, markChanges, marksAfter}
+use Rattle.diff.specs.Merging.{mergePages, mergedDiff, mergeDiffs, mergedBuffer}
 use Rattle.protocol.specs.Checks.{check, outsideLimits}
 use Rattle.protocol.specs.Result.{accepted}
 use Rattle.protocol.specs.Formatting.{formatting}
@@ -14,7 +20,7 @@ use Rattle.protocol.proofs.calls.Refused.{refused-by-checks, refused-un
 
 refused-list : (working twins marks buffer : List ℕ)
     → accepted (makeDiff working twins marks (length buffer)) ≡ false
-    → BufferKept (1 ∷ 17 ∷ []) buffer (makeDiff working twins marks (length buffer))
+    → BufferKept (1 ∷ 17 ∷ []) [] buffer (makeDiff working twins marks (length buffer))
     (bufferAfter working twins marks buffer)
 unfolding makeDiff isAmong
 refused-list working twins marks buffer =
@@ -29,25 +35,82 @@ refused-list working twins marks buffer =
 
     by-tests : (lent long short : Bool) (words : ℕ) (made : List ℕ)
         → accepted (comesTo lent long short words) ≡ false
-        → BufferKept (1 ∷ 17 ∷ []) buffer (comesTo lent long short words)
+        → BufferKept (1 ∷ 17 ∷ []) [] buffer (comesTo lent long short words)
         (cond (eqb (comesTo lent long short words .number) 0) made buffer)
-    by-tests true true short words made is = record { numbered = refl; no-place = refl; words = refl }
-    by-tests true false true words made is = record { numbered = refl; no-place = refl; words = refl }
+    by-tests true true short words made is = record { numbered = refl; no-place = λ _. refl; words = refl }
+    by-tests true false true words made is = record { numbered = refl; no-place = λ _. refl; words = refl }
     by-tests true false false words made is = absurd (true≢false is)
-    by-tests false long short words made is = record { numbered = refl; no-place = refl; words = refl }
+    by-tests false long short words made is = record { numbered = refl; no-place = λ _. refl; words = refl }
 
 refused-marks : (working twins marks : List ℕ)
     → accepted (markChanges (length working) (length twins) (length marks)) ≡ false
-    → BufferKept (1 ∷ []) marks (markChanges (length working) (length twins) (length marks))
+    → BufferKept (1 ∷ []) [] marks (markChanges (length working) (length twins) (length marks))
     (marksAfter working twins marks)
 unfolding markChanges isAmong
 refused-marks working twins marks = by-test (lentMarked (length working) (length twins) (length marks)) _
   where
     by-test : (lent : Bool) (made : List ℕ) → accepted (cond lent (given 0) (refused limits)) ≡ false
-        → BufferKept (1 ∷ []) marks (cond lent (given 0) (refused limits))
+        → BufferKept (1 ∷ []) [] marks (cond lent (given 0) (refused limits))
         (cond (eqb (cond lent (given 0) (refused limits) .number) 0) made marks)
     by-test true made is = absurd (true≢false is)
-    by-test false made is = record { numbered = refl; no-place = refl; words = refl }
+    by-test false made is = record { numbered = refl; no-place = λ _. refl; words = refl }
+
+-- a list that is not allowed is refused with 7
+faulty-number : (pages : ℕ) (list : List ℕ) → checkDiff pages list .number ≢ 0 → checkDiff pages list .number ≡ 7
+unfolding checkDiff
+faulty-number pages list = go (readDiff pages list)
+  where
+    go : (v : Verdict) → wholeDiff (length list) v .number ≢ 0 → wholeDiff (length list) v .number ≡ 7
+    go (Good k n) refusal = by-cut (ltb n (length list)) refusal
+      where
+        by-cut : (cut : Bool) → cond cut (refusedAt faultyList n) (given k) .number ≢ 0
+            → cond cut (refusedAt faultyList n) (given k) .number ≡ 7
+        by-cut true refusal = refl
+        by-cut false refusal = absurd (refusal refl)
+    go (Faulty place) refusal = refl
+
+-- the buffer after some outcome
+abbrev after : Outcome → List ℕ → List ℕ → List ℕ
+after o made buffer = cond (eqb (o .number) 0) made buffer
+
+-- a check that refuses with 7, or what comes next
+then-kept : (first next : Outcome) (made buffer : List ℕ) → (first .number ≢ 0 → first .number ≡ 7)
+    → (accepted next ≡ false → BufferKept (7 ∷ 19 ∷ 17 ∷ []) (7 ∷ []) buffer next (after next made buffer))
+    → accepted (andThen first next) ≡ false
+    → BufferKept (7 ∷ 19 ∷ 17 ∷ []) (7 ∷ []) buffer (andThen first next) (after (andThen first next) made buffer)
+unfolding isAmong
+then-kept first next made buffer faulty later = elim (ℕ-discrete (first .number) 0) [
+  | yes passed ↦ rw (first-passes first next passed) later
+  | no refusal ↦
+      λ is.
+      rw (first-refuses first next refusal)
+      (record {
+        numbered = rw (faulty refusal);
+        no-place = λ none. absurd (true≢false (rw (faulty refusal) at none));
+        words = rw (ne-eqb (first .number) 0 refusal);
+      })
+]
+
+refused-merge : (first second buffer : List ℕ) → accepted (mergeDiffs first second (length buffer)) ≡ false
+    → BufferKept (7 ∷ 19 ∷ 17 ∷ []) (7 ∷ []) buffer (mergeDiffs first second (length buffer))
+    (mergedBuffer first second buffer)
+unfolding mergeDiffs isAmong
+refused-merge first second buffer =
+    let words = length (mergedDiff first second) in
+    then-kept (checkDiff mergePages first) _ _ buffer (faulty-number mergePages first)
+    (then-kept (checkDiff mergePages second) _ _ buffer (faulty-number mergePages second)
+    (by-tests (ltb mostWords words) (ltb (length buffer) words) words _))
+  where
+    -- whether the list is too long, and the buffer too short for it
+    comesTo : Bool → Bool → ℕ → Outcome
+    comesTo long short words = cond long (refused listTooLong) (cond short (refused wrongBuffer) (given words))
+
+    by-tests : (long short : Bool) (words : ℕ) (made : List ℕ) → accepted (comesTo long short words) ≡ false
+        → BufferKept (7 ∷ 19 ∷ 17 ∷ []) (7 ∷ []) buffer (comesTo long short words)
+        (after (comesTo long short words) made buffer)
+    by-tests true short words made is = record { numbered = refl; no-place = λ _. refl; words = refl }
+    by-tests false true words made is = record { numbered = refl; no-place = λ _. refl; words = refl }
+    by-tests false false words made is = absurd (true≢false is)
 
 pub demand-1 : Demand1
 unfolding formatting
@@ -58,4 +121,5 @@ demand-1 =
           refused-by-checks (check (outsideLimits (length m) cards pages) limits ∷ []) 0 _ emptyDirectory m [] refl;
       lists = refused-list;
       marks = refused-marks;
+      merges = refused-merge;
     }
