@@ -53,7 +53,7 @@
 **
 ** Every call returns. A number of 0 says that it was accepted, and the value is what it gives.
 ** Any other number is a refusal, and the value is its place: 0 unless the list below names one. A
-** refusal changes no word of a memory, the directory, the list, the marks or the buffer. There are
+** refusal changes no word of a memory, the directory, a list, the marks or the buffer. There are
 ** two exceptions: rack_format writes the empty directory, and the steps that rack_steps made before
 ** the refused one stand. Checks run in the order that each function names, and the first that
 ** fails is answered.
@@ -85,8 +85,19 @@
 **     answer = rack_make_list(prices, 128, twins, 128, marks, 4, buffer, RACK_LIST_WORDS);
 **     if (answer.number != RACK_ACCEPTED) return refuse(answer);
 **
-** and the buffer holds the list above. A rack that was stored in the old form is moved once it is
-** loaded:
+** and the buffer holds the list above. A desk that has another list waiting merges the two, the
+** older one first, and releases them as one:
+**
+**     uint32_t later[] = { 0x10000001, 0x20030001, 199, 0xF0000003 }, merged[RACK_LIST_WORDS];
+**     answer = rack_merge_lists(buffer, answer.value, later, 4, merged, RACK_LIST_WORDS);
+**     if (answer.number != RACK_ACCEPTED) return refuse(answer);
+**     answer = rack_open(memory, words, &directory, 1, 2, desk, merged, answer.value);
+**     if (answer.number != RACK_ACCEPTED) return refuse(answer);
+**     rack_steps(memory, words, &directory, 1, UINT32_MAX);
+**
+** and words 2 and 3 of page 1 are 250 and 199. A merge that is refused with RACK_LIST_TOO_LONG
+** leaves both lists as they are: the older one is released by itself. A rack that was stored in the
+** old form is moved once it is loaded:
 **
 **     uint32_t old_memory[RACK_OLD_MEMORY_WORDS(3, 4)];
 **     size_t old_words = RACK_OLD_MEMORY_WORDS(3, 4);
@@ -188,8 +199,7 @@ RACK_ASSERT(sizeof(size_t) == 8);
 #undef RACK_ASSERT
 
 /*
-** Refusals, by who caused them. The number 18, an unreadable line, belongs to the program
-** shelfrun; none has the number 19.
+** Refusals, by who caused them. The number 18, an unreadable line, belongs to the program shelfrun.
 */
 #define RACK_ACCEPTED 0
 
@@ -206,26 +216,29 @@ RACK_ASSERT(sizeof(size_t) == 8);
                          prices) or more than 4k + 10 steps made */
 
 /* The price desk */
-#define RACK_NO_CARD 3      /* no such card, or a dead one; rack_join, rack_desk: no such card */
-#define RACK_RELEASE_OPEN 4 /* a release is open on the card */
-#define RACK_NUMBER_USED 5  /* the number is at or below the card's stamp, as that of a release sent
-                               twice; at the stamp 18446744073709551615, the greatest, every number
-                               is. Place: the stamp */
-#define RACK_NUMBER_AHEAD 6 /* the number is above the card's stamp + 1 */
-#define RACK_FAULTY_LIST 7  /* the list breaks a rule (THE LIST OF CHANGES, below). Place: the
-                               lowest that applies of the first word that breaks one, the length
-                               if the list stops early, 512 if it is longer */
-#define RACK_WORD_IN_USE 8  /* a label of the list is in another card's open release. Place: the
-                               lowest such card */
-#define RACK_NONE_OPEN 16   /* a step on a card with no release open; also after the last step */
+#define RACK_NO_CARD 3        /* no such card, or a dead one; rack_join, rack_desk: no such card */
+#define RACK_RELEASE_OPEN 4   /* a release is open on the card */
+#define RACK_NUMBER_USED 5    /* the number is at or below the card's stamp, as that of a release
+                                 sent twice; at the stamp 18446744073709551615, the greatest, every
+                                 number is. Place: the stamp */
+#define RACK_NUMBER_AHEAD 6   /* the number is above the card's stamp + 1 */
+#define RACK_FAULTY_LIST 7    /* the list breaks a rule (THE LIST OF CHANGES, below). Place: the
+                                 lowest that applies of the first word that breaks one, the length
+                                 if the list stops early, 512 if it is longer; rack_merge_lists: in
+                                 the first list if that is faulty, else in the second */
+#define RACK_WORD_IN_USE 8    /* a label of the list is in another card's open release. Place: the
+                                 lowest such card */
+#define RACK_NONE_OPEN 16     /* a step on a card with no release open; also after the last step */
+#define RACK_LIST_TOO_LONG 19 /* rack_merge_lists: the merged list would have over 512 words;
+                                 release the first list by itself then */
 
 /* The reader */
 #define RACK_NO_PAGE 9         /* no such page */
 #define RACK_PAGE_IN_MOTION 10 /* the page is in an open release that already counts: fetch again
                                   once it is closed or recovered. Place: the lowest such card */
 #define RACK_WRONG_BUFFER 17   /* a page buffer not of 32 words; rack_fetch_all: a buffer not of 32
-                                  words for each page; a list buffer shorter than the list; a list
-                                  over 512 words */
+                                  words for each page; a list buffer shorter than the list;
+                                  rack_make_list: a list over 512 words */
 
 /* The rack's state */
 #define RACK_RECOVERY_AWAITED 11 /* a card has failed: rack_recover comes next */
@@ -249,7 +262,8 @@ RACK_ASSERT(sizeof(size_t) == 8);
 ** The rules, and the word that refusal 7 names as the place where one is broken:
 **
 ** - A word where no price is due is of one of these kinds: that word.
-** - A page is below the pages of the rack, and above the page before it: the page word.
+** - A page is below the pages of the rack, for rack_merge_lists below 64, and above the page before
+**   it: the page word.
 ** - A page has at least one run: the word after the page word.
 ** - A run stands after a page word, not before the first: the run word.
 ** - A run's count is at least 1, and offset + count at most 32: the run word.
@@ -262,7 +276,8 @@ RACK_ASSERT(sizeof(size_t) == 8);
 **
 ** The list of no change is the end word 0xF0000000 alone; a list of no words is refused at 0. Of a
 ** list in the memory, what stands after its end word is not read. rack_make_list makes the one list
-** that names the marked words at their prices; a list of k prices takes 4k + 11 steps.
+** that names the marked words at their prices, rack_merge_lists makes one list of two; a list of k
+** prices takes 4k + 11 steps.
 */
 
 /*
@@ -393,6 +408,28 @@ rack_answer rack_make_list(const uint32_t *working, size_t working_words, const 
 */
 rack_answer rack_mark_changes(const uint32_t *working, size_t working_words, const uint32_t *twins,
                               size_t twins_words, uint32_t *marks, size_t marks_words);
+
+/*
+** Merges two lists of changes into one, for a desk with poor radio that has several waiting. The
+** effect of the merged list on any pages is the first's and then the second's: it names what either
+** names, at the second's price where the second names it. A word that both name at the same price
+** stays named. The merged list is the one that the rules allow for these words and prices: runs
+** that touch become one. Pages go to 63, whatever a rack has; a rack whose pages allow both lists
+** allows the merged one. It goes out as one release, under one number: either it shows whole or not
+** at all.
+**
+** The list of no change, 0xF0000000, changes nothing on either side: the merged list is the other.
+** Of three lists, the first two may be merged first or the last two: the list is the same, where
+** all the merges are accepted. The buffer overlaps neither list: a third list is merged from one
+** buffer into another. Gives the length of the merged list; words of the buffer past it are kept.
+**
+** Refusals: 7 of the first list, 7 of the second, 19, 17. The place of 7 is one in the faulty list,
+** and the answer does not say which of the two that is. To tell, merge the first with the list of
+** no change: that is refused with 7 exactly if the first is faulty. 19 is answered whatever the
+** buffer; 17 never with a buffer of RACK_LIST_WORDS words.
+*/
+rack_answer rack_merge_lists(const uint32_t *first, size_t first_words, const uint32_t *second,
+                             size_t second_words, uint32_t *buffer, size_t buffer_words);
 
 #ifdef __cplusplus
 }
