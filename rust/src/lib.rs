@@ -294,3 +294,40 @@ pub fn mark_changes(working: &[u32], twins: &[u32]) -> Result<Vec<u32>, Refusal>
     accepted(unsafe { sys::rack_mark_changes(pages, pages_words, twins.as_ptr(), twins.len(), buffer, room) })?;
     Ok(marks)
 }
+
+/// Two lists of changes made one, for a desk with poor radio that has several waiting. Its effect on any pages is the
+/// first's and then the second's: it names what either names, at the second's price where the second names it. A word
+/// that both name at the same price stays named. Pages go to 63, whatever a rack has; a rack whose pages allow both
+/// lists allows the merged one.
+///
+/// Refused with [`Refusal::FaultyList`] for a fault of the first list, then for one of the second, then with
+/// [`Refusal::ListTooLong`] if the merged list would have over 512 words: the first list is released by itself then.
+///
+/// The list of no change, `[0xF000_0000]`, changes nothing on either side. Nothing says which of the two lists has the
+/// fault: to tell, merge the first with the list of no change, which is refused exactly if the first is faulty.
+///
+/// The merged list goes out as one release, under one number: either it shows whole or not at all.
+///
+/// ```
+/// use bandsawpink::{merge_lists, Rack, Refusal};
+///
+/// let first = [0x1000_0001, 0x2002_0002, 250, 199, 0xF000_0004]; // labels 34 and 35
+/// let second = [0x1000_0001, 0x2003_0001, 175, 0x1000_0002, 0x2000_0001, 5, 0xF000_0006]; // labels 35 and 64
+/// let merged = merge_lists(&first, &second)?;
+/// assert_eq!(merged, [0x1000_0001, 0x2002_0002, 250, 175, 0x1000_0002, 0x2000_0001, 5, 0xF000_0007]);
+///
+/// let mut rack = Rack::format(3, 4)?;
+/// rack.release(1, 1, &[7; 8], &merged)?;
+/// assert_eq!(rack.fetch(1)?[2..4], [250, 175]);
+/// # Ok::<(), Refusal>(())
+/// ```
+pub fn merge_lists(first: &[u32], second: &[u32]) -> Result<Vec<u32>, Refusal> {
+    let mut list = vec![0; LIST_WORDS];
+    let (buffer, room) = (list.as_mut_ptr(), list.len());
+    // SAFETY: as in `make_list`.
+    let length = accepted(unsafe {
+        sys::rack_merge_lists(first.as_ptr(), first.len(), second.as_ptr(), second.len(), buffer, room)
+    })?;
+    list.truncate(length as usize);
+    Ok(list)
+}

@@ -36,8 +36,10 @@ pub enum Refusal {
     JoinWhileOpen,
     /// A step with no release open.
     NoneOpen,
-    /// A buffer of the wrong length, or a list over 512 words.
+    /// A buffer of the wrong length, or in [`make_list`](crate::make_list) a list over 512 words.
     WrongBuffer,
+    /// The merged list would have over 512 words: the first list is released by itself then.
+    ListTooLong,
     /// A stamp or a done mark on a live card is above 4294967295, for which the old form has no room.
     StampTooHigh,
 }
@@ -64,6 +66,7 @@ impl Refusal {
             refusals::JOIN_WHILE_OPEN => Refusal::JoinWhileOpen,
             refusals::NONE_OPEN => Refusal::NoneOpen,
             refusals::WRONG_BUFFER => Refusal::WrongBuffer,
+            refusals::LIST_TOO_LONG => Refusal::ListTooLong,
             refusals::STAMP_TOO_HIGH => Refusal::StampTooHigh,
             _ => unreachable!("no call answers the number {number}"),
         })
@@ -89,6 +92,7 @@ impl Refusal {
             Refusal::JoinWhileOpen => refusals::JOIN_WHILE_OPEN,
             Refusal::NoneOpen => refusals::NONE_OPEN,
             Refusal::WrongBuffer => refusals::WRONG_BUFFER,
+            Refusal::ListTooLong => refusals::LIST_TOO_LONG,
             Refusal::StampTooHigh => refusals::STAMP_TOO_HIGH,
         }
     }
@@ -136,6 +140,7 @@ impl fmt::Display for Refusal {
             Refusal::WrongBuffer => {
                 write!(f, "the buffer does not fit, or the list is over 512 words")
             }
+            Refusal::ListTooLong => write!(f, "the merged list would have over 512 words"),
             Refusal::StampTooHigh => {
                 write!(f, "a stamp or done mark is above 4294967295: the old form has no room for it")
             }
@@ -175,7 +180,7 @@ mod tests {
     fn each_has_its_number_its_place_and_a_sentence_of_its_own() {
         assert_eq!(Refusal::of(0, 41), None);
         let mut sentences = HashSet::new();
-        for number in (1..=17).chain([20]) {
+        for number in (1..=17).chain([19, 20]) {
             let refusal = Refusal::of(number, 41).expect("any number but 0 is a refusal");
             let names_a_place = matches!(number, 5 | 7 | 8 | 10);
             assert_eq!(refusal.number(), number);
