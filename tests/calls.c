@@ -125,28 +125,32 @@ static void desk_calls(void) {
 }
 
 /* The header's rules for a list, in its order, each broken once: the words, their number, the place. */
+static const struct {
+    uint32_t words[6], length, place;
+} faulty[] = {
+    { { 0x10000001, 0x20020001, 5, 0x30000000 }, 4, 3 },             /* no kind */
+    { { 0x10000040, 0x20020001, 5, 0xF0000003 }, 4, 0 },             /* a page past every rack's */
+    { { 0x10000001, 0x20020001, 5, 0x10000001 }, 4, 3 },             /* a page twice */
+    { { 0x10000001, 0xF0000001 }, 2, 1 },                            /* a page without a run */
+    { { 0x20020001, 5, 0xF0000002 }, 3, 0 },                         /* a run before the first page */
+    { { 0x10000001, 0x20020000, 0xF0000002 }, 3, 1 },                /* a run of no price */
+    { { 0x10000001, 0x201F0002, 5, 6, 0xF0000004 }, 5, 1 },          /* a run past the page's end */
+    { { 0x10000001, 0x20020001, 5, 0x20030001, 6, 0xF0000005 }, 6, 3 }, /* runs that touch */
+    { { 0x10000001, 0x20020001, 5, 0xF0000004 }, 4, 3 },             /* another index */
+    { { 0x10000001, 0x20020001, 5, 0xF0000003, 0 }, 5, 4 },          /* a word after the end */
+    { { 0x10000001, 0x20020002, 5 }, 3, 3 },                         /* a run cut short */
+    { { 0x10000001, 0x20020001, 5 }, 3, 3 },                         /* no end word */
+};
+enum { FAULTY = sizeof faulty / sizeof *faulty };
+
 static void list_rules(void) {
-    static const struct {
-        uint32_t words[6], length, place;
-    } faulty[] = {
-        { { 0x10000001, 0x20020001, 5, 0x30000000 }, 4, 3 },             /* no kind */
-        { { 0x10000004, 0x20020001, 5, 0xF0000003 }, 4, 0 },             /* a page past the rack's */
-        { { 0x10000001, 0x20020001, 5, 0x10000001 }, 4, 3 },             /* a page twice */
-        { { 0x10000001, 0xF0000001 }, 2, 1 },                            /* a page without a run */
-        { { 0x20020001, 5, 0xF0000002 }, 3, 0 },                         /* a run before the first page */
-        { { 0x10000001, 0x20020000, 0xF0000002 }, 3, 1 },                /* a run of no price */
-        { { 0x10000001, 0x201F0002, 5, 6, 0xF0000004 }, 5, 1 },          /* a run past the page's end */
-        { { 0x10000001, 0x20020001, 5, 0x20030001, 6, 0xF0000005 }, 6, 3 }, /* runs that touch */
-        { { 0x10000001, 0x20020001, 5, 0xF0000004 }, 4, 3 },             /* another index */
-        { { 0x10000001, 0x20020001, 5, 0xF0000003, 0 }, 5, 4 },          /* a word after the end */
-        { { 0x10000001, 0x20020002, 5 }, 3, 3 },                         /* a run cut short */
-        { { 0x10000001, 0x20020001, 5 }, 3, 3 },                         /* no end word */
-    };
+    const uint32_t page_4[] = { 0x10000004, 0x20020001, 5, 0xF0000003 };
     uint32_t longest[RACK_LIST_WORDS + 1] = { 0 };
     format();
-    for (size_t at = 0; at < sizeof faulty / sizeof *faulty; at++)
+    for (int at = 0; at < FAULTY; at++)
         REFUSED(rack_open(memory, WORDS, &directory, 1, 1, desk, faulty[at].words, faulty[at].length), RACK_FAULTY_LIST,
                 faulty[at].place);
+    REFUSED(rack_open(memory, WORDS, &directory, 1, 1, desk, page_4, 4), RACK_FAULTY_LIST, 0); /* past the rack's */
     const size_t words = RACK_MEMORY_WORDS(CARDS, RACK_MAX_PAGES);
     ACCEPTED(rack_format(large, words, CARDS, RACK_MAX_PAGES, &directory));
     size_t length = 0;
@@ -506,17 +510,19 @@ static rack_answer make_list(size_t pages, size_t of_twins, size_t of_marks, siz
     return rack_make_list(working, pages, twins, of_twins, marks, of_marks, made_list, room);
 }
 
-/* Refused list work names no place, and keeps the list buffer and the marks. */
-#define LIST_REFUSED(call, expected_number) \
+/* Refused list work: its number and place, and that it kept the list buffer and the marks. */
+#define LIST_REFUSED_AT(call, expected_number, expected_place) \
     do { \
         uint32_t list_before[600], marks_before[TOO_MANY]; \
         memcpy(list_before, made_list, sizeof made_list); \
         memcpy(marks_before, marks, sizeof marks); \
         rack_answer answer = (call); \
-        EXPECT(answer.number == (expected_number) && answer.value == 0); \
+        EXPECT(answer.number == (expected_number) && answer.value == (expected_place)); \
         EXPECT(memcmp(list_before, made_list, sizeof made_list) == 0); \
         EXPECT(memcmp(marks_before, marks, sizeof marks) == 0); \
     } while (0)
+
+#define LIST_REFUSED(call, expected_number) LIST_REFUSED_AT(call, expected_number, 0)
 
 /* A list of the marked words of 4 pages: these words, and what stands behind them is kept. */
 static void expect_list(const uint32_t *expected, size_t length) {
@@ -580,6 +586,213 @@ static void marks_of_changes(void) {
     EXPECT(marks[0] == 1 && marks[1] == 12 && marks[2] == 0 && marks[3] == 0x80000000 && marks[4] == 0xA5A5A5A5);
 }
 
+/* A list of changes, with room for one word too many. */
+typedef struct changes {
+    size_t length;
+    uint32_t words[RACK_LIST_WORDS + 1];
+} changes;
+
+static const changes no_changes = { 1, { 0xF0000000 } };
+
+/* Merges two lists, which are kept, into a buffer of so many words. */
+static rack_answer merge(const changes *first, const changes *second, size_t room) {
+    const changes kept[] = { *first, *second };
+    rack_answer merged = rack_merge_lists(first->words, first->length, second->words, second->length, made_list, room);
+    EXPECT(memcmp(first->words, kept[0].words, sizeof first->words) == 0);
+    EXPECT(memcmp(second->words, kept[1].words, sizeof second->words) == 0);
+    return merged;
+}
+
+/* Two lists and what they merge into, in buffers with just room for it and more: what stands behind it is kept. */
+static void expect_merged(const changes *first, const changes *second, const changes *expected) {
+    const size_t rooms[] = { expected->length, RACK_LIST_WORDS, 600 };
+    uint32_t after[600];
+    memset(after, 0xA5, sizeof after);
+    memcpy(after, expected->words, expected->length * sizeof *after);
+    for (int at = 0; at < 3; at++) {
+        memset(made_list, 0xA5, sizeof made_list);
+        rack_answer merged = merge(first, second, rooms[at]);
+        EXPECT(merged.number == RACK_ACCEPTED && merged.value == expected->length);
+        EXPECT(memcmp(made_list, after, sizeof made_list) == 0);
+    }
+    LIST_REFUSED(merge(first, second, expected->length - 1), RACK_WRONG_BUFFER);
+}
+
+static void merged_lists(void) {
+    static const changes merges[][3] = { /* first, second, merged */
+        /* labels 34 and 35, then 35 and 64, and the other way round */
+        { { 5, { 0x10000001, 0x20020002, 250, 199, 0xF0000004 } },
+          { 7, { 0x10000001, 0x20030001, 175, 0x10000002, 0x20000001, 5, 0xF0000006 } },
+          { 8, { 0x10000001, 0x20020002, 0xFA, 0xAF, 0x10000002, 0x20000001, 5, 0xF0000007 } } },
+        { { 7, { 0x10000001, 0x20030001, 175, 0x10000002, 0x20000001, 5, 0xF0000006 } },
+          { 5, { 0x10000001, 0x20020002, 250, 199, 0xF0000004 } },
+          { 8, { 0x10000001, 0x20020002, 0xFA, 0xC7, 0x10000002, 0x20000001, 5, 0xF0000007 } } },
+        /* runs that touch become one */
+        { { 4, { 0x10000000, 0x20000001, 1, 0xF0000003 } },
+          { 4, { 0x10000000, 0x20010001, 2, 0xF0000003 } },
+          { 5, { 0x10000000, 0x20000002, 1, 2, 0xF0000004 } } },
+        { { 6, { 0x10000000, 0x20000001, 1, 0x20020001, 3, 0xF0000005 } },
+          { 4, { 0x10000000, 0x20010001, 2, 0xF0000003 } },
+          { 6, { 0x10000000, 0x20000003, 1, 2, 3, 0xF0000005 } } },
+        /* but not across pages */
+        { { 4, { 0x10000000, 0x201F0001, 1, 0xF0000003 } },
+          { 4, { 0x10000001, 0x20000001, 2, 0xF0000003 } },
+          { 7, { 0x10000000, 0x201F0001, 1, 0x10000001, 0x20000001, 2, 0xF0000006 } } },
+        /* the first page and the last, whatever comes first */
+        { { 4, { 0x1000003F, 0x201F0001, 7, 0xF0000003 } },
+          { 4, { 0x10000000, 0x20000001, 1, 0xF0000003 } },
+          { 7, { 0x10000000, 0x20000001, 1, 0x1000003F, 0x201F0001, 7, 0xF0000006 } } },
+        /* a word that both name at the same price stays named, also at 0 */
+        { { 5, { 0x10000001, 0x20020002, 250, 0, 0xF0000004 } },
+          { 5, { 0x10000001, 0x20020002, 250, 0, 0xF0000004 } },
+          { 5, { 0x10000001, 0x20020002, 250, 0, 0xF0000004 } } },
+        /* prices that look like other words */
+        { { 5, { 0x10000000, 0x20000002, 0xF0000002, 0x10000000, 0xF0000004 } },
+          { 5, { 0x10000000, 0x20010002, 0x20020001, 0xF0000000, 0xF0000004 } },
+          { 6, { 0x10000000, 0x20000003, 0xF0000002, 0x20020001, 0xF0000000, 0xF0000005 } } },
+    };
+    for (size_t at = 0; at < sizeof merges / sizeof *merges; at++) {
+        expect_merged(&merges[at][0], &merges[at][1], &merges[at][2]);
+        for (int of = 0; of < 3; of++) {
+            expect_merged(&merges[at][of], &no_changes, &merges[at][of]);
+            expect_merged(&no_changes, &merges[at][of], &merges[at][of]);
+        }
+    }
+    expect_merged(&no_changes, &no_changes, &no_changes);
+}
+
+/* The list of the marked words of 20 pages, as the list maker makes it. */
+static changes marked_list(void) {
+    const size_t pages = 20, words = pages * RACK_PAGE_WORDS;
+    changes marked = { 0, { 0 } };
+    rack_answer made = rack_make_list(working, words, twins, words, marks, pages, marked.words, RACK_LIST_WORDS);
+    EXPECT(made.number == RACK_ACCEPTED);
+    marked.length = (size_t)made.value;
+    return marked;
+}
+
+/*
+** The list of those of labels 30 to 33, on two pages, that have a bit in one of three sets, at the price of the last of
+** these sets. Label 31 has the same price in all three.
+*/
+static changes list_of_sets(uint32_t first, uint32_t second, uint32_t third) {
+    const uint32_t sets[] = { first, second, third };
+    memset(marks, 0, sizeof marks);
+    for (uint32_t set = 0; set < 3; set++)
+        for (uint32_t bit = 0; bit < 4; bit++) {
+            uint32_t label = 30 + bit;
+            if ((sets[set] >> bit & 1) == 0) continue;
+            working[label] = label == 31 ? 7 : 100 * set + bit;
+            marks[label / RACK_PAGE_WORDS] |= (uint32_t)1 << label % RACK_PAGE_WORDS;
+        }
+    return marked_list();
+}
+
+/* All lists of four labels: two of them, and three of which the first two or the last two are merged first. */
+static void merged_sets(void) {
+    for (uint32_t sets = 0; sets < 16 * 16 * 16; sets++) {
+        const uint32_t a = sets & 15, b = sets >> 4 & 15, c = sets >> 8;
+        const changes first = list_of_sets(a, 0, 0), second = list_of_sets(0, b, 0), third = list_of_sets(0, 0, c);
+        const changes first_two = list_of_sets(a, b, 0), last_two = list_of_sets(0, b, c);
+        const changes all = list_of_sets(a, b, c);
+        expect_merged(&first, &second, &first_two);
+        expect_merged(&second, &third, &last_two);
+        expect_merged(&first_two, &third, &all);
+        expect_merged(&first, &last_two, &all);
+    }
+}
+
+/* The pages after two releases are those after one release of the merged list. */
+static void merged_release(void) {
+    const uint32_t later[] = { 0x10000001, 0x20030001, 175, 0x10000002, 0x20000001, 5, 0xF0000006 };
+    uint32_t one_by_one[PRICES], at_once[PRICES];
+    format();
+    ACCEPTED(rack_open(memory, WORDS, &directory, 1, 1, desk, list, 5));
+    ACCEPTED(rack_steps(memory, WORDS, &directory, 1, 19));
+    ACCEPTED(rack_open(memory, WORDS, &directory, 1, 2, desk, later, 7));
+    ACCEPTED(rack_steps(memory, WORDS, &directory, 1, 19));
+    ACCEPTED(rack_fetch_all(memory, WORDS, &directory, one_by_one, PRICES));
+    EXPECT(one_by_one[34] == 250 && one_by_one[35] == 175 && one_by_one[64] == 5);
+    format();
+    rack_answer merged = rack_merge_lists(list, 5, later, 7, made_list, RACK_LIST_WORDS);
+    ACCEPTED(rack_open(memory, WORDS, &directory, 1, 1, desk, made_list, (size_t)merged.value));
+    ACCEPTED(rack_steps(memory, WORDS, &directory, 1, 23));
+    ACCEPTED(rack_fetch_all(memory, WORDS, &directory, at_once, PRICES));
+    EXPECT(memcmp(one_by_one, at_once, sizeof at_once) == 0);
+}
+
+/* The list of the pages from one to below another, with these words of each. */
+static changes list_of_pages(uint32_t from, uint32_t to, uint32_t marked) {
+    memset(marks, 0, sizeof marks);
+    for (uint32_t page = from; page < to; page++) marks[page] = marked;
+    return marked_list();
+}
+
+/* Up to 512 words a merged list is made, however long the two are together; from 513 on it is refused. */
+static void long_merges(void) {
+    for (uint32_t label = 0; label < TOO_MANY * RACK_PAGE_WORDS; label++) working[label] = label;
+    const changes even = list_of_pages(0, 15, 0x55555555), odd = list_of_pages(0, 15, 0xAAAAAAAA);
+    const changes whole = list_of_pages(0, 15, UINT32_MAX);
+    EXPECT(even.length == 496 && odd.length == 496 && whole.length == 511);
+    expect_merged(&even, &odd, &whole);
+    expect_merged(&odd, &even, &whole);
+    expect_merged(&whole, &odd, &whole);
+
+    const changes most = list_of_pages(0, 14, UINT32_MAX), fits = list_of_pages(14, 19, 0x1F);
+    const changes too_long = list_of_pages(14, 18, 0x7F);
+    changes longest = most, over = most; /* of 512 words, and of 513 */
+    EXPECT(most.length == 477 && fits.length == 36 && too_long.length == 37);
+    memcpy(longest.words + 476, fits.words, 35 * sizeof *fits.words);
+    memcpy(over.words + 476, too_long.words, 36 * sizeof *too_long.words);
+    longest.words[511] = 0xF00001FF;
+    longest.length = 512;
+    over.words[512] = 0xF0000200;
+    over.length = 513;
+    expect_merged(&most, &fits, &longest);
+    expect_merged(&fits, &most, &longest);
+    expect_merged(&longest, &longest, &longest);
+    LIST_REFUSED(merge(&most, &too_long, 600), RACK_LIST_TOO_LONG);
+    LIST_REFUSED(merge(&too_long, &longest, 600), RACK_LIST_TOO_LONG);
+    LIST_REFUSED_AT(merge(&over, &no_changes, 600), RACK_FAULTY_LIST, 512);
+    LIST_REFUSED_AT(merge(&no_changes, &over, 600), RACK_FAULTY_LIST, 512);
+}
+
+static void too_long_merges(void) {
+    const changes low = list_of_pages(0, 8, UINT32_MAX), high = list_of_pages(8, 16, UINT32_MAX);
+    changes cut = high; /* less its end word */
+    cut.length = 272;
+    EXPECT(low.length == 273 && high.length == 273);
+    LIST_REFUSED(merge(&low, &high, 600), RACK_LIST_TOO_LONG);
+    LIST_REFUSED(merge(&high, &low, RACK_LIST_WORDS), RACK_LIST_TOO_LONG);
+    LIST_REFUSED(merge(&low, &high, 272), RACK_LIST_TOO_LONG); /* 19 before 17 */
+    EXPECT(rack_merge_lists(low.words, 273, high.words, 273, NULL, 0).number == RACK_LIST_TOO_LONG);
+    LIST_REFUSED_AT(merge(&low, &cut, 600), RACK_FAULTY_LIST, 272); /* 7 before 19 */
+    LIST_REFUSED_AT(merge(&cut, &low, 600), RACK_FAULTY_LIST, 272);
+}
+
+static void merges_refused(void) {
+    memset(made_list, 0xA5, sizeof made_list);
+    for (int at = 0; at < FAULTY; at++) {
+        const uint32_t *words = faulty[at].words, *end = no_changes.words;
+        const size_t length = faulty[at].length, place = faulty[at].place;
+        LIST_REFUSED_AT(rack_merge_lists(words, length, end, 1, made_list, 600), RACK_FAULTY_LIST, place);
+        LIST_REFUSED_AT(rack_merge_lists(end, 1, words, length, made_list, 600), RACK_FAULTY_LIST, place);
+        LIST_REFUSED_AT(rack_merge_lists(list, 5, words, length, NULL, 0), RACK_FAULTY_LIST, place); /* 7 before 17 */
+        for (int other = 0; other < FAULTY; other++) { /* the first list before the second */
+            rack_answer merged = rack_merge_lists(words, length, faulty[other].words, faulty[other].length, NULL, 0);
+            EXPECT(merged.number == RACK_FAULTY_LIST && merged.value == place);
+        }
+    }
+    LIST_REFUSED_AT(rack_merge_lists(NULL, 0, list, 5, made_list, 600), RACK_FAULTY_LIST, 0);
+    LIST_REFUSED_AT(rack_merge_lists(NULL, 0, list, 4, made_list, 600), RACK_FAULTY_LIST, 0);
+    LIST_REFUSED_AT(rack_merge_lists(list, 4, NULL, 0, made_list, 600), RACK_FAULTY_LIST, 4);
+    LIST_REFUSED_AT(rack_merge_lists(list, 5, NULL, 0, made_list, 600), RACK_FAULTY_LIST, 0);
+    LIST_REFUSED_AT(rack_merge_lists(NULL, 0, NULL, 0, NULL, 0), RACK_FAULTY_LIST, 0);
+    LIST_REFUSED(rack_merge_lists(list, 5, list, 5, made_list, 4), RACK_WRONG_BUFFER);
+    LIST_REFUSED(rack_merge_lists(list, 5, list, 5, NULL, 0), RACK_WRONG_BUFFER);
+    LIST_REFUSED(rack_merge_lists(no_changes.words, 1, no_changes.words, 1, NULL, 0), RACK_WRONG_BUFFER);
+}
+
 /* Any words at all: whatever stands in memory and directory, each call returns, and a refused one keeps both. */
 static void any_words(void) {
     uint32_t page[RACK_PAGE_WORDS], pages[PRICES], state = 1;
@@ -639,6 +852,12 @@ int main(void) {
     list_maker();
     list_work_refused();
     marks_of_changes();
+    merged_lists();
+    merged_sets();
+    merged_release();
+    long_merges();
+    too_long_merges();
+    merges_refused();
     any_words();
     return failed;
 }
