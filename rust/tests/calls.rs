@@ -2,11 +2,14 @@
 //! refusal changes nothing.
 
 use bandsawpink::{
-    make_list, mark_changes, old_memory_words, Desk, Directory, Page, Rack, Recovered, Refusal, Stopped,
+    make_list, mark_changes, merge_lists, old_memory_words, Desk, Directory, Page, Rack, Recovered, Refusal, Stopped,
 };
+use std::collections::BTreeMap;
 
 const DESK: Desk = [1, 2, 3, 4, 5, 6, 7, 8];
 const LIST: [u32; 5] = [0x1000_0001, 0x2002_0002, 250, 199, 0xF000_0004];
+const LATER: [u32; 7] = [0x1000_0001, 0x2003_0001, 175, 0x1000_0002, 0x2000_0001, 5, 0xF000_0006];
+const NO_CHANGE: [u32; 1] = [0xF000_0000];
 
 fn page_1() -> Page {
     let mut page = [0; 32];
@@ -94,6 +97,137 @@ fn a_price_set_again_to_what_it_was() {
     assert_eq!(rack.release(2, 1, &DESK, &confirmed), Ok(15));
     let page = rack.fetch(1).unwrap();
     assert_eq!((page[2], page[3]), (0, 199));
+}
+
+#[test]
+fn two_lists_made_one() {
+    let merged = |price| [0x1000_0001, 0x2002_0002, 0xFA, price, 0x1000_0002, 0x2000_0001, 5, 0xF000_0007];
+    assert_eq!(merge_lists(&LIST, &LATER).unwrap(), merged(0xAF));
+    assert_eq!(merge_lists(&LATER, &LIST).unwrap(), merged(0xC7));
+    let price = |run, price| [0x1000_0000, run, price, 0xF000_0003];
+    let one_run = [0x1000_0000, 0x2000_0002, 1, 2, 0xF000_0004];
+    assert_eq!(merge_lists(&price(0x2000_0001, 1), &price(0x2001_0001, 2)).unwrap(), one_run);
+    assert_eq!(merge_lists(&price(0x2001_0001, 2), &price(0x2000_0001, 1)).unwrap(), one_run);
+    for list in [&LIST[..], &LATER, &merged(0xAF), &NO_CHANGE] {
+        assert_eq!(merge_lists(list, &NO_CHANGE).unwrap(), list);
+        assert_eq!(merge_lists(&NO_CHANGE, list).unwrap(), list);
+        assert_eq!(merge_lists(list, list).unwrap(), list);
+    }
+}
+
+/// The merged list shows what the two show one after the other; where its card fails, it shows whole or not at all.
+#[test]
+fn a_merged_list_is_one_release() {
+    let mut one_by_one = rack();
+    assert_eq!(one_by_one.release(1, 1, &DESK, &LIST), Ok(19));
+    assert_eq!(one_by_one.release(1, 2, &DESK, &LATER), Ok(19));
+    let merged = merge_lists(&LIST, &LATER).unwrap();
+    let mut at_once = rack();
+    assert_eq!(at_once.release(1, 1, &DESK, &merged), Ok(23));
+    assert_eq!(at_once.fetch_all(), one_by_one.fetch_all());
+    for (steps, shown) in [(14, rack()), (15, one_by_one)] {
+        let mut rack = rack();
+        rack.open(1, 1, &DESK, &merged).unwrap();
+        rack.steps(1, steps).unwrap();
+        rack.fail(1).unwrap();
+        rack.recover().unwrap();
+        assert_eq!(rack.fetch_all(), shown.fetch_all());
+    }
+}
+
+/// Labels and their prices.
+type Prices = BTreeMap<usize, u32>;
+
+/// The list of these prices, as the list maker makes it.
+fn list_of(prices: &Prices) -> Vec<u32> {
+    let (mut working, mut marks) = ([0; 64 * 32], [0; 64]);
+    for (&label, &price) in prices {
+        working[label] = price;
+        marks[label / 32] |= 1 << (label % 32);
+    }
+    make_list(&working, &working, &marks).unwrap()
+}
+
+/// The first prices and then the second.
+fn then(first: &Prices, second: &Prices) -> Prices {
+    first.iter().chain(second).map(|(&label, &price)| (label, price)).collect()
+}
+
+/// All lists of labels 30 to 33, on two pages, of which 31 has the same price in each: two of them, and three of which
+/// the first two or the last two are merged first.
+#[test]
+fn merged_lists_name_what_either_names() {
+    let set = |bits: usize, hundreds: u32| -> Prices {
+        let labels = (30..34).filter(|label| bits >> (label - 30) & 1 == 1);
+        labels.map(|label| (label, if label == 31 { 7 } else { 100 * hundreds + label as u32 })).collect()
+    };
+    for bits in 0..16 * 16 * 16 {
+        let [a, b, c] = [set(bits & 15, 0), set(bits >> 4 & 15, 1), set(bits >> 8, 2)];
+        let [first, second, third] = [&a, &b, &c].map(list_of);
+        let (first_two, last_two) = (merge_lists(&first, &second).unwrap(), merge_lists(&second, &third).unwrap());
+        assert_eq!(first_two, list_of(&then(&a, &b)));
+        let all = list_of(&then(&then(&a, &b), &c));
+        assert_eq!(merge_lists(&first_two, &third).unwrap(), all);
+        assert_eq!(merge_lists(&first, &last_two).unwrap(), all);
+    }
+}
+
+/// The list of these labels, each at its own number as price.
+fn numbered(labels: impl Iterator<Item = usize>) -> Vec<u32> {
+    list_of(&labels.map(|label| (label, label as u32)).collect())
+}
+
+#[test]
+fn a_merged_list_has_at_most_512_words() {
+    let (even, odd) = (numbered((0..480).step_by(2)), numbered((1..480).step_by(2)));
+    let whole = numbered(0..480);
+    assert_eq!((even.len(), odd.len(), whole.len()), (496, 496, 511));
+    assert_eq!(merge_lists(&even, &odd), Ok(whole));
+
+    // 14 whole pages, and the first words of pages after them
+    let after =
+        |pages: usize, words: usize| numbered((0..pages * words).map(|at| 448 + 32 * (at / words) + at % words));
+    let (most, fits, too_long) = (numbered(0..448), after(5, 5), after(4, 7));
+    assert_eq!((most.len(), fits.len(), too_long.len()), (477, 36, 37));
+    let longest = [&most[..476], &fits[..35], &[0xF000_01FF]].concat();
+    assert_eq!(merge_lists(&most, &fits).as_ref(), Ok(&longest));
+    assert_eq!(merge_lists(&longest, &longest).as_ref(), Ok(&longest));
+    assert_eq!(merge_lists(&most, &too_long), Err(Refusal::ListTooLong));
+
+    let over = [&most[..476], &too_long[..36], &[0xF000_0200]].concat();
+    let (low, high) = (numbered(0..256), numbered(256..512));
+    assert_eq!((over.len(), low.len(), high.len()), (513, 273, 273));
+    for (first, second, refusal) in [
+        (&low[..], &high[..], Refusal::ListTooLong),
+        (&high, &low, Refusal::ListTooLong),
+        (&low, &high[..272], Refusal::FaultyList { word: 272 }),
+        (&low[..272], &high, Refusal::FaultyList { word: 272 }),
+        (&over, &NO_CHANGE, Refusal::FaultyList { word: 512 }),
+        (&low, &over, Refusal::FaultyList { word: 512 }),
+    ] {
+        assert_eq!(merge_lists(first, second), Err(refusal));
+    }
+}
+
+#[test]
+fn refusals_of_a_merge() {
+    let page = |page: u32| [0x1000_0000 | page, 0x201F_0001, 5, 0xF000_0003];
+    assert_eq!(merge_lists(&page(63), &page(63)).unwrap(), page(63));
+    for (first, second, word) in [
+        (&[][..], &LIST[..], 0),
+        (&LIST, &[], 0),
+        (&LIST[..4], &[], 4),
+        (&[], &LIST[..4], 0),
+        (&LIST, &LATER[..6], 6),
+        (&LATER[..6], &LIST[..4], 6),
+        (&page(64), &LIST, 0),
+        (&LIST, &page(64), 0),
+    ] {
+        assert_eq!(merge_lists(first, second), Err(Refusal::FaultyList { word }));
+        // which of the two it is: the first is faulty exactly if this is refused
+        let of_first = Rack::format(3, 64).unwrap().open(1, 1, &DESK, first).err();
+        assert_eq!(merge_lists(first, &NO_CHANGE).err(), of_first);
+    }
 }
 
 #[test]
@@ -342,5 +476,6 @@ fn a_refusal_has_a_number_a_place_and_a_sentence() {
     let refusal = Refusal::NumberUsed { stamp: 7 };
     assert_eq!((refusal.number(), refusal.place()), (5, 7));
     assert_eq!(refusal.to_string(), "the release's number is used: the card's last is 7");
+    assert_eq!((Refusal::ListTooLong.number(), Refusal::ListTooLong.place()), (19, 0));
     assert_eq!((Refusal::StampTooHigh.number(), Refusal::StampTooHigh.place()), (20, 0));
 }
