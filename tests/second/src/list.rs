@@ -5,24 +5,24 @@ use crate::answer::Answer;
 use crate::layout::{LIST_WORDS, PAGE_LIMITS, PAGE_WORDS};
 use crate::refusals::{FAULTY_LIST, OUTSIDE_LIMITS, WRONG_BUFFER};
 
-const PAGE: u32 = 1;
-const RUN: u32 = 2;
+pub const PAGE: u32 = 1;
+pub const RUN: u32 = 2;
 const END: u32 = 15;
 
 /// "A word's top four bits are its kind."
-fn kind(word: u32) -> u32 {
+pub fn kind(word: u32) -> u32 {
     word >> 28
 }
 
-fn low_bits(word: u32) -> u32 {
+pub fn low_bits(word: u32) -> u32 {
     word & 0x0FFF_FFFF
 }
 
-fn run_offset(word: u32) -> u32 {
+pub fn run_offset(word: u32) -> u32 {
     (word >> 16) & 0xFFF
 }
 
-fn run_count(word: u32) -> u32 {
+pub fn run_count(word: u32) -> u32 {
     word & 0xFFFF
 }
 
@@ -244,7 +244,7 @@ fn page_pairs<'a>(working: &'a [u32], twins: &'a [u32]) -> impl Iterator<Item = 
 }
 
 /// The marks of the words in which two pages differ.
-fn differing(new: &[u32], old: &[u32]) -> u32 {
+pub fn differing(new: &[u32], old: &[u32]) -> u32 {
     let words = new.iter().zip(old).enumerate();
     words.fold(0, |marks, (word, (new, old))| marks | u32::from(new != old) << word)
 }
@@ -270,15 +270,19 @@ fn marks_taken_wrong(working: &[u32], twins: &[u32], marks: &[u32]) -> Vec<u32> 
     taken
 }
 
-/// The words of the list that names the marked words: for a page with marks its page
-/// word, a word for each run and "the number of ones in its marks" for the prices; and
-/// the end word.
+/// The words of the list that names the marked words: those of each page, and the end
+/// word.
 fn list_words(marks: &[u32]) -> usize {
-    let of_page = |&marks: &u32| match marks {
+    marks.iter().map(|&marks| page_words(marks)).sum::<u32>() as usize + 1
+}
+
+/// The words of a list on one page: for a page with marks its page word, a word for each
+/// run and "the number of ones in its marks" for the prices.
+pub fn page_words(marks: u32) -> u32 {
+    match marks {
         0 => 0,
         _ => 1 + run_starts(marks).count_ones() + marks.count_ones(),
-    };
-    marks.iter().map(of_page).sum::<u32>() as usize + 1
+    }
 }
 
 /// The marks of the words that begin a run: the word before is not marked.
@@ -303,28 +307,43 @@ fn runs(mut marks: u32) -> impl Iterator<Item = (usize, usize)> {
 
 /// Writes the list of the marked words into a buffer that has room for it.
 fn write_list(working: &[u32], marks: &[u32], buffer: &mut [u32]) {
-    let mut list = Writer { buffer, at: 0 };
+    let mut list = Writer::new(buffer);
     for (page, (&marks, words)) in (0..).zip(marks.iter().zip(working.chunks_exact(PAGE_WORDS))) {
-        if marks != 0 {
-            list.put(&[page_word(page)]);
-        }
-        for (offset, count) in runs(marks) {
-            list.put(&[run_word(offset as u32, count as u32)]);
-            list.put(&words[offset..offset + count]);
-        }
+        list.put_page(page, marks, words);
     }
-    list.put(&[end_word(list.at as u32)]);
+    list.put_end();
 }
 
 /// Puts words into a buffer, one after the other.
-struct Writer<'a> {
+pub struct Writer<'a> {
     buffer: &'a mut [u32],
     at: usize,
 }
 
 impl Writer<'_> {
-    fn put(&mut self, words: &[u32]) {
+    pub fn new(buffer: &mut [u32]) -> Writer<'_> {
+        Writer { buffer, at: 0 }
+    }
+
+    pub fn put(&mut self, words: &[u32]) {
         self.buffer[self.at..][..words.len()].copy_from_slice(words);
         self.at += words.len();
+    }
+
+    /// The marked words of a page; nothing if none is marked. Inlined, so that the list maker
+    /// makes no call for such a page.
+    #[inline(always)]
+    pub fn put_page(&mut self, page: u32, marks: u32, words: &[u32]) {
+        if marks != 0 {
+            self.put(&[page_word(page)]);
+        }
+        for (offset, count) in runs(marks) {
+            self.put(&[run_word(offset as u32, count as u32)]);
+            self.put(&words[offset..offset + count]);
+        }
+    }
+
+    pub fn put_end(&mut self) {
+        self.put(&[end_word(self.at as u32)]);
     }
 }
