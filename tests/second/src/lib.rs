@@ -5,10 +5,10 @@
 //! came later from one that had: `by_reference`, `by_value`, and what these
 //! needed in `calls`, `directory` and `recovery`. The numbers of 64 bits and the
 //! mover are from document 02, "Stamps that outlast the shop", the choice of a new home
-//! is from "New homes shared evenly", and the list maker that takes marks is from "A
-//! price set again to what it was", all again by hands that had not read the Rattle
-//! source. Comments cite document 01 by the titles of its sections and document
-//! 02 by those of its requests.
+//! is from "New homes shared evenly", the list maker that takes marks is from "A price set
+//! again to what it was", and the merging of two lists is from "Two lists made one", all
+//! again by hands that had not read the Rattle source. Comments cite document 01 by the
+//! titles of its sections and document 02 by those of its requests.
 
 #![forbid(unsafe_code)]
 
@@ -21,6 +21,7 @@ mod checks;
 mod directory;
 pub mod layout;
 mod list;
+mod merge;
 pub mod mover;
 pub mod old_layout;
 mod record;
@@ -35,4 +36,5 @@ pub use by_value::{
 };
 pub use directory::{Directory, Status};
 pub use list::{check_list, make_list, mark_changes, prices, Price};
+pub use merge::merge_lists;
 pub use shelfrun::shelfrun;

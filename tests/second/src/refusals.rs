@@ -29,6 +29,8 @@ pub const FAULTY_LIST: u32 = 7;
 pub const WORD_IN_OTHER_RELEASE: u32 = 8;
 /// "A step with no release open."
 pub const NO_RELEASE_OPEN: u32 = 16;
+/// "A result over 512 words" (document 02, "Two lists made one").
+pub const LIST_TOO_LONG: u32 = 19;
 
 // "The reader".
 
