@@ -152,3 +152,13 @@ pub fn mark_changes(working: &[u32], twins: &[u32], marks: &[u32], flush: Flush)
     let given = unsafe { sys::rack_mark_changes(pages, working.len(), twin, twins.len(), mark, marks.len()) };
     reply(given.number, given.value, &marks)
 }
+
+/// Two lists merged: the answer, and the buffer.
+pub fn merge_lists(first: &[u32], second: &[u32], buffer: &[u32], flush: Flush) -> Reply {
+    let [first, second] = [first, second].map(|words| Guarded::read_only(words, flush));
+    let buffer = Guarded::new(buffer, flush);
+    let (one, other, list) = (first.first(), second.first(), buffer.first());
+    // SAFETY: as in `make`.
+    let given = unsafe { sys::rack_merge_lists(one, first.len(), other, second.len(), list, buffer.len()) };
+    reply(given.number, given.value, &buffer)
+}

@@ -19,6 +19,7 @@ pub fn compare_makers(random: &mut Random) -> Result<(), String> {
         |buffer| second::make_list(&working, &twins, &marks, buffer),
         |flush| library::make_list(&working, &twins, &marks, &buffer, flush),
     )
+    .map(drop)
 }
 
 /// The marks of what differs.
@@ -33,15 +34,16 @@ pub fn compare_marks(random: &mut Random) -> Result<(), String> {
         |marks| second::mark_changes(&working, &twins, marks),
         |flush| library::mark_changes(&working, &twins, &marks, flush),
     )
+    .map(drop)
 }
 
-/// A call of both that writes a buffer, which stands beside its answer.
-fn compare(
+/// A call of both that writes a buffer, which stands beside its answer. Gives what both answer.
+pub fn compare(
     call: impl Fn() -> String,
     buffer: &[u32],
     of_second: impl FnOnce(&mut [u32]) -> Answer,
     of_library: impl Fn(Flush) -> Reply,
-) -> Result<(), String> {
+) -> Result<Reply, String> {
     let mut beside = buffer.to_vec();
     let answer = of_second(&mut beside);
     let expected = Reply { answer, beside };
@@ -51,11 +53,11 @@ fn compare(
             return Err(format!("{}: {reply:?}; second implementation {expected:?}", call()));
         }
     }
-    Ok(())
+    Ok(expected)
 }
 
 /// The words of a buffer: few, any, or about as many as the list, or the longest one, has.
-fn room(random: &mut Random, list: Answer) -> u32 {
+pub fn room(random: &mut Random, list: Answer) -> u32 {
     let length = match list {
         Answer::Given(length) => length as u32,
         Answer::Refused(..) => 0,

@@ -2,6 +2,7 @@
 
 use random::Random;
 use second::layout::LIST_WORDS;
+use std::collections::BTreeMap;
 
 /// The most words of a list.
 pub const LIMIT: u32 = LIST_WORDS as u32;
@@ -43,6 +44,27 @@ pub fn of_each_page(random: &mut Random, pages: u32) -> Vec<u32> {
     let mut list = Vec::new();
     for page in 0..pages {
         list.extend([0x1000_0000 | page, 0x2000_0001 | random.below(32) << 16, random.word()]);
+    }
+    list.push(0xF000_0000 | list.len() as u32);
+    list
+}
+
+/// The list of prices by label.
+pub fn of_labels(prices: &BTreeMap<u32, u32>) -> Vec<u32> {
+    let (mut list, mut run, mut before) = (Vec::new(), 0, None);
+    for (&label, &price) in prices {
+        let (page, word) = (label / 32, label % 32);
+        let is_new_page = before.is_none_or(|before| before / 32 != page);
+        if is_new_page {
+            list.push(0x1000_0000 | page);
+        }
+        if is_new_page || before != Some(label - 1) {
+            run = list.len();
+            list.push(0x2000_0000 | word << 16);
+        }
+        list[run] += 1;
+        list.push(price);
+        before = Some(label);
     }
     list.push(0xF000_0000 | list.len() as u32);
     list

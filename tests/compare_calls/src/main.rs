@@ -10,6 +10,7 @@ mod guard;
 mod library;
 mod list_work;
 mod lists;
+mod merges;
 mod moves;
 mod numbers;
 mod orders;
@@ -59,7 +60,8 @@ fn main() -> ExitCode {
 }
 
 /// Half of the calls in lists on formatted racks, a third on damaged ones, the rest of the list maker; chains of
-/// failures, moves and marks of what differs, a sixth as many each, all orders of failures and the sweep come on top.
+/// failures, moves, marks of what differs and merges, a sixth as many each, all orders of failures and the sweep come on
+/// top.
 fn compare(options: &Options) -> Result<String, String> {
     let mut seen = Seen::new();
     let mut random = Random::new(options.seed);
@@ -77,6 +79,7 @@ fn compare(options: &Options) -> Result<String, String> {
     for _ in 0..made {
         list_work::compare_makers(&mut random)?;
         list_work::compare_marks(&mut random)?;
+        merges::compare(&mut random, &mut seen)?;
     }
     if let Some((kind, number)) = seen.missing() {
         return Err(format!("none of the {kind} was answered with {number}"));
@@ -86,7 +89,7 @@ fn compare(options: &Options) -> Result<String, String> {
     Ok(format!(
         "{swept} swept, {ordered} in every order of failures, {chained} in chains of failures and {played} played \
          with the book, {damaged} on damaged racks, {moved} moves, {made} lists made by marks, {made} times \
-         marks of what differs, each flush left and flush right: all equal (seed {})\n\
+         marks of what differs, {made} merges of two lists, each flush left and flush right: all equal (seed {})\n\
          compare_calls: {seen}",
         options.seed
     ))

@@ -8,19 +8,43 @@ use second::Answer;
 use std::fmt;
 use std::ops::RangeInclusive;
 
-/// Calls of one kind, and how often they were answered with each number, 0 for those accepted. The number 18 is
-/// shelfrun's alone, and there is no 19.
-struct Kind {
+/// How often calls of one kind were answered with each number, 0 for those accepted. The number 18 is shelfrun's alone,
+/// 19 is that of merges.
+struct Tally {
     name: &'static str,
-    holds: fn(&Call) -> bool,
     /// The numbers that must be among the answers.
     needed: Vec<u32>,
     answers: [u64; STAMP_TOO_HIGH as usize + 1],
 }
 
+impl Tally {
+    fn new(name: &'static str, needed: impl IntoIterator<Item = u32>) -> Self {
+        Self { name, needed: needed.into_iter().collect(), answers: Default::default() }
+    }
+
+    fn count(&mut self, reply: &Reply) {
+        let number = match reply.answer {
+            Answer::Given(_) => ACCEPTED,
+            Answer::Refused(number, _) => number,
+        };
+        self.answers[number as usize] += 1;
+    }
+
+    /// A number that must be among the answers, and is not.
+    fn missing(&self) -> Option<u32> {
+        self.needed.iter().copied().find(|&number| self.answers[number as usize] == 0)
+    }
+}
+
+/// Calls of racks of one kind.
+struct Kind {
+    holds: fn(&Call) -> bool,
+    tally: Tally,
+}
+
 impl Kind {
     fn new(name: &'static str, needed: impl IntoIterator<Item = u32>, holds: fn(&Call) -> bool) -> Self {
-        Self { name, holds, needed: needed.into_iter().collect(), answers: Default::default() }
+        Self { holds, tally: Tally::new(name, needed) }
     }
 }
 
@@ -29,14 +53,17 @@ fn opens(call: &Call, numbers: RangeInclusive<Number>) -> bool {
     matches!(call, Call::Open { number, .. } if numbers.contains(number))
 }
 
-pub struct Seen(Vec<Kind>);
+pub struct Seen {
+    of_racks: Vec<Kind>,
+    merges: Tally,
+}
 
 impl Seen {
     pub fn new() -> Self {
         let of_opening = [ACCEPTED, NUMBER_USED, NUMBER_AHEAD];
         let of_move_in = [ACCEPTED, LIMITS, UNFIT, RECOVERY_AWAITED, JOIN_WHILE_OPEN];
         let of_move_back = of_move_in.into_iter().chain([STAMP_TOO_HIGH]);
-        Self(vec![
+        let of_racks = vec![
             Kind::new("calls", LIMITS..=WRONG_BUFFER, |call| {
                 !matches!(call, Call::MoveIn { .. } | Call::MoveBack { .. })
             }),
@@ -45,29 +72,34 @@ impl Seen {
             Kind::new("moves back", of_move_back, |call| matches!(call, Call::MoveBack { .. })),
             Kind::new("openings near 2^32", of_opening, |call| opens(call, NEAR_ONE_WORD)),
             Kind::new("openings near 2^64", of_opening, |call| opens(call, NEAR_LAST)),
-        ])
+        ];
+        let merges = Tally::new("merges", [ACCEPTED, FAULTY_LIST, WRONG_BUFFER, LIST_TOO_LONG]);
+        Self { of_racks, merges }
     }
 
     pub fn count(&mut self, call: &Call, reply: &Reply) {
-        let number = match reply.answer {
-            Answer::Given(_) => ACCEPTED,
-            Answer::Refused(number, _) => number,
-        };
-        for kind in self.0.iter_mut().filter(|kind| (kind.holds)(call)) {
-            kind.answers[number as usize] += 1;
+        for kind in self.of_racks.iter_mut().filter(|kind| (kind.holds)(call)) {
+            kind.tally.count(reply);
         }
+    }
+
+    pub fn count_merge(&mut self, reply: &Reply) {
+        self.merges.count(reply);
+    }
+
+    fn tallies(&self) -> impl Iterator<Item = &Tally> {
+        self.of_racks.iter().map(|kind| &kind.tally).chain([&self.merges])
     }
 
     /// A kind of calls, and a number that none of them was answered with, but must be.
     pub fn missing(&self) -> Option<(&str, u32)> {
-        let missing = |kind: &Kind| kind.needed.iter().copied().find(|&number| kind.answers[number as usize] == 0);
-        self.0.iter().find_map(|kind| missing(kind).map(|number| (kind.name, number)))
+        self.tallies().find_map(|tally| tally.missing().map(|number| (tally.name, number)))
     }
 }
 
 impl fmt::Display for Seen {
     fn fmt(&self, f: &mut fmt::Formatter) -> fmt::Result {
         write!(f, "answers by number (0: accepted)")?;
-        self.0.iter().try_for_each(|kind| write!(f, "; {} {:?}", kind.name, kind.answers))
+        self.tallies().try_for_each(|tally| write!(f, "; {} {:?}", tally.name, tally.answers))
     }
 }
