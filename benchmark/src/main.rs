@@ -7,9 +7,9 @@ mod work;
 
 use bandsawpink_sys::layout::old_memory_words;
 use bandsawpink_sys::refusals::ACCEPTED;
-use bandsawpink_sys::{rack_make_list, rack_mark_changes, rack_move_back, rack_move_in};
+use bandsawpink_sys::{rack_make_list, rack_mark_changes, rack_merge_lists, rack_move_back, rack_move_in};
 use measure::{in_turn, Time};
-use racks::{list, spread_list, Rack, PRICES};
+use racks::{list, list_of, spread_list, Rack, PRICES};
 use second::layout::LIST_WORDS;
 use second::{by_reference, Answer};
 use std::hint::black_box;
@@ -131,6 +131,10 @@ fn lists() {
     list_made("list maker, 64 pages, 40 marked words", spread());
     list_made("list maker, 64 pages, 480 marked words on 15 pages", 0..480);
     changes_marked("marks of what differs, 64 pages, 40 words", spread());
+    let (low, high) = (list_of(0..256), list_of(128..384));
+    lists_merged("merge of two lists, each 256 prices on 8 pages, 4 of them in both", &low, &high);
+    let (few, other_few) = (list_of(34..36), list_of([35, 64].into_iter()));
+    lists_merged("merge of two lists, each 2 prices, 1 of them in both", &few, &other_few);
 }
 
 /// Working pages of which the given labels differ from their twins, and the marks of these.
@@ -181,6 +185,21 @@ fn changes_marked(name: &str, labels: impl Iterator<Item = usize>) {
     };
     let mut second = || {
         black_box(second::mark_changes(&working, &twins, black_box(&mut other)));
+    };
+    row_of_list_work(name, &mut proved, &mut second);
+}
+
+/// Two lists made one.
+fn lists_merged(name: &str, one: &[u32], next: &[u32]) {
+    let (mut first, mut other) = (vec![0u32; LIST_WORDS], vec![0u32; LIST_WORDS]);
+    let mut proved = || {
+        let list = black_box(&mut first).as_mut_ptr();
+        // SAFETY: as in `list_made`.
+        let merged = unsafe { rack_merge_lists(one.as_ptr(), one.len(), next.as_ptr(), next.len(), list, LIST_WORDS) };
+        assert_eq!(merged.number, ACCEPTED, "a timed call was refused");
+    };
+    let mut second = || {
+        black_box(second::merge_lists(one, next, black_box(&mut other)));
     };
     row_of_list_work(name, &mut proved, &mut second);
 }

@@ -18,7 +18,8 @@ pub fn spread_list() -> Vec<u32> {
     list_of((0..PRICES).map(|page| 32 * page + 5))
 }
 
-fn list_of(words: impl Iterator<Item = u32>) -> Vec<u32> {
+/// The list of these labels, each its own price. Those of a page follow one another.
+pub fn list_of(words: impl Iterator<Item = u32>) -> Vec<u32> {
     let mut list = Vec::new();
     let words: Vec<u32> = words.collect();
     for run in words.chunk_by(|one, next| one / 32 == next / 32) {
