@@ -306,10 +306,12 @@ fn the_effect_is_the_firsts_and_then_the_seconds() {
     assert!(equal > 10_000 && unequal > 10_000, "{equal} {unequal}");
 }
 
+/// A word more never makes a list shorter: so what is too long in one bracketing is too
+/// long in the other.
 #[test]
 fn either_bracketing_of_three_lists() {
     let mut random = Random::new(10);
-    let (mut accepted, mut refused_lists) = (0, 0);
+    let (mut accepted, mut too_long) = (0, 0);
     for _ in 0..8_000 {
         let first = random_prices(&mut random);
         let second = prices_near(&mut random, &first);
@@ -320,19 +322,16 @@ fn either_bracketing_of_three_lists() {
         let [first, second, third] = [first, second, third].map(|prices| list(&prices));
         let left = merge(&first, &second).and_then(|both| merge(&both, &third));
         let right = merge(&second, &third).and_then(|both| merge(&first, &both));
-        match (left, right) {
-            (Ok(left), Ok(right)) => {
-                assert_eq!(left, right);
-                accepted += 1;
-            }
-            (left, right) => {
-                let too_long = Err(refused(LIST_TOO_LONG));
-                assert!(left == too_long || right == too_long);
-                refused_lists += 1;
+        assert_eq!(left, right);
+        match left {
+            Ok(_) => accepted += 1,
+            Err(refusal) => {
+                assert_eq!(refusal, refused(LIST_TOO_LONG));
+                too_long += 1;
             }
         }
     }
-    assert!(accepted > 4_000 && refused_lists > 200, "{accepted} {refused_lists}");
+    assert!(accepted > 4_000 && too_long > 200, "{accepted} {too_long}");
 }
 
 /// Damaged lists get the refusal of the first that is faulty, by the check of one list.
