@@ -2,7 +2,6 @@
 ghost use Rattle.laws.specs.Prelude.{_≡_, _+_, _*_, _<_, _≤_, length};
 ghost use lib.Seq.{sets};
 ghost use Rattle.diff.specs.Prices.{pricesOf, names, applyPrices};
-ghost use Rattle.diff.specs.Merging.{mergePages};
 ghost use Rattle.reader.specs.WellFormed.{WellFormed};
 ghost use Rattle.merger.specs.Applying.{labelDue, wordsDue, isAmong, MarkedBeside};
 use diff::Cursor;
@@ -23,7 +22,7 @@ fn mark_run(marks: &mut [u32], page: usize, offset: u32, count: u32)
 // Stores a run of prices on a page from an offset on, and marks their words.
 fn apply_run(run: &[u32], page: usize, offset: u32, prices: &mut [u32], marks: &mut [u32])
     requires { ⌜ (page < 64) × (offset + length (now run) ≤ 32) ⌝ }
-    requires { ⌜ (length (now prices) ≡ 2048) × (length (now marks) ≡ 64) ⌝ }
+    requires { ⌜ (32 * page + 32 ≤ length (now prices)) × (page < length (now marks)) ⌝ }
     ensures prices { λ _. ⌜ now (prices .exit)
         ≡ sets (now (prices .entry)) (32 * page + offset) (now (run .entry)) ⌝ }
     ensures marks { λ _. ⌜ MarkedBeside (now (marks .entry))
@@ -47,7 +46,7 @@ fn count_due(list: &[u32], index: usize, s: Cursor) -> usize
 fn apply_due(list: &[u32], index: usize, s: Cursor, prices: &mut [u32], marks: &mut [u32])
     requires { ⌜ WellFormed s ⌝ }
     requires { ⌜ (s .next ≤ 64) × (index ≤ length (now list)) ⌝ }
-    requires { ⌜ (length (now prices) ≡ 2048) × (length (now marks) ≡ 64) ⌝ }
+    requires { ⌜ (32 * s .next ≤ length (now prices)) × (s .next ≤ length (now marks)) ⌝ }
     ensures prices { λ _. ⌜ now (prices .exit)
         ≡ sets (now (prices .entry)) (labelDue s) (wordsDue (now (list .entry)) index s) ⌝ }
     ensures marks { λ _. ⌜ MarkedBeside (now (marks .entry))
@@ -62,18 +61,18 @@ fn apply_due(list: &[u32], index: usize, s: Cursor, prices: &mut [u32], marks: &
     }
 }
 
-// Lays a diff on pages: sets the words that it names to its prices, and marks them.
-pub(crate) fn apply(list: &[u32], prices: &mut [u32], marks: &mut [u32])
-    requires { ⌜ length (now list) ≤ 512 ⌝ }
-    requires { ⌜ (length (now prices) ≡ 2048) × (length (now marks) ≡ 64) ⌝ }
+// Lays a diff on so many pages: sets the words that it names to its prices, and marks them.
+pub(crate) fn apply(list: &[u32], pages: u32, prices: &mut [u32], marks: &mut [u32])
+    requires { ⌜ (length (now list) ≤ 512) × (pages ≤ 64) ⌝ }
+    requires { ⌜ (length (now prices) ≡ 32 * pages) × (length (now marks) ≡ pages) ⌝ }
     ensures prices { λ _. ⌜ now (prices .exit)
-        ≡ applyPrices (pricesOf mergePages (now (list .entry))) (now (prices .entry)) ⌝ }
+        ≡ applyPrices (pricesOf pages (now (list .entry))) (now (prices .entry)) ⌝ }
     ensures marks { λ _. ⌜ MarkedBeside (now (marks .entry))
-        (names (pricesOf mergePages (now (list .entry)))) (now (marks .exit)) ⌝ }
+        (names (pricesOf pages (now (list .entry)))) (now (marks .exit)) ⌝ }
 {
     let mut at = walk::first_word();
     while at.index < list.len() {
         apply_due(list, at.index, at.cursor, prices, marks);
-        at = walk::next_run(list, at, 64);
+        at = walk::next_run(list, at, pages);
     }
 }

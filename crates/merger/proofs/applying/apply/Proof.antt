@@ -1,24 +1,21 @@
 -- `applying::apply` meets its contract. The loop's invariant: what is left of the diff, laid on the pages, gives the whole.
 use Prim.Native.Nat.{_-_}
-use mathlib.Core.Path.{sym, _∙_}
 use native.Mathlib.Omega.{arith}
 use lib.ListN.{length}
 use borrow.Author.Needs.{needs}
-use denote.Ref.{now}
-use Rattle.diff.specs.Merging.{mergePages}
 use Rattle.reader.proofs.Walking.{run-fewer}
 use Rattle.merger.proofs.Laid.{Laid, laid-first, laid-run, laid-prices, laid-marks}
 use Rattle.merger.proofs.applying.apply.Statement.{statement}
 use Rattle.merger.proofs.applying.apply.Tie as tie
 
 abbrev Inv-loop : tie.InvT-loop
-Inv-loop list prices₀ marks₀ at₀ prices marks at = Laid list prices₀ marks₀ prices marks at
+Inv-loop list pages prices₀ marks₀ at₀ prices marks at = Laid pages list prices₀ marks₀ prices marks at
 
 abbrev μ-loop : tie.MeasureT-loop
-μ-loop list prices₀ marks₀ at₀ prices marks at = length list - at .index
+μ-loop list pages prices₀ marks₀ at₀ prices marks at = length list - at .index
 
 loop-holds : tie.Need-loop-holds Inv-loop μ-loop
-loop-holds c = rw (c .first-word .ensures) (laid-first _ _ _)
+loop-holds c = rw (c .first-word .ensures) (laid-first _ _ _ _)
 
 apply-due-requires : tie.Need-apply-due-requires Inv-loop μ-loop
 apply-due-requires c κs =
@@ -27,7 +24,7 @@ apply-due-requires c κs =
     let start = c .before .before .before .before .before .before .before .before .before .pre in
     let few = start .0 in (
       record { within = omega arith; one = omega arith; few = omega arith; named = omega arith },
-      ((omega arith, omega arith), (laid .long ∙ start .1 .0, laid .long-marks ∙ start .1 .1)),
+      ((omega arith, omega arith), (omega (arith, laid .long, start .1 .0), omega (arith, laid .long-marks, start .1 .1))),
     )
 
 next-run-requires : tie.Need-next-run-requires Inv-loop μ-loop
@@ -43,7 +40,7 @@ loop-less : tie.Need-loop-less Inv-loop μ-loop
 loop-less c =
     let at = c .before .before .before .before .before .before .before .before .before .before .loop in
     let list = c .before .before .before .before .before .before .before .before .before .before .before .before .before .before .before .args .list .now in
-    rw (c .next-run .ensures) (run-fewer mergePages list (at .at) (c .before .before .before .before .before .before .before .before .if1 .taken) (at .inv .reached))
+    rw (c .next-run .ensures) (run-fewer _ list (at .at) (c .before .before .before .before .before .before .before .before .if1 .taken) (at .inv .reached))
 
 loop-again : tie.Need-loop-again Inv-loop μ-loop
 loop-again c =

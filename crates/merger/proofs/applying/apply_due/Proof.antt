@@ -43,7 +43,8 @@ apply-run-requires c κs =
     let page = start .pre .1 .0 .0 in
     let named = start .pre .0 .named in
     let taken = c .before .before .before .before .if1 .taken in
-    ((omega arith, rw words (omega (arith, counted))), search needs)
+    let long = start .pre .1 .1 in
+    ((omega arith, rw words (omega (arith, counted))), (omega arith, omega arith))
 
 returns : tie.Need-returns
 returns c =

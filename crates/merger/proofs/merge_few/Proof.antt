@@ -1,0 +1,16 @@
+-- `merger::merge_few` meets its contract: the pages show nothing.
+use mathlib.Core.Path.{refl}
+use native.Mathlib.Omega.{arith}
+use borrow.Author.Needs.{needs}
+use Rattle.merger.proofs.merge_few.Statement.{statement}
+use Rattle.merger.proofs.merge_few.Tie as tie
+
+merge-on-requires : tie.Need-merge-on-requires
+merge-on-requires c κs =
+    let allowed = c .before .before .before .before .before .before .pre in
+    (omega arith, (allowed .0, (allowed .1, (refl, refl))))
+
+pub merge-few-spec : {M : Type 1} → statement M
+merge-few-spec =
+    tie.close
+    (tie.spec (λ c. search needs) (λ c. search needs) merge-on-requires (λ c. search needs) (λ c. search needs))
