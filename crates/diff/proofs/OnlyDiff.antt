@@ -54,7 +54,7 @@ whole-allowed pages diff k whole = rw (whole, zero-add) (rw (le-ltb (length diff
 -- ---- an allowed diff is the encoding of its prices, which ascend
 
 module _ (pages : ℕ) (diff : List ℕ) (allowed : Allowed pages diff) where
-  allowed-reads : Reads pages start 0 diff (pricesOf pages diff)
+  pub allowed-reads : Reads pages start 0 diff (pricesOf pages diff)
   unfolding pricesOf
   allowed-reads =
       let whole = allowed-whole pages diff allowed in

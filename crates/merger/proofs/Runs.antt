@@ -1,24 +1,19 @@
--- The prices that are due in a walk over a list, as a run of labels: what they set and name, and what is left past them.
-use Rattle.laws.proofs.Prelude.{ℕ, zero, suc, _+_, _-_, _*_, _/_, _%_, _≤_, _<_, _≡_, refl, sym, ap, _∙_, List, [], _∷_, _++_}
-use Rattle.laws.proofs.Prelude.{false, _||_, set, arith, decLt, ℕ-discrete, length, getD, take, drop}
-use native.Mathlib.Nat.{add-zero}
+-- What is left of an allowed diff at a word that is no price: a run of labels and the rest, or another page. What a run
+-- sets and names.
+use Rattle.laws.proofs.Prelude.{ℕ, zero, suc, _+_, _-_, _*_, _/_, _%_, _≤_, _<_, _≡_, refl, sym, ap, _∙_, List, []}
+use Rattle.laws.proofs.Prelude.{_∷_, _++_, set, arith, ℕ-discrete, length, take, drop}
 use native.Mathlib.Numerals.{add-one}
-use lib.ListN.{drop-of-length-le, length-take, length-drop}
-use lib.Seq.{sets, drop-cons}
+use lib.Seq.{sets}
 use Rattle.diff.specs.declared.Cursor.{Cursor}
 use Rattle.diff.specs.declared.Price.{Price}
-use Rattle.diff.specs.Reading.{pastPrice}
-use Rattle.diff.specs.Prices.{pricedWord, pricesFrom, names, applyPrices}
+use Rattle.diff.specs.Format.{kind, low, offset, count, pageWord, runWord}
+use Rattle.diff.specs.Reading.{pastPrice, pastPage, pastRun}
+use Rattle.diff.specs.Prices.{pricedWord, names, applyPrices}
 use Rattle.diff.specs.Encoding.{priceAt}
-use Rattle.diff.proofs.Prices.{names-first, names-later, names-none, names-append, apply-append}
+use Rattle.diff.proofs.Derivation.{Reads, reads-end, reads-page, reads-run, reads-price, reads-some}
+use Rattle.diff.proofs.Prices.{names-first, names-later, names-none}
 use Rattle.diff.proofs.Listed.{label-at}
-use Rattle.reader.specs.Runs.{pastPrices}
-use Rattle.reader.specs.declared.walk.Walk.{Walk}
-use Rattle.reader.specs.Walking.{pastRun}
-use Rattle.reader.proofs.Turns.{prices-end, prices-due}
-use Rattle.reader.proofs.Runs.{Due, past-none, past-more, due-later}
-use Rattle.reader.proofs.Walking.{Reached, pricesLeft, left-passed}
-use Rattle.merger.specs.Applying.{labelDue, wordsDue, isAmong}
+use Rattle.merger.specs.Applying.{isAmong}
 use Rattle.merger.proofs.Among.{among, none-among, among-alike}
 
 -- ---- words as the prices of the labels from one on
@@ -60,13 +55,11 @@ run-named (w ∷ ws) label l = elim (ℕ-discrete label l) [
       (λ high. omega arith) (λ end. omega arith)
 ]
 
--- ---- the prices that are due
+-- ---- prices that are due
 
--- n of them are due, on words of a page
-record OnPage (s : Cursor) (n : ℕ) : Type 0 where
-  due : Due s n
-  within : s .word + n ≤ 32
-  named : n ≤ 32 * s .next
+-- the label of the price that is due
+abbrev labelDue : Cursor → ℕ
+labelDue s = 32 * (s .next - 1) + s .word
 
 priced-word : (s : Cursor) (w : ℕ) → s .word < 32 → pricedWord s w ≡ priceAt (labelDue s) w
 priced-word s w within =
@@ -74,108 +67,98 @@ priced-word s w within =
     let word : labelDue s % 32 ≡ s .word = omega arith in
     rw (page, word)
 
-module _ (pages : ℕ) (list : List ℕ) where
-  -- n of them, or as many as the list has, are a run of labels
-  due-run : (n index : ℕ) (s : Cursor) → OnPage s n
-      → pricesFrom pages (drop index list) index s
-      ≡ pricesAt (labelDue s) (take n (drop index list))
-      ++ pricesFrom pages (drop (index + n) list) (index + n) (pastPrices s n)
-  due-run zero index s on = rw (past-none s, add-zero index) none
-    where
-      none : pricesFrom pages (drop index list) index s ≡ pricesAt (labelDue s) [] ++ pricesFrom pages (drop index list) index s
-      none = rw (no-prices (labelDue s))
-  due-run (suc n) index s on =
-      go (decLt index (length list)) (due-run n (index + 1) (pastPrice s) later)
-    where
-      w : ℕ
-      w = getD list index 0
+-- the prices of the n words that are due, and what reads well past them
+record PastDue (pages next label n : ℕ) (ws : List ℕ) (ps : List Price) : Type 0 where
+  there : n ≤ length ws
+  past : Cursor
+  index : ℕ
+  left : List Price
+  idle : past .due ≡ 0
+  same : past .next ≡ next
+  splits : ps ≡ pricesAt label (take n ws) ++ left
+  reads : Reads pages past index (drop n ws) left
 
-      later : OnPage (pastPrice s) n
-      later =
-          record {
-            due = due-later s n (on .due);
-            within = omega (arith, on .within);
-            named = omega (arith, on .named);
-          }
+past-due : {pages : ℕ} {s : Cursor} {index : ℕ} {ws : List ℕ} {ps : List Price} (n : ℕ) → Reads pages s index ws ps
+    → s .due ≡ n → s .word + n ≤ 32 → PastDue pages (s .next) (labelDue s) n ws ps
+past-due {s = s} {index} {ws} {ps} zero reads due fits =
+    record {
+      there = omega arith;
+      past = s;
+      index = index;
+      left = ps;
+      idle = due;
+      same = refl;
+      splits = rw (no-prices (labelDue s));
+      reads = reads;
+    }
+past-due {pages} {s} (suc n) (reads-price {w = w} {ws = ws} {ps = ps} some later) due fits =
+    let rest : PastDue pages (s .next) (labelDue (pastPrice s)) n ws ps =
+    past-due n later (omega arith) (omega arith) in
+    let next : labelDue (pastPrice s) ≡ labelDue s + 1 = omega arith in
+    record {
+      there = omega (arith, rest .there);
+      past = rest .past;
+      index = rest .index;
+      left = rest .left;
+      idle = rest .idle;
+      same = rest .same;
+      splits =
+          ap (λ qs. pricedWord s w ∷ qs) (rest .splits)
+          ∙ rw next (one-more (labelDue s) w (take n ws) (rest .left) (priced-word s w (omega arith)));
+      reads = rest .reads;
+    }
+past-due (suc n) (reads-end none gap) due fits = absurd (omega arith)
+past-due (suc n) (reads-page none gap up fits small later) due within = absurd (omega arith)
+past-due (suc n) (reads-run none named some fits past later) due within = absurd (omega arith)
 
-      next-label : labelDue (pastPrice s) ≡ labelDue s + 1
-      next-label = omega arith
+-- ---- at a word that is no price
 
-      go : Dec (index < length list)
-          → pricesFrom pages (drop (index + 1) list) (index + 1) (pastPrice s)
-          ≡ pricesAt (labelDue (pastPrice s)) (take n (drop (index + 1) list))
-          ++ pricesFrom pages (drop (index + 1 + n) list) (index + 1 + n) (pastPrices (pastPrice s) n)
-          → pricesFrom pages (drop index list) index s
-          ≡ pricesAt (labelDue s) (take (suc n) (drop index list))
-          ++ pricesFrom pages (drop (index + suc n) list) (index + suc n) (pastPrices s (suc n))
-      go (yes more) rest =
-          let after : index + 1 + n ≡ index + suc n = omega arith in
-          let words = drop-cons list index 0 more in
-          prices-due pages list index s more (omega (arith, on .due .many))
-          ∙ ap (λ ps. pricedWord s w ∷ ps) rest
-          ∙ rw (words, after, past-more s n (on .due), ← add-one index, next-label)
-          (one-more (labelDue s) w (take n (drop (index + 1) list)) _ (priced-word s w (omega (arith, on .within))))
-      go (no end) rest =
-          let over : length list ≤ index = omega arith in
-          rw (
-            prices-end pages list index s over,
-            prices-end pages list (index + suc n) (pastPrices s (suc n)) (omega arith),
-            drop-of-length-le list over,
-            no-prices (labelDue s),
-          )
+-- what is left of a diff, runs being for a page, if one was named
+pub data Left (pages page : ℕ) : List ℕ → List Price → Type 0 where
+  over : Left pages page [] []
+  going-on : {s : Cursor} {index : ℕ} {ws : List ℕ} {ps : List Price} → s .due ≡ 0
+      → (0 < s .next → (s .next ≡ page + 1) × (page < pages)) → Reads pages s index ws ps → Left pages page ws ps
 
--- ---- how many they are
+-- a run word: so many prices of the page, and what is left past them
+pub record PastRun (pages page w : ℕ) (ws : List ℕ) (ps : List Price) : Type 0 where
+  pub on : page < pages
+  pub within : offset w + count w ≤ 32
+  pub there : count w ≤ length ws
+  pub left : List Price
+  pub splits : ps ≡ pricesAt (32 * page + offset w) (take (count w) ws) ++ left
+  pub goes-on : Left pages page (drop (count w) ws) left
 
-module _ (list : List ℕ) (index : ℕ) (s : Cursor) (count : ℕ) (all : count ≡ length (wordsDue list index s)) where
-  pub due-bounds : index ≤ length list → (count ≤ s .due) × (index + count ≤ length list)
-  due-bounds inside = rw all (simp (length-take, length-drop) (omega arith, omega arith))
+pub past-run : {pages page w : ℕ} {ws : List ℕ} {ps : List Price} → Left pages page (w ∷ ws) ps → kind w ≡ 2
+    → PastRun pages page w ws ps
+past-run {pages} {page} (going-on none at (reads-run {s = s} {o = o} {n = n} {ws = ws} {ps = ps} idle named some fits past later)) two =
+    let q : runWord o n / 0x10000 ≡ 0x2000 + o = omega arith in
+    let f : offset (runWord o n) ≡ o = rw q (omega arith) in
+    let g : count (runWord o n) ≡ n = omega arith in
+    let label : 32 * page + o ≡ 32 * (s .next - 1) + o = omega (arith, at named .0) in
+    let due : PastDue pages (s .next) (32 * (s .next - 1) + o) n ws ps = past-due n later refl fits in
+    record {
+      on = at named .1;
+      within = rw (f, g) fits;
+      there = rw g (due .there);
+      left = due .left;
+      splits = rw (f, g, label) (due .splits);
+      goes-on = rw g (going-on {s = due .past} (due .idle) (λ more. (due .same ∙ at named .0, at named .1)) (due .reads));
+    }
+past-run (going-on none at (reads-end {index = index} idle gap)) two = absurd (omega arith)
+past-run (going-on none at (reads-page {p = p} idle gap up fits small later)) two = absurd (omega arith)
+past-run (going-on none at (reads-price some later)) two = absurd (omega arith)
 
-  -- they are the words up to there
-  pub due-words : take (index + count - index) (drop index list) ≡ wordsDue list index s
-  due-words =
-      let many : index + count - index ≡ length (wordsDue list index s) = omega arith in
-      rw many (front (s .due) (drop index list))
-    where
-      front : (n : ℕ) (ws : List ℕ) → take (length (take n ws)) ws ≡ take n ws
-      front zero ws = refl
-      front (suc n) [] = refl
-      front (suc n) (w ∷ ws) = ap (λ rest. w ∷ rest) (front n ws)
+-- any other word names the page of the runs that follow, or ends the diff
+pub past-page : {pages page w : ℕ} {ws : List ℕ} {ps : List Price} → Left pages page (w ∷ ws) ps → (kind w ≡ 2 → ⊥)
+    → Left pages (low w) ws ps
+past-page (going-on none at (reads-run {o = o} {n = n} idle named some fits past later)) other = absurd (other (omega arith))
+past-page (going-on none at (reads-end {index = index} idle gap)) other = over
+past-page (going-on none at (reads-page {s = s} {p = p} idle gap up fits small later)) other =
+    let own : low (pageWord p) ≡ p = omega arith in
+    rw own (going-on {s = pastPage s p} refl (λ more. (refl, fits)) later)
+past-page (going-on none at (reads-price some later)) other = absurd (omega arith)
 
--- ---- a turn of the walk
-
-module _ (pages : ℕ) (list : List ℕ) (at : Walk) (inside : at .index < length list)
-    (reached : Reached pages (length list) at) where
-  abbrev run : List ℕ
-  run = wordsDue list (at .index) (at .cursor)
-
-  abbrev left : List Price
-  left = pricesLeft pages list (pastRun pages list at)
-
-  left-run : pricesLeft pages list at ≡ pricesAt (labelDue (at .cursor)) run ++ left
-  unfolding pricesLeft
-  left-run =
-      due-run pages list (at .cursor .due) (at .index) (at .cursor) on
-      ∙ ap (λ ps. pricesAt (labelDue (at .cursor)) run ++ ps) (left-passed pages list at inside reached)
-    where
-      on : OnPage (at .cursor) (at .cursor .due)
-      on =
-          record {
-            due = record { many = omega arith; one = omega arith; ran = omega arith };
-            within = omega arith;
-            named = omega arith;
-          }
-
-  pub applied-turn : (words : List ℕ)
-      → applyPrices (pricesLeft pages list at) words ≡ applyPrices left (sets words (labelDue (at .cursor)) run)
-  applied-turn words =
-      ap (λ ps. applyPrices ps words) left-run
-      ∙ apply-append (pricesAt (labelDue (at .cursor)) run) left words
-      ∙ ap (applyPrices left) (run-applied run (labelDue (at .cursor)) words)
-
-  pub named-turn : (label : ℕ)
-      → names (pricesLeft pages list at) label
-      ≡ (isAmong (labelDue (at .cursor)) (length run) label || names left label)
-  named-turn label =
-      ap (λ ps. names ps label) left-run
-      ∙ names-append (pricesAt (labelDue (at .cursor)) run) left label
-      ∙ rw (run-named run (labelDue (at .cursor)) label)
+-- where no word is left, no price is
+pub none-over : {pages page : ℕ} {ps : List Price} → Left pages page [] ps → ps ≡ []
+none-over over = refl
+none-over (going-on none at reads) = absurd (omega (arith, reads-some reads))

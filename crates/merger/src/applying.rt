@@ -2,10 +2,8 @@
 ghost use Rattle.laws.specs.Prelude.{_≡_, _+_, _*_, _<_, _≤_, length};
 ghost use lib.Seq.{sets};
 ghost use Rattle.diff.specs.Prices.{pricesOf, names, applyPrices};
-ghost use Rattle.reader.specs.WellFormed.{WellFormed};
-ghost use Rattle.merger.specs.Applying.{labelDue, wordsDue, isAmong, MarkedBeside};
-use diff::Cursor;
-use reader::walk;
+ghost use Rattle.diff.specs.OnlyDiff.{Allowed};
+ghost use Rattle.merger.specs.Applying.{isAmong, MarkedBeside};
 
 // Marks so many words of a page from an offset on.
 fn mark_run(marks: &mut [u32], page: usize, offset: u32, count: u32)
@@ -32,47 +30,33 @@ fn apply_run(run: &[u32], page: usize, offset: u32, prices: &mut [u32], marks: &
     mark_run(marks, page, offset, run.len() as u32);
 }
 
-// How many prices of those that are due from an index on the list has.
-fn count_due(list: &[u32], index: usize, s: Cursor) -> usize
-    requires { ⌜ index ≤ length (now list) ⌝ }
-    ensures { λ r. ⌜ r ≡ length (wordsDue (now (list .entry)) index s) ⌝ }
-{
-    let left = list.len() - index;
-    let due = s.due as usize;
-    if left < due { left } else { due }
-}
-
-// Stores the prices that are due from an index on, and marks their words.
-fn apply_due(list: &[u32], index: usize, s: Cursor, prices: &mut [u32], marks: &mut [u32])
-    requires { ⌜ WellFormed s ⌝ }
-    requires { ⌜ (s .next ≤ 64) × (index ≤ length (now list)) ⌝ }
-    requires { ⌜ (32 * s .next ≤ length (now prices)) × (s .next ≤ length (now marks)) ⌝ }
+// Lays an allowed diff on pages, as many as there are words of marks: sets the words that it names
+// to its prices, and marks them. Its words are not checked again: one that is no run names the page
+// of the runs that follow, or ends the diff.
+pub(crate) fn apply(list: &[u32], prices: &mut [u32], marks: &mut [u32])
+    requires { ⌜ length (now marks) ≤ 64 ⌝ }
+    requires { ⌜ Allowed (length (now marks)) (now list) ⌝ }
+    requires { ⌜ length (now prices) ≡ 32 * length (now marks) ⌝ }
     ensures prices { λ _. ⌜ now (prices .exit)
-        ≡ sets (now (prices .entry)) (labelDue s) (wordsDue (now (list .entry)) index s) ⌝ }
+        ≡ applyPrices (pricesOf (length (now (marks .entry))) (now (list .entry)))
+        (now (prices .entry)) ⌝ }
     ensures marks { λ _. ⌜ MarkedBeside (now (marks .entry))
-        (isAmong (labelDue s) (length (wordsDue (now (list .entry)) index s)))
+        (names (pricesOf (length (now (marks .entry))) (now (list .entry))))
         (now (marks .exit)) ⌝ }
 {
-    let count = count_due(list, index, s);
-    if 0 < count {
-        let page = (s.next - 1) as usize;
-        let end = index + count;
-        apply_run(&list[index..end], page, s.word, prices, marks);
-    }
-}
-
-// Lays a diff on so many pages: sets the words that it names to its prices, and marks them.
-pub(crate) fn apply(list: &[u32], pages: u32, prices: &mut [u32], marks: &mut [u32])
-    requires { ⌜ (length (now list) ≤ 512) × (pages ≤ 64) ⌝ }
-    requires { ⌜ (length (now prices) ≡ 32 * pages) × (length (now marks) ≡ pages) ⌝ }
-    ensures prices { λ _. ⌜ now (prices .exit)
-        ≡ applyPrices (pricesOf pages (now (list .entry))) (now (prices .entry)) ⌝ }
-    ensures marks { λ _. ⌜ MarkedBeside (now (marks .entry))
-        (names (pricesOf pages (now (list .entry)))) (now (marks .exit)) ⌝ }
-{
-    let mut at = walk::first_word();
-    while at.index < list.len() {
-        apply_due(list, at.index, at.cursor, prices, marks);
-        at = walk::next_run(list, at, pages);
+    let mut page: usize = 0;
+    let mut index: usize = 0;
+    while index < list.len() {
+        let word = list[index];
+        let next = index + 1;
+        if word / 0x10000000 == 2 {
+            let offset = word / 0x10000 % 0x1000;
+            let end = next + (word % 0x10000) as usize;
+            apply_run(&list[next..end], page, offset, prices, marks);
+            index = end;
+        } else {
+            page = (word % 0x10000000) as usize;
+            index = next;
+        }
     }
 }

@@ -44,9 +44,8 @@ fn merge_on(
     ensures written { λ _. ⌜ now (buffer .exit)
         ≡ mergedBuffer (now (first .entry)) (now (second .entry)) (now (buffer .entry)) ⌝ }
 {
-    let pages = marks.len() as u32;
-    applying::apply(first, pages, prices, marks);
-    applying::apply(second, pages, prices, marks);
+    applying::apply(first, prices, marks);
+    applying::apply(second, prices, marks);
     encoder::write_marked(prices, marks, answer::LIST_TOO_LONG, buffer)
 }
 

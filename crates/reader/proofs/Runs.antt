@@ -26,7 +26,7 @@ pub record Due (s : Cursor) (n : ℕ) : Type 0 where
   pub one : s .gap ≤ 1
   pub ran : s .due ≤ 32 * s .gap
 
-pub past-none : (s : Cursor) → pastPrices s 0 ≡ s
+past-none : (s : Cursor) → pastPrices s 0 ≡ s
 past-none s = rw (add-zero (s .word), add-zero (s .prices), sub-zero (s .due))
 
 same-cursor : {next next′ word word′ gap gap′ due due′ prices prices′ : ℕ} → next ≡ next′ → word ≡ word′
@@ -35,10 +35,10 @@ same-cursor : {next next′ word word′ gap gap′ due due′ prices prices′ 
     (record { next = next′; word = word′; gap = gap′; due = due′; prices = prices′ })
 same-cursor a b c d e = cc
 
-pub past-more : (s : Cursor) (n : ℕ) → Due s (suc n) → pastPrices (pastPrice s) n ≡ pastPrices s (suc n)
+past-more : (s : Cursor) (n : ℕ) → Due s (suc n) → pastPrices (pastPrice s) n ≡ pastPrices s (suc n)
 past-more s n due = same-cursor refl (omega arith) (omega arith) (omega arith) (omega arith)
 
-pub due-later : (s : Cursor) (n : ℕ) → Due s (suc n) → Due (pastPrice s) n
+due-later : (s : Cursor) (n : ℕ) → Due s (suc n) → Due (pastPrice s) n
 due-later s n due = record { many = omega arith; one = omega arith; ran = omega arith }
 
 module _ (pages : ℕ) (list : List ℕ) where
