@@ -1,12 +1,13 @@
 -- The theorems on merged diffs: what merging two gives and answers, for three in either bracketing, and for the diff that
 -- changes nothing.
-use Rattle.laws.proofs.Prelude.{ℕ, _*_, _≤_, _<_, _≡_, refl, sym, ap, _∙_, List, [], Bool, true, false, _||_, arith}
+use Rattle.laws.proofs.Prelude.{ℕ, _*_, _≤_, _<_, _≡_, refl, sym, ap, _∙_, List, arith}
 use Rattle.laws.proofs.Prelude.{decLt, length}
+use Rattle.laws.proofs.Bools.{or-assoc}
 use Rattle.answer.specs.Outcome.{given, listTooLong}
 use Rattle.diff.specs.Format.{mostWords}
 use Rattle.diff.specs.Reading.{wordStep, readFrom, checkDiff}
 use Rattle.diff.specs.Prices.{Price, pricesFrom, pricesOf, names, appliedAt, applyPrices}
-use Rattle.diff.specs.Encoding.{listed, encode}
+use Rattle.diff.specs.Encoding.{encode}
 use Rattle.diff.specs.Room.{roomFor}
 use Rattle.diff.specs.OnlyDiff.{Allowed}
 use Rattle.diff.specs.Merging.{mergePages, eitherNames, lastPrice, mergedDiff, mergeDiffs}
@@ -77,10 +78,6 @@ answers-merges first second buffer =
     }
 
 -- ---- three diffs
-
-or-assoc : (x y z : Bool) → ((x || y) || z) ≡ (x || (y || z))
-or-assoc true y z = refl
-or-assoc false y z = refl
 
 abbrev prices : List ℕ → List Price
 prices = pricesOf mergePages

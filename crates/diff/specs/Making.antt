@@ -32,8 +32,8 @@ lentMarked working twins marks = lentPages working twins && eqb (32 * marks) wor
 -- looked at, only their number.
 unfoldable pub makeDiff : List ℕ → List ℕ → List ℕ → ℕ → Outcome
 makeDiff working twins marks room =
-    cond (lentMarked (length working) (length twins) (length marks)) (roomFor wrongBuffer (length (madeDiff working marks)) room)
-    (refused limits)
+    cond (lentMarked (length working) (length twins) (length marks))
+    (roomFor wrongBuffer (length (madeDiff working marks)) room) (refused limits)
 
 -- the buffer after it
 abbrev pub bufferAfter : List ℕ → List ℕ → List ℕ → List ℕ → List ℕ

@@ -48,7 +48,7 @@ pub fn write_diff(prices: &[u32], marks: &[u32], words: usize, list: &mut [u32])
 }
 
 // Writes the diff of the marked words to the front of a buffer: gives its length, or refuses it, by
-// the number that the caller has for a list over 512 words, or by 17 for a buffer that is too short.
+// the number that the caller has for a list over 512 words, or by 17 where the buffer is too short.
 // The diff is sized before a word is written, so that a refusal changes none.
 pub fn write_marked(prices: &[u32], marks: &[u32], over: u32, buffer: &mut [u32]) -> Answer
     requires { ⌜ length (now marks) ≤ 64 ⌝ }

@@ -4,7 +4,7 @@ use Prim.Native.Nat.{max}
 use native.Mathlib.Nat.{pow-suc, suc-add, zero-add, one-mul}
 use lib.Bits.{bitOr, or-step}
 use lib.Pow.{pow-pos, pow-mono, shl-exact}
-use Rattle.diff.specs.Marks.{bit, isSet}
+use Rattle.diff.specs.Marks.{isSet}
 use Rattle.diff.proofs.Bits.{bit-half, bit-first, none-set}
 use Rattle.merger.specs.Applying.{isAmong}
 use Rattle.merger.proofs.Among.{among, below, past, among-alike}
@@ -52,7 +52,8 @@ one-first count = rw zero-add (omega (arith, pow-suc 2 count, pow-pos count))
 
 pub ones-set : (offset count w : ℕ) → isSet (onesFrom offset count) w ≡ isAmong offset count w
 ones-set (suc offset) count zero =
-    rw (bit-first (onesFrom (suc offset) count), later-first offset count) (sym (below (suc offset) count 0 (omega arith)))
+    rw (bit-first (onesFrom (suc offset) count), later-first offset count)
+    (sym (below (suc offset) count 0 (omega arith)))
 ones-set (suc offset) count (suc w) =
     rw (← bit-half (onesFrom (suc offset) count) w, later-half offset count)
     (ones-set offset count w

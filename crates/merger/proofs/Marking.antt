@@ -1,22 +1,13 @@
 -- Words marked beside others: a run of a page, one test after the other, and nothing.
-use Rattle.laws.proofs.Prelude.{ℕ, _+_, _*_, _/_, _%_, _≤_, _<_, _≡_, _≢_, refl, sym, _∙_, List, Bool, true, false, _||_}
+use Rattle.laws.proofs.Prelude.{ℕ, _+_, _*_, _/_, _%_, _≤_, _<_, _≡_, _≢_, sym, _∙_, List, Bool, false, _||_}
 use Rattle.laws.proofs.Prelude.{arith, ℕ-discrete, decLt, length, getD, set}
+use Rattle.laws.proofs.Bools.{or-none, or-assoc}
 use lib.Bits.{bitOr}
 use lib.Seq.{getD-set-same, getD-set-other}
-use Rattle.diff.specs.Marks.{isSet, isMarked}
+use Rattle.diff.specs.Marks.{isMarked}
 use Rattle.merger.specs.Applying.{isAmong, MarkedBeside}
 use Rattle.merger.proofs.Among.{below, past, among-alike}
 use Rattle.merger.proofs.Bits.{set-in-either, onesFrom, ones-set}
-
--- ---- laws of `||`
-
-or-none : (x : Bool) → (x || false) ≡ x
-or-none true = refl
-or-none false = refl
-
-or-assoc : (x y z : Bool) → ((x || y) || z) ≡ (x || (y || z))
-or-assoc true y z = refl
-or-assoc false y z = refl
 
 -- ---- tests
 
@@ -32,7 +23,8 @@ pub marked-part : (marks after : List ℕ) (named : ℕ → Bool) (label : ℕ) 
 marked-part marks after named label left whole beside all =
     rw (beside .each label, all) (or-assoc (isMarked marks label) (named label) left)
 
-pub none-left : (marks : List ℕ) (label : ℕ) (left : Bool) → left ≡ false → (isMarked marks label || left) ≡ isMarked marks label
+pub none-left : (marks : List ℕ) (label : ℕ) (left : Bool) → left ≡ false
+    → (isMarked marks label || left) ≡ isMarked marks label
 none-left marks label left none = rw none (or-none (isMarked marks label))
 
 -- ---- a run of a page

@@ -1,5 +1,5 @@
 -- Two diffs laid on pages that show nothing, the second over the first: the diff of the marked words is the merged one.
-use Rattle.laws.proofs.Prelude.{ℕ, _*_, _/_, _%_, _≤_, _<_, _≡_, refl, sym, ap, _∙_, List, Bool, false, _||_, arith, decLt}
+use Rattle.laws.proofs.Prelude.{ℕ, _*_, _/_, _%_, _≤_, _<_, _≡_, sym, ap, _∙_, List, false, arith, decLt}
 use Rattle.laws.proofs.Prelude.{length, getD, replicate}
 use lib.ListN.{length-replicate, getD-replicate, List·getD-eq-default}
 use Rattle.answer.specs.Outcome.{listTooLong}
@@ -10,7 +10,7 @@ use Rattle.diff.specs.Merging.{eitherNames, lastPrice, mergedDiff, mergeDiffs}
 use Rattle.diff.specs.Room.{roomFor}
 use Rattle.diff.specs.declared.Price.{Price}
 use Rattle.diff.specs.Prices.{pricesOf, names, appliedAt, applyPrices}
-use Rattle.diff.specs.Encoding.{encode, listed}
+use Rattle.diff.specs.Encoding.{encode}
 use Rattle.diff.proofs.Bits.{none-set}
 use Rattle.diff.proofs.Listed.{listed-agree}
 use Rattle.diff.proofs.OnlyDiff.{more-allowed}

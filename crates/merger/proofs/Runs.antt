@@ -7,7 +7,7 @@ use lib.Seq.{sets}
 use Rattle.diff.specs.declared.Cursor.{Cursor}
 use Rattle.diff.specs.declared.Price.{Price}
 use Rattle.diff.specs.Format.{kind, low, offset, count, pageWord, runWord}
-use Rattle.diff.specs.Reading.{pastPrice, pastPage, pastRun}
+use Rattle.diff.specs.Reading.{pastPrice, pastPage}
 use Rattle.diff.specs.Prices.{pricedWord, names, applyPrices}
 use Rattle.diff.specs.Encoding.{priceAt}
 use Rattle.diff.proofs.Derivation.{Reads, reads-end, reads-page, reads-run, reads-price, reads-some}
@@ -130,7 +130,8 @@ pub record PastRun (pages page w : ℕ) (ws : List ℕ) (ps : List Price) : Type
 
 pub past-run : {pages page w : ℕ} {ws : List ℕ} {ps : List Price} → Left pages page (w ∷ ws) ps → kind w ≡ 2
     → PastRun pages page w ws ps
-past-run {pages} {page} (going-on none at (reads-run {s = s} {o = o} {n = n} {ws = ws} {ps = ps} idle named some fits past later)) two =
+past-run {pages} {page} (going-on {s = s} {ps = ps} none at (reads-run {o = o} {n = n} {ws = ws} _ named _ fits _ later))
+    two =
     let q : runWord o n / 0x10000 ≡ 0x2000 + o = omega arith in
     let f : offset (runWord o n) ≡ o = rw q (omega arith) in
     let g : count (runWord o n) ≡ n = omega arith in
@@ -151,7 +152,7 @@ past-run (going-on none at (reads-price some later)) two = absurd (omega arith)
 -- any other word names the page of the runs that follow, or ends the diff
 pub past-page : {pages page w : ℕ} {ws : List ℕ} {ps : List Price} → Left pages page (w ∷ ws) ps → (kind w ≡ 2 → ⊥)
     → Left pages (low w) ws ps
-past-page (going-on none at (reads-run {o = o} {n = n} idle named some fits past later)) other = absurd (other (omega arith))
+past-page (going-on none at (reads-run {o = o} {n = n} _ _ some fits _ _)) other = absurd (other (omega arith))
 past-page (going-on none at (reads-end {index = index} idle gap)) other = over
 past-page (going-on none at (reads-page {s = s} {p = p} idle gap up fits small later)) other =
     let own : low (pageWord p) ≡ p = omega arith in

@@ -13,7 +13,8 @@ returns c =
     let args = c .before .before .before .before .before .before .args in
     let passed = sym (ap (λ o. o .number) checked) ∙ c .before .if1 .taken in
     c .check2 .ensures
-    ∙ sym (first-passes (checkDiff (args .pages) (now (args .first))) (checkDiff (args .pages) (now (args .second))) passed)
+    ∙ sym
+    (first-passes (checkDiff (args .pages) (now (args .first))) (checkDiff (args .pages) (now (args .second))) passed)
 
 returns-2 : tie.Need-returns-2
 returns-2 c =

@@ -11,43 +11,52 @@ use Rattle.merger.proofs.merge_on.Tie as tie
 
 apply-requires : tie.Need-apply-requires
 apply-requires c κs =
-    let pre = c .before .before .before .before .before .before .before .pre in
-    let pages = length (now (c .before .before .before .before .before .before .before .args .marks)) in
-    (pre .0, (pre .1 .0, ap length (pre .1 .1 .1 .0) ∙ length-zeros (32 * pages)))
+    let start = c .before .before .before .before .before .before .before in
+    let pre = start .pre in
+    let long = ap length (pre .1 .1 .1 .0) ∙ length-zeros (32 * length (now (start .args .marks))) in
+    (pre .0, (pre .1 .0, long))
 
 apply-requires-2 : tie.Need-apply-requires-2
 apply-requires-2 c κs =
-    let pre = c .before .before .before .before .before .before .before .before .before .before .before .before .before .before .pre in
-    let pages = length (now (c .before .before .before .before .before .before .before .before .before .before .before .before .before .before .args .marks)) in
-    let one = c .before .before .before .before .before .before .apply in
-    let same : length (one .last .1 .1 .0) ≡ pages = search needs in
-    let long = ap length (one .ensures .0) ∙ length-apply _ _ ∙ ap length (pre .1 .1 .1 .0) ∙ length-zeros (32 * pages) in
+    let called = c .before .before .before .before .before .before in
+    let start = called .before .before .before .before .before .before .before .before in
+    let pre = start .pre in
+    let pages = length (now (start .args .marks)) in
+    let same : length (called .apply .last .1 .1 .0) ≡ pages = search needs in
+    let long =
+    ap length (called .apply .ensures .0) ∙ length-apply _ _ ∙ ap length (pre .1 .1 .1 .0)
+    ∙ length-zeros (32 * pages) in
     rw same (pre .0, (pre .1 .1 .0, long))
 
 write-marked-requires : tie.Need-write-marked-requires
 write-marked-requires c κs =
-    let pre = c .before .before .before .before .before .before .before .before .before .before .before .before .before .before .before .before .before .before .before .before .before .before .pre in
-    let pages = length (now (c .before .before .before .before .before .before .before .before .before .before .before .before .before .before .before .before .before .before .before .before .before .before .args .marks)) in
-    let one = c .before .before .before .before .before .before .before .before .before .before .before .before .before .before .apply in
-    let two = c .before .before .before .before .before .before .before .apply2 in
-    let same : length (two .last .1 .1 .0) ≡ pages = search needs in
+    let called = c .before .before .before .before .before .before .before in
+    let before = called .before .before .before .before .before .before .before in
+    let start = before .before .before .before .before .before .before .before .before in
+    let pre = start .pre in
+    let pages = length (now (start .args .marks)) in
+    let same : length (called .apply2 .last .1 .1 .0) ≡ pages = search needs in
     let long =
-    ap length (two .ensures .0) ∙ length-apply _ _ ∙ ap length (one .ensures .0) ∙ length-apply _ _
-    ∙ ap length (pre .1 .1 .1 .0) ∙ length-zeros (32 * pages) in
+    ap length (called .apply2 .ensures .0) ∙ length-apply _ _ ∙ ap length (before .apply .ensures .0)
+    ∙ length-apply _ _ ∙ ap length (pre .1 .1 .1 .0) ∙ length-zeros (32 * pages) in
     rw same (pre .0, (long, search needs))
 
 returns : tie.Need-returns
 returns c =
-    let args = c .before .before .before .before .before .before .before .before .before .before .before .before .before .before .before .before .before .before .before .before .before .before .before .before .before .args in
-    let pre = c .before .before .before .before .before .before .before .before .before .before .before .before .before .before .before .before .before .before .before .before .before .before .before .before .before .pre in
+    let called = c .before .before .before .before .before .before .before .before .before .before in
+    let before = called .before .before .before .before .before .before .before in
+    let start = before .before .before .before .before .before .before .before .before in
+    let args = start .args in
+    let pre = start .pre in
     let pages = length (now (args .marks)) in
-    let one = c .before .before .before .before .before .before .before .before .before .before .before .before .before .before .before .before .before .apply in
-    let same : length (one .last .1 .1 .0) ≡ pages = search needs in
-    let laid = one .ensures in
-    let laid′ = rw same at (c .before .before .before .before .before .before .before .before .before .before .apply2 .ensures) in
-    let merged = laid-merged pages (pre .0) (now (args .first)) (now (args .second)) (pre .1 .0) (pre .1 .1 .0) _ _ _ _
-    _ _ (pre .1 .1 .1 .0) (pre .1 .1 .1 .1) (laid .0) (laid′ .0) (laid .1) (laid′ .1) in
-    let sized = sized-on pages (pre .0) (now (args .first)) (now (args .second)) (pre .1 .0) (pre .1 .1 .0)
+    let same : length (before .apply .last .1 .1 .0) ≡ pages = search needs in
+    let laid = before .apply .ensures in
+    let laid′ = rw same at (called .apply2 .ensures) in
+    let merged =
+    laid-merged pages (pre .0) (now (args .first)) (now (args .second)) (pre .1 .0) (pre .1 .1 .0) _ _ _ _ _ _
+    (pre .1 .1 .1 .0) (pre .1 .1 .1 .1) (laid .0) (laid′ .0) (laid .1) (laid′ .1) in
+    let sized =
+    sized-on pages (pre .0) (now (args .first)) (now (args .second)) (pre .1 .0) (pre .1 .1 .0)
     (length (now (args .buffer))) in
     rw sized (rw (← merged) (c .before .before .write-marked .ensures))
 
