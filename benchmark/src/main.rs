@@ -133,6 +133,8 @@ fn lists() {
     changes_marked("marks of what differs, 64 pages, 40 words", spread());
     let (low, high) = (list_of(0..256), list_of(128..384));
     lists_merged("merge of two lists, each 256 prices on 8 pages, 4 of them in both", &low, &high);
+    let (low, high) = (list_of(1664..1920), list_of(1792..2048));
+    lists_merged("the same on the last 12 of 64 pages", &low, &high);
     let (few, other_few) = (list_of(34..36), list_of([35, 64].into_iter()));
     lists_merged("merge of two lists, each 2 prices, 1 of them in both", &few, &other_few);
 }

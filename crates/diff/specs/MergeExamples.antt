@@ -59,6 +59,7 @@ mergeExamples =
     ∷ computed (merged noChange noChange 2) (0 ∷ 1 ∷ 0xF0000000 ∷ 7 ∷ [])
     -- page 63 is the last, whatever a rack has: page 64 is faulty in either list
     ∷ computed (answered (0x1000003F ∷ 0x201F0001 ∷ 5 ∷ 0xF0000003 ∷ []) noChange 4) (0 ∷ 4 ∷ [])
+    ∷ computed (answered (0x10000040 ∷ 0x201F0001 ∷ 5 ∷ 0xF0000003 ∷ []) noChange 4) (7 ∷ 0 ∷ [])
     ∷ computed (answered noChange (0x10000040 ∷ 0x201F0001 ∷ 5 ∷ 0xF0000003 ∷ []) 4) (7 ∷ 0 ∷ [])
     -- 7 with its place in the list that has it: the first looked at first, both before the buffer
     ∷ computed (merged [] noChange 1) (7 ∷ 0 ∷ 7 ∷ [])
