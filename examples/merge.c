@@ -36,7 +36,7 @@ static int make(int which, uint32_t first, uint32_t last, uint32_t price) {
 /* Releases a list through a card, under the card's next number. */
 static int release(const uint32_t *list, size_t length) {
     static uint64_t number = 0;
-    const uint32_t desk[RACK_DESK_WORDS] = { 7 };
+    const uint32_t desk[RACK_DESK_WORDS] = { 7, 7, 7, 7, 7, 7, 7, 7 };
     rack_answer opened = rack_open(memory, words, &directory, CARD, ++number, desk, list, length);
     if (opened.number != RACK_ACCEPTED) return 0;
     uint32_t steps = rack_steps(memory, words, &directory, CARD, UINT32_MAX).made;

@@ -94,10 +94,12 @@
 **     answer = rack_open(memory, words, &directory, 1, 2, desk, merged, answer.value);
 **     if (answer.number != RACK_ACCEPTED) return refuse(answer);
 **     rack_steps(memory, words, &directory, 1, UINT32_MAX);
+**     answer = rack_fetch(memory, words, &directory, 1, page, RACK_PAGE_WORDS);
+**     if (answer.number != RACK_ACCEPTED) return refuse(answer);
 **
-** and words 2 and 3 of page 1 are 250 and 199. A merge that is refused with RACK_LIST_TOO_LONG
-** leaves both lists as they are: the older one is released by itself. A rack that was stored in the
-** old form is moved once it is loaded:
+** and page[2] is 250 and page[3] is 199. A merge that is refused with RACK_LIST_TOO_LONG leaves
+** both lists as they are: the older one is released by itself. A rack that was stored in the old
+** form is moved once it is loaded:
 **
 **     uint32_t old_memory[RACK_OLD_MEMORY_WORDS(3, 4)];
 **     size_t old_words = RACK_OLD_MEMORY_WORDS(3, 4);
@@ -414,14 +416,20 @@ rack_answer rack_mark_changes(const uint32_t *working, size_t working_words, con
 ** effect of the merged list on any pages is the first's and then the second's: it names what either
 ** names, at the second's price where the second names it. A word that both name at the same price
 ** stays named. The merged list is the one that the rules allow for these words and prices: runs
-** that touch become one. Pages go to 63, whatever a rack has; a rack whose pages allow both lists
-** allows the merged one. It goes out as one release, under one number: either it shows whole or not
-** at all.
+** that touch become one. Pages go to 63, whatever a rack has: a list that names page 10 is merged,
+** and a rack of 4 pages refuses it with 7 when it is opened. A rack that allows both lists allows
+** the merged one. It goes out as one release, under one number: either it shows whole or not at
+** all.
+**
+** Merge lists that were never sent. One that was sent and got no answer may be open, or count
+** already: a list merged with it is then refused with 4 or 5 under its number, which does not say
+** that the other list's prices have arrived.
 **
 ** The list of no change, 0xF0000000, changes nothing on either side: the merged list is the other.
 ** Of three lists, the first two may be merged first or the last two: the list is the same, where
 ** all the merges are accepted. The buffer overlaps neither list: a third list is merged from one
-** buffer into another. Gives the length of the merged list; words of the buffer past it are kept.
+** buffer into another. The two lists may be one and the same. Gives the length of the merged list;
+** words of the buffer past it are kept.
 **
 ** Refusals: 7 of the first list, 7 of the second, 19, 17. The place of 7 is one in the faulty list,
 ** and the answer does not say which of the two that is. To tell, merge the first with the list of

@@ -715,6 +715,7 @@ static void merged_release(void) {
     EXPECT(one_by_one[34] == 250 && one_by_one[35] == 175 && one_by_one[64] == 5);
     format();
     rack_answer merged = rack_merge_lists(list, 5, later, 7, made_list, RACK_LIST_WORDS);
+    ACCEPTED(merged);
     ACCEPTED(rack_open(memory, WORDS, &directory, 1, 1, desk, made_list, (size_t)merged.value));
     ACCEPTED(rack_steps(memory, WORDS, &directory, 1, 23));
     ACCEPTED(rack_fetch_all(memory, WORDS, &directory, at_once, PRICES));
@@ -765,7 +766,7 @@ static void too_long_merges(void) {
     LIST_REFUSED(merge(&low, &high, 600), RACK_LIST_TOO_LONG);
     LIST_REFUSED(merge(&high, &low, RACK_LIST_WORDS), RACK_LIST_TOO_LONG);
     LIST_REFUSED(merge(&low, &high, 272), RACK_LIST_TOO_LONG); /* 19 before 17 */
-    EXPECT(rack_merge_lists(low.words, 273, high.words, 273, NULL, 0).number == RACK_LIST_TOO_LONG);
+    LIST_REFUSED(rack_merge_lists(low.words, 273, high.words, 273, NULL, 0), RACK_LIST_TOO_LONG);
     LIST_REFUSED_AT(merge(&low, &cut, 600), RACK_FAULTY_LIST, 272); /* 7 before 19 */
     LIST_REFUSED_AT(merge(&cut, &low, 600), RACK_FAULTY_LIST, 272);
 }

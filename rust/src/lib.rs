@@ -1,7 +1,7 @@
 //! A price rack whose behaviour is proved: 3 to 8 cards, 1 to 64 pages of 32 prices, each page on two
 //! cards. A [`Rack`] owns its memory and directory; every call answers what the rack's specification
 //! defines, and one that is refused has changed nothing (but see [`Stopped`]). `include/bandsawpink.h`
-//! is the manual.
+//! is the manual. [`make_list`], [`mark_changes`] and [`merge_lists`] make lists of changes and look at no rack.
 
 mod refusal;
 
@@ -297,16 +297,19 @@ pub fn mark_changes(working: &[u32], twins: &[u32]) -> Result<Vec<u32>, Refusal>
 
 /// Two lists of changes made one, for a desk with poor radio that has several waiting. Its effect on any pages is the
 /// first's and then the second's: it names what either names, at the second's price where the second names it. A word
-/// that both name at the same price stays named. Pages go to 63, whatever a rack has; a rack whose pages allow both
-/// lists allows the merged one.
+/// that both name at the same price stays named. Runs that touch become one: the merged list is the only allowed one
+/// with this effect. Pages go to 63, whatever a rack has; a rack that allows both lists allows the merged one.
 ///
 /// Refused with [`Refusal::FaultyList`] for a fault of the first list, then for one of the second, then with
 /// [`Refusal::ListTooLong`] if the merged list would have over 512 words: the first list is released by itself then.
 ///
 /// The list of no change, `[0xF000_0000]`, changes nothing on either side. Nothing says which of the two lists has the
-/// fault: to tell, merge the first with the list of no change, which is refused exactly if the first is faulty.
+/// fault: to tell, merge the first with the list of no change; that is refused exactly if the first is faulty. Of three
+/// lists, the first two may be merged first or the last two: the list is the same, where all the merges are accepted.
 ///
-/// The merged list goes out as one release, under one number: either it shows whole or not at all.
+/// The merged list goes out as one release, under one number: either it shows whole or not at all. Merge lists that
+/// were never sent: one that was sent and got no answer may be open, or count already, and under its number the merged
+/// list is then refused with [`Refusal::ReleaseOpen`] or [`Refusal::NumberUsed`].
 ///
 /// ```
 /// use bandsawpink::{merge_lists, Rack, Refusal};

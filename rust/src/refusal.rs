@@ -15,7 +15,7 @@ pub enum Refusal {
         stamp: u64,
     },
     NumberAhead,
-    /// The first word of the list that breaks a rule.
+    /// The first word of the list that breaks a rule; of two lists to be merged, in the first if that is faulty.
     FaultyList {
         word: u64,
     },
