@@ -104,7 +104,7 @@ module _ (pages : ℕ) (few : pages ≤ 64) (first second : List ℕ) (allowed :
     merged-diff-of : DiffOf pages (eitherNames p q) (lastPrice p q) merged
     merged-diff-of = rw merged-listed (one .is-diff-of short-listed)
 
-    pub merged-names : (label : ℕ) → names (pricesOf pages merged) label ≡ eitherNames p q label
+    merged-names : (label : ℕ) → names (pricesOf pages merged) label ≡ eitherNames p q label
     merged-names label = elim (decLt label (32 * pages)) [
       | yes below ↦ merged-diff-of .names-these label below
       | no past ↦

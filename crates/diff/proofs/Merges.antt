@@ -2,7 +2,7 @@
 -- changes nothing.
 use Rattle.laws.proofs.Prelude.{ℕ, _*_, _≤_, _<_, _≡_, refl, sym, ap, _∙_, List, arith}
 use Rattle.laws.proofs.Prelude.{decLt, length}
-use Rattle.laws.proofs.Bools.{or-assoc}
+use mathlib.Core.Bool.{or-assoc}
 use Rattle.answer.specs.Outcome.{given, listTooLong}
 use Rattle.diff.specs.Format.{mostWords}
 use Rattle.diff.specs.Reading.{wordStep, readFrom, checkDiff}

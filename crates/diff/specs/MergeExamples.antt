@@ -2,9 +2,10 @@
 -- Assumes nothing: these are definitions.
 use Rattle.laws.specs.Prelude.{ℕ, zero, suc, _+_, List, [], _∷_, _++_, take, replicate}
 use Rattle.laws.specs.Examples.{Example, computed}
-use Rattle.answer.specs.Outcome.{inWords}
+use Rattle.answer.specs.Outcome.{inWords, listTooLong}
 use Rattle.diff.specs.Format.{pageWord, runWord}
 use Rattle.diff.specs.Encoding.{ended}
+use Rattle.diff.specs.Room.{roomFor}
 use Rattle.diff.specs.Merging.{mergeDiffs, mergedBuffer}
 
 -- what merging answers in a buffer of so many sevens, and the buffer after it
@@ -67,6 +68,9 @@ mergeExamples =
     ∷ computed (merged waiting (take 4 newer) 0) (7 ∷ 4 ∷ [])
     -- a buffer that is one word too short is kept
     ∷ computed (merged waiting newer 7) (17 ∷ 0 ∷ replicate 7 7)
+    -- a result of 513 words is too long, also with no buffer; one of 512 has to have room
+    ∷ computed (inWords (roomFor listTooLong 513 0) ++ inWords (roomFor listTooLong 513 600)) (19 ∷ 0 ∷ 19 ∷ 0 ∷ [])
+    ∷ computed (inWords (roomFor listTooLong 512 511) ++ inWords (roomFor listTooLong 512 512)) (17 ∷ 0 ∷ 0 ∷ 512 ∷ [])
     -- a list that lacks its end word is refused at its length, before the result is looked at
     ∷ computed (answered (wholePages 0) (take 272 (wholePages 8)) 0) (7 ∷ 272 ∷ [])
     ∷ []

@@ -1,6 +1,6 @@
 -- What merging two diffs makes, and what it answers (document 02, request 9, "Two lists made one").
 use Rattle.laws.specs.Prelude.{ℕ, _*_, _<_, _≤_, _≡_, _≢_, List, [], _∷_, _++_, _||_, length, drop}
-use Rattle.answer.specs.Outcome.{given, refused, listTooLong, wrongBuffer}
+use Rattle.answer.specs.Outcome.{given, refused}
 use Rattle.diff.specs.Format.{endWord}
 use Rattle.diff.specs.Reading.{checkDiff}
 use Rattle.diff.specs.Prices.{pricesOf, names, applyPrices}
@@ -40,7 +40,7 @@ pub record MergedOfTwo (pages : ℕ) (first second : List ℕ) : Type 0 where
       (diff : List ℕ) → Allowed pages diff → DoesBoth pages first second diff → diff ≡ mergedDiff first second
 
 -- Whenever merging two diffs is accepted. Both are allowed then on a rack of 64 pages; on a smaller rack that allows both,
--- the merged diff is of use as well.
+-- the merged diff is allowed and has both effects, too.
 abbrev pub MergedIsBoth : Type 0
 MergedIsBoth =
     (first second : List ℕ) → Merges first second
@@ -67,12 +67,12 @@ pub record MergeAnswers (first second buffer : List ℕ) : Type 0 where
   pub too-long :
       Allowed mergePages first → Allowed mergePages second
       → ((diff : List ℕ) → Allowed mergePages diff → DoesBoth mergePages first second diff → ⊥)
-      → mergeDiffs first second (length buffer) ≡ refused listTooLong
+      → mergeDiffs first second (length buffer) ≡ refused 19
   -- "then a short buffer 17"
   pub too-short :
       Allowed mergePages first → Allowed mergePages second
       → (diff : List ℕ) → Allowed mergePages diff → DoesBoth mergePages first second diff
-      → length buffer < length diff → mergeDiffs first second (length buffer) ≡ refused wrongBuffer
+      → length buffer < length diff → mergeDiffs first second (length buffer) ≡ refused 17
   -- else it gives that list
   pub merged :
       Allowed mergePages first → Allowed mergePages second

@@ -1,4 +1,4 @@
--- Choices by a test: a property of both outcomes, and what a conjunction or a disjunction says.
+-- Choices by a test: a property of both outcomes, and what a conjunction says.
 use Rattle.laws.proofs.Prelude.{_≡_, refl, Bool, true, false, cond, _&&_, _||_, false≢true, true≢false}
 
 -- what holds of either outcome, each under its test, holds of the choice
@@ -20,14 +20,6 @@ and-both a b first second = rw (first, second)
 
 pub and-rest : (a b : Bool) → a ≡ true → a && b ≡ false → b ≡ false
 and-rest a b first e = rw first at e
-
-pub or-none : (a : Bool) → a || false ≡ a
-or-none true = refl
-or-none false = refl
-
-pub or-assoc : (a b c : Bool) → (a || b) || c ≡ a || (b || c)
-or-assoc true b c = refl
-or-assoc false b c = refl
 
 pub neither : (a b : Bool) → a || b ≡ false → (a ≡ false) × (b ≡ false)
 neither true b e = absurd (true≢false e)

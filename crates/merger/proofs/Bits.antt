@@ -6,8 +6,8 @@ use lib.Bits.{bitOr, or-step}
 use lib.Pow.{pow-pos, pow-mono, shl-exact}
 use Rattle.diff.specs.Marks.{isSet}
 use Rattle.diff.proofs.Bits.{bit-half, bit-first, none-set}
-use Rattle.merger.specs.Applying.{isAmong}
-use Rattle.merger.proofs.Among.{among, below, past, among-alike}
+use Rattle.merger.specs.Applying.{inRange}
+use Rattle.merger.proofs.Range.{in-range, below, past, range-alike}
 
 -- ---- two words together
 
@@ -50,21 +50,21 @@ one-half count = rw (zero-add, zero-add) (omega (arith, pow-suc 2 count, pow-pos
 one-first : (count : ℕ) → onesFrom 0 (suc count) % 2 ≡ 1
 one-first count = rw zero-add (omega (arith, pow-suc 2 count, pow-pos count))
 
-pub ones-set : (offset count w : ℕ) → isSet (onesFrom offset count) w ≡ isAmong offset count w
+pub ones-set : (offset count w : ℕ) → isSet (onesFrom offset count) w ≡ inRange offset count w
 ones-set (suc offset) count zero =
     rw (bit-first (onesFrom (suc offset) count), later-first offset count)
     (sym (below (suc offset) count 0 (omega arith)))
 ones-set (suc offset) count (suc w) =
     rw (← bit-half (onesFrom (suc offset) count) w, later-half offset count)
     (ones-set offset count w
-    ∙ among-alike offset count w (suc offset) count (suc w) (λ h. omega arith) (λ h. omega arith) (λ h. omega arith)
+    ∙ range-alike offset count w (suc offset) count (suc w) (λ h. omega arith) (λ h. omega arith) (λ h. omega arith)
     (λ h. omega arith))
 ones-set zero zero w = none-set w ∙ sym (past 0 0 w (omega arith) (omega arith))
 ones-set zero (suc count) zero =
-    rw (bit-first (onesFrom 0 (suc count)), one-first count) (sym (among 0 (suc count) 0 (omega arith) (omega arith)))
+    rw (bit-first (onesFrom 0 (suc count)), one-first count) (sym (in-range 0 (suc count) 0 (omega arith) (omega arith)))
 ones-set zero (suc count) (suc w) =
     rw (← bit-half (onesFrom 0 (suc count)) w, one-half count) (ones-set 0 count w
-    ∙ among-alike 0 count w 0 (suc count) (suc w) (λ h. omega arith) (λ h. omega arith) (λ h. omega arith)
+    ∙ range-alike 0 count w 0 (suc count) (suc w) (λ h. omega arith) (λ h. omega arith) (λ h. omega arith)
     (λ h. omega arith))
 
 -- the powers of two that they are the difference of, in a word of 64 bits

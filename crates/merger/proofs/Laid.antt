@@ -13,7 +13,7 @@ use Rattle.diff.specs.OnlyDiff.{Allowed}
 use Rattle.diff.specs.Prices.{pricesOf, names, applyPrices}
 use Rattle.diff.proofs.OnlyDiff.{allowed-reads}
 use Rattle.diff.proofs.Prices.{names-none, names-append, apply-append}
-use Rattle.merger.specs.Applying.{isAmong, MarkedBeside}
+use Rattle.merger.specs.Applying.{inRange, MarkedBeside}
 use Rattle.merger.proofs.Marking.{marked-part, none-left}
 use Rattle.merger.proofs.Runs.{pricesAt, run-applied, run-named, Left, going-on, PastRun, past-run, past-page}
 use Rattle.merger.proofs.Runs.{none-over}
@@ -80,7 +80,7 @@ module _ {pages : ℕ} {list prices₀ marks₀ prices marks : List ℕ} {page i
 
     pub laid-run : (two : kind w ≡ 2) (prices′ marks′ : List ℕ)
         → prices′ ≡ sets prices (32 * page + offset w) words
-        → MarkedBeside marks (isAmong (32 * page + offset w) (length words)) marks′
+        → MarkedBeside marks (inRange (32 * page + offset w) (length words)) marks′
         → length marks′ ≡ length marks
         → Laid pages list prices₀ marks₀ prices′ marks′ page (index + 1 + count w)
     laid-run two prices′ marks′ stored beside same =
@@ -97,7 +97,7 @@ module _ {pages : ℕ} {list prices₀ marks₀ prices marks : List ℕ} {page i
               ∙ sym (apply-append (pricesAt label words) (run .left) prices)
               ∙ ap (λ ps. applyPrices ps prices) (sym splits) ∙ laid .priced);
           marked = λ l.
-              marked-part marks marks′ (isAmong label (length words)) l (names (run .left) l) (names (laid .rest) l)
+              marked-part marks marks′ (inRange label (length words)) l (names (run .left) l) (names (laid .rest) l)
               beside
               (ap (λ ps. names ps l) splits ∙ names-append (pricesAt label words) (run .left) l
               ∙ rw (run-named words label l))

@@ -1,5 +1,5 @@
 -- Laws that the functions on merging cite.
-pub mod Among
+pub mod Range
 pub mod Bits
 pub mod Marking
 pub mod Runs

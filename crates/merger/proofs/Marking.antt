@@ -1,20 +1,15 @@
 -- Words marked beside others: a run of a page, one test after the other, and nothing.
 use Rattle.laws.proofs.Prelude.{ℕ, _+_, _*_, _/_, _%_, _≤_, _<_, _≡_, _≢_, sym, _∙_, List, Bool, false, _||_}
 use Rattle.laws.proofs.Prelude.{arith, ℕ-discrete, decLt, length, getD, set}
-use Rattle.laws.proofs.Bools.{or-none, or-assoc}
+use mathlib.Core.Bool.{or-assoc, or-false}
 use lib.Bits.{bitOr}
 use lib.Seq.{getD-set-same, getD-set-other}
 use Rattle.diff.specs.Marks.{isMarked}
-use Rattle.merger.specs.Applying.{isAmong, MarkedBeside}
-use Rattle.merger.proofs.Among.{below, past, among-alike}
+use Rattle.merger.specs.Applying.{inRange, MarkedBeside}
+use Rattle.merger.proofs.Range.{below, past, range-alike}
 use Rattle.merger.proofs.Bits.{set-in-either, onesFrom, ones-set}
 
 -- ---- tests
-
--- a test that names nothing
-pub marked-none : (marks : List ℕ) (named : ℕ → Bool) → ((label : ℕ) → named label ≡ false)
-    → MarkedBeside marks named marks
-marked-none marks named none = record { each = λ label. rw (none label) (sym (or-none (isMarked marks label))) }
 
 -- what is left to be marked, once a part of it is
 pub marked-part : (marks after : List ℕ) (named : ℕ → Bool) (label : ℕ) (left whole : Bool)
@@ -25,7 +20,7 @@ marked-part marks after named label left whole beside all =
 
 pub none-left : (marks : List ℕ) (label : ℕ) (left : Bool) → left ≡ false
     → (isMarked marks label || left) ≡ isMarked marks label
-none-left marks label left none = rw none (or-none (isMarked marks label))
+none-left marks label left none = rw none (or-false (isMarked marks label))
 
 -- ---- a run of a page
 
@@ -34,29 +29,29 @@ module _ (marks : List ℕ) (page offset count : ℕ) (inside : page < length ma
   joined = bitOr (getD marks page 0) (onesFrom offset count)
 
   on-page : (label : ℕ) → label / 32 ≡ page
-      → isMarked (set marks page joined) label ≡ (isMarked marks label || isAmong (32 * page + offset) count label)
+      → isMarked (set marks page joined) label ≡ (isMarked marks label || inRange (32 * page + offset) count label)
   on-page label here =
       rw (here, getD-set-same marks page joined 0 inside)
       (set-in-either (getD marks page 0) (onesFrom offset count) (label % 32)
       ∙ rw (ones-set offset count (label % 32), same))
     where
-      same : isAmong offset count (label % 32) ≡ isAmong (32 * page + offset) count label
+      same : inRange offset count (label % 32) ≡ inRange (32 * page + offset) count label
       same =
-          among-alike offset count (label % 32) (32 * page + offset) count label (λ h. omega arith) (λ h. omega arith)
+          range-alike offset count (label % 32) (32 * page + offset) count label (λ h. omega arith) (λ h. omega arith)
           (λ h. omega arith) (λ h. omega arith)
 
   elsewhere : (label : ℕ) → label / 32 ≢ page
-      → isMarked (set marks page joined) label ≡ (isMarked marks label || isAmong (32 * page + offset) count label)
+      → isMarked (set marks page joined) label ≡ (isMarked marks label || inRange (32 * page + offset) count label)
   elsewhere label there =
-      rw (getD-set-other marks page (label / 32) joined 0 there, outside) (sym (or-none (isMarked marks label)))
+      rw (getD-set-other marks page (label / 32) joined 0 there, outside) (sym (or-false (isMarked marks label)))
     where
-      outside : isAmong (32 * page + offset) count label ≡ false
+      outside : inRange (32 * page + offset) count label ≡ false
       outside = elim (decLt label (32 * page)) [
         | yes low ↦ below (32 * page + offset) count label (omega arith)
         | no high ↦ past (32 * page + offset) count label (omega (arith, there)) (omega (arith, there))
       ]
 
-  pub run-marked : MarkedBeside marks (isAmong (32 * page + offset) count) (set marks page joined)
+  pub run-marked : MarkedBeside marks (inRange (32 * page + offset) count) (set marks page joined)
   run-marked =
       record {
         each = λ label. elim (ℕ-discrete (label / 32) page) [

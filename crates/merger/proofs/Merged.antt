@@ -54,7 +54,7 @@ module _ (pages : ℕ) (few : pages ≤ 64) (first second : List ℕ) (allowed :
   long : length prices ≡ 32 * pages
   long = rw (laid, none-priced) (length-apply p (zeros (32 * pages)) ∙ length-zeros (32 * pages))
 
-  pub long′ : length prices′ ≡ 32 * pages
+  long′ : length prices′ ≡ 32 * pages
   long′ = rw laid′ (length-apply q prices ∙ long)
 
   named : (label : ℕ) → isMarked marks′ label ≡ eitherNames p q label

@@ -13,8 +13,8 @@ use Rattle.diff.specs.Encoding.{priceAt}
 use Rattle.diff.proofs.Derivation.{Reads, reads-end, reads-page, reads-run, reads-price, reads-some}
 use Rattle.diff.proofs.Prices.{names-first, names-later, names-none}
 use Rattle.diff.proofs.Listed.{label-at}
-use Rattle.merger.specs.Applying.{isAmong}
-use Rattle.merger.proofs.Among.{among, none-among, among-alike}
+use Rattle.merger.specs.Applying.{inRange}
+use Rattle.merger.proofs.Range.{in-range, none-in-range, range-alike}
 
 -- ---- words as the prices of the labels from one on
 
@@ -41,17 +41,17 @@ run-applied (w ∷ ws) label words =
     ∙ ap (λ (next : ℕ). sets (set words label w) next ws) (add-one label)
 
 -- and name them, and no others
-pub run-named : (ws : List ℕ) (label l : ℕ) → names (pricesAt label ws) l ≡ isAmong label (length ws) l
+pub run-named : (ws : List ℕ) (label l : ℕ) → names (pricesAt label ws) l ≡ inRange label (length ws) l
 unfolding pricesAt
-run-named [] label l = names-none l ∙ sym (none-among label l)
+run-named [] label l = names-none l ∙ sym (none-in-range label l)
 run-named (w ∷ ws) label l = elim (ℕ-discrete label l) [
   | yes here ↦
       names-first (priceAt label w) (pricesAt (label + 1) ws) l (label-at label w ∙ here)
-      ∙ sym (among label (suc (length ws)) l (omega arith) (omega arith))
+      ∙ sym (in-range label (suc (length ws)) l (omega arith) (omega arith))
   | no there ↦
       names-later (priceAt label w) (pricesAt (label + 1) ws) l (λ e. there (sym (label-at label w) ∙ e))
       ∙ run-named ws (label + 1) l
-      ∙ among-alike (label + 1) (length ws) l label (suc (length ws)) l (λ low. omega arith) (λ from. omega arith)
+      ∙ range-alike (label + 1) (length ws) l label (suc (length ws)) l (λ low. omega arith) (λ from. omega arith)
       (λ high. omega arith) (λ end. omega arith)
 ]
 

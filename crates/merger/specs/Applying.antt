@@ -4,8 +4,8 @@ use Rattle.laws.specs.Prelude.{ℕ, _+_, _≡_, List, Bool, _&&_, _||_, ltb, le
 use Rattle.diff.specs.Marks.{isMarked}
 
 -- whether a label is one of so many from the first on
-abbrev pub isAmong : ℕ → ℕ → ℕ → Bool
-isAmong first count label = leb first label && ltb label (first + count)
+abbrev pub inRange : ℕ → ℕ → ℕ → Bool
+inRange first count label = leb first label && ltb label (first + count)
 
 -- marked are the labels that were, and those that a test names
 pub record MarkedBeside (before : List ℕ) (named : ℕ → Bool) (after : List ℕ) : Type 0 where

@@ -3,12 +3,12 @@ ghost use Rattle.laws.specs.Prelude.{_≡_, _+_, _*_, _<_, _≤_, length};
 ghost use lib.Seq.{sets};
 ghost use Rattle.diff.specs.Prices.{pricesOf, names, applyPrices};
 ghost use Rattle.diff.specs.OnlyDiff.{Allowed};
-ghost use Rattle.merger.specs.Applying.{isAmong, MarkedBeside};
+ghost use Rattle.merger.specs.Applying.{inRange, MarkedBeside};
 
 // Marks so many words of a page from an offset on.
 fn mark_run(marks: &mut [u32], page: usize, offset: u32, count: u32)
     requires { ⌜ (page < length (now marks)) × (offset + count ≤ 32) ⌝ }
-    ensures { λ _. ⌜ MarkedBeside (now (marks .entry)) (isAmong (32 * page + offset) count)
+    ensures { λ _. ⌜ MarkedBeside (now (marks .entry)) (inRange (32 * page + offset) count)
         (now (marks .exit)) ⌝ }
 {
     let below: u64 = 1 << offset;
@@ -24,7 +24,7 @@ fn apply_run(run: &[u32], page: usize, offset: u32, prices: &mut [u32], marks: &
     ensures prices { λ _. ⌜ now (prices .exit)
         ≡ sets (now (prices .entry)) (32 * page + offset) (now (run .entry)) ⌝ }
     ensures marks { λ _. ⌜ MarkedBeside (now (marks .entry))
-        (isAmong (32 * page + offset) (length (now (run .entry)))) (now (marks .exit)) ⌝ }
+        (inRange (32 * page + offset) (length (now (run .entry)))) (now (marks .exit)) ⌝ }
 {
     memory::store_run_in(prices, 32 * page + offset as usize, run);
     mark_run(marks, page, offset, run.len() as u32);

@@ -10,6 +10,7 @@ use Rattle.diff.specs.Format.{mostWords}
 use Rattle.diff.specs.declared.Verdict.{Verdict}
 use Rattle.diff.specs.declared.Verdict.the-variants.{Good, Faulty}
 use Rattle.diff.specs.Reading.{readDiff, wholeDiff, checkDiff}
+use Rattle.diff.specs.Room.{roomFor, writtenBy}
 use Rattle.diff.specs.Making.{madeDiff, lentMarked, makeDiff, bufferAfter, markChanges, marksAfter}
 use Rattle.diff.specs.Merging.{mergePages, mergedDiff, mergeDiffs, mergedBuffer}
 use Rattle.protocol.specs.Checks.{check, outsideLimits}
@@ -18,29 +19,37 @@ use Rattle.protocol.specs.Formatting.{formatting}
 use Rattle.protocol.specs.Demand1.{isAmong, BufferKept, Demand1}
 use Rattle.protocol.proofs.calls.Refused.{refused-by-checks, refused-unchanged}
 
+-- a list that is refused by its length, by the number for one over 512 words or by 17
+room-kept : (refusals placed buffer diff : List ℕ) (tooLong words room : ℕ) → isAmong refusals tooLong ≡ true
+    → isAmong refusals wrongBuffer ≡ true → accepted (roomFor tooLong words room) ≡ false
+    → BufferKept refusals placed buffer (roomFor tooLong words room) (writtenBy (roomFor tooLong words room) diff buffer)
+room-kept refusals placed buffer diff tooLong words room long short = go (ltb mostWords words) (ltb room words)
+  where
+    comesTo : Bool → Bool → Outcome
+    comesTo over none = cond over (refused tooLong) (cond none (refused wrongBuffer) (given words))
+
+    go : (over none : Bool) → accepted (comesTo over none) ≡ false
+        → BufferKept refusals placed buffer (comesTo over none) (writtenBy (comesTo over none) diff buffer)
+    go true none is = record { numbered = long; no-place = λ _. refl; words = rw is }
+    go false true is = record { numbered = short; no-place = λ _. refl; words = refl }
+    go false false is = absurd (true≢false is)
+
 refused-list : (working twins marks buffer : List ℕ)
     → accepted (makeDiff working twins marks (length buffer)) ≡ false
     → BufferKept (1 ∷ 17 ∷ []) [] buffer (makeDiff working twins marks (length buffer))
     (bufferAfter working twins marks buffer)
 unfolding makeDiff isAmong
 refused-list working twins marks buffer =
-    let words = length (madeDiff working marks) in
-    by-tests (lentMarked (length working) (length twins) (length marks)) (ltb mostWords words)
-    (ltb (length buffer) words) words _
+    by-lent (lentMarked (length working) (length twins) (length marks)) (madeDiff working marks)
   where
-    -- whether the lent pages and marks are good, the list is too long, and the buffer too short for it
-    comesTo : Bool → Bool → Bool → ℕ → Outcome
-    comesTo lent long short words =
-        cond lent (cond long (refused wrongBuffer) (cond short (refused wrongBuffer) (given words))) (refused limits)
+    comesTo : Bool → ℕ → Outcome
+    comesTo lent words = cond lent (roomFor wrongBuffer words (length buffer)) (refused limits)
 
-    by-tests : (lent long short : Bool) (words : ℕ) (made : List ℕ)
-        → accepted (comesTo lent long short words) ≡ false
-        → BufferKept (1 ∷ 17 ∷ []) [] buffer (comesTo lent long short words)
-        (cond (eqb (comesTo lent long short words .number) 0) made buffer)
-    by-tests true true short words made is = record { numbered = refl; no-place = λ _. refl; words = refl }
-    by-tests true false true words made is = record { numbered = refl; no-place = λ _. refl; words = refl }
-    by-tests true false false words made is = absurd (true≢false is)
-    by-tests false long short words made is = record { numbered = refl; no-place = λ _. refl; words = refl }
+    by-lent : (lent : Bool) (diff : List ℕ) → accepted (comesTo lent (length diff)) ≡ false
+        → BufferKept (1 ∷ 17 ∷ []) [] buffer (comesTo lent (length diff))
+        (writtenBy (comesTo lent (length diff)) diff buffer)
+    by-lent true diff = room-kept (1 ∷ 17 ∷ []) [] buffer diff wrongBuffer (length diff) (length buffer) refl refl
+    by-lent false diff = λ is. record { numbered = refl; no-place = λ _. refl; words = refl }
 
 refused-marks : (working twins marks : List ℕ)
     → accepted (markChanges (length working) (length twins) (length marks)) ≡ false
@@ -69,17 +78,13 @@ faulty-number pages list = go (readDiff pages list)
         by-cut false refusal = absurd (refusal refl)
     go (Faulty place) refusal = refl
 
--- the buffer after some outcome
-abbrev after : Outcome → List ℕ → List ℕ → List ℕ
-after o made buffer = cond (eqb (o .number) 0) made buffer
-
 -- a check that refuses with 7, or what comes next
-then-kept : (first next : Outcome) (made buffer : List ℕ) → (first .number ≢ 0 → first .number ≡ 7)
-    → (accepted next ≡ false → BufferKept (7 ∷ 19 ∷ 17 ∷ []) (7 ∷ []) buffer next (after next made buffer))
+then-kept : (first next : Outcome) (diff buffer : List ℕ) → (first .number ≢ 0 → first .number ≡ 7)
+    → (accepted next ≡ false → BufferKept (7 ∷ 19 ∷ 17 ∷ []) (7 ∷ []) buffer next (writtenBy next diff buffer))
     → accepted (andThen first next) ≡ false
-    → BufferKept (7 ∷ 19 ∷ 17 ∷ []) (7 ∷ []) buffer (andThen first next) (after (andThen first next) made buffer)
+    → BufferKept (7 ∷ 19 ∷ 17 ∷ []) (7 ∷ []) buffer (andThen first next) (writtenBy (andThen first next) diff buffer)
 unfolding isAmong
-then-kept first next made buffer faulty later = elim (ℕ-discrete (first .number) 0) [
+then-kept first next diff buffer faulty later = elim (ℕ-discrete (first .number) 0) [
   | yes passed ↦ rw (first-passes first next passed) later
   | no refusal ↦
       λ is.
@@ -96,21 +101,10 @@ refused-merge : (first second buffer : List ℕ) → accepted (mergeDiffs first 
     (mergedBuffer first second buffer)
 unfolding mergeDiffs isAmong
 refused-merge first second buffer =
-    let words = length (mergedDiff first second) in
-    then-kept (checkDiff mergePages first) _ _ buffer (faulty-number mergePages first)
-    (then-kept (checkDiff mergePages second) _ _ buffer (faulty-number mergePages second)
-    (by-tests (ltb mostWords words) (ltb (length buffer) words) words _))
-  where
-    -- whether the list is too long, and the buffer too short for it
-    comesTo : Bool → Bool → ℕ → Outcome
-    comesTo long short words = cond long (refused listTooLong) (cond short (refused wrongBuffer) (given words))
-
-    by-tests : (long short : Bool) (words : ℕ) (made : List ℕ) → accepted (comesTo long short words) ≡ false
-        → BufferKept (7 ∷ 19 ∷ 17 ∷ []) (7 ∷ []) buffer (comesTo long short words)
-        (after (comesTo long short words) made buffer)
-    by-tests true short words made is = record { numbered = refl; no-place = λ _. refl; words = refl }
-    by-tests false true words made is = record { numbered = refl; no-place = λ _. refl; words = refl }
-    by-tests false false words made is = absurd (true≢false is)
+    let diff = mergedDiff first second in
+    then-kept (checkDiff mergePages first) _ diff buffer (faulty-number mergePages first)
+    (then-kept (checkDiff mergePages second) _ diff buffer (faulty-number mergePages second)
+    (room-kept (7 ∷ 19 ∷ 17 ∷ []) (7 ∷ []) buffer diff listTooLong (length diff) (length buffer) refl refl))
 
 pub demand-1 : Demand1
 unfolding formatting

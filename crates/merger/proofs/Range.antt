@@ -1,34 +1,34 @@
 -- Labels among so many from a first on.
 use Rattle.laws.proofs.Prelude.{ℕ, _+_, _≤_, _<_, _≡_, sym, _∙_, true, false, arith, decLt, le-leb, lt-leb, lt-ltb, le-ltb}
-use Rattle.merger.specs.Applying.{isAmong}
+use Rattle.merger.specs.Applying.{inRange}
 
 module _ (first count label : ℕ) where
-  pub among : first ≤ label → label < first + count → isAmong first count label ≡ true
-  among low high = rw (le-leb first label low, lt-ltb label (first + count) high)
+  pub in-range : first ≤ label → label < first + count → inRange first count label ≡ true
+  in-range low high = rw (le-leb first label low, lt-ltb label (first + count) high)
 
-  pub below : label < first → isAmong first count label ≡ false
+  pub below : label < first → inRange first count label ≡ false
   below low = rw (lt-leb first label low)
 
-  pub past : first ≤ label → first + count ≤ label → isAmong first count label ≡ false
+  pub past : first ≤ label → first + count ≤ label → inRange first count label ≡ false
   past low high = rw (le-leb first label low, le-ltb label (first + count) high)
 
-pub none-among : (first label : ℕ) → isAmong first 0 label ≡ false
-none-among first label = elim (decLt label first) [
+pub none-in-range : (first label : ℕ) → inRange first 0 label ≡ false
+none-in-range first label = elim (decLt label first) [
   | yes low ↦ below first 0 label low
   | no from ↦ past first 0 label (omega arith) (omega arith)
 ]
 
 -- two labels that are alike in both bounds
-pub among-alike : (first count label first′ count′ label′ : ℕ) → (label < first → label′ < first′)
+pub range-alike : (first count label first′ count′ label′ : ℕ) → (label < first → label′ < first′)
     → (first ≤ label → first′ ≤ label′) → (label < first + count → label′ < first′ + count′)
     → (first + count ≤ label → first′ + count′ ≤ label′)
-    → isAmong first count label ≡ isAmong first′ count′ label′
-among-alike first count label first′ count′ label′ low from high end = elim (decLt label first) [
+    → inRange first count label ≡ inRange first′ count′ label′
+range-alike first count label first′ count′ label′ low from high end = elim (decLt label first) [
   | yes l ↦ below first count label l ∙ sym (below first′ count′ label′ (low l))
   | no f ↦
       let here : first ≤ label = omega arith in
       elim (decLt label (first + count)) [
-        | yes h ↦ among first count label here h ∙ sym (among first′ count′ label′ (from here) (high h))
+        | yes h ↦ in-range first count label here h ∙ sym (in-range first′ count′ label′ (from here) (high h))
         | no e ↦
             past first count label here (omega arith)
             ∙ sym (past first′ count′ label′ (from here) (end (omega arith)))
