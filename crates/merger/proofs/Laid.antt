@@ -1,7 +1,6 @@
 -- An allowed diff laid on pages run by run: with what is left of it, the pages and the marks are those with all of it.
 use Rattle.laws.proofs.Prelude.{ℕ, _+_, _-_, _*_, _≤_, _<_, _≡_, refl, sym, ap, _∙_, subst, List, [], _∷_, _++_, _||_}
-use Rattle.laws.proofs.Prelude.{arith}
-use Rattle.laws.proofs.Prelude.{length, getD, take, drop}
+use Rattle.laws.proofs.Prelude.{arith, length, getD, take, drop}
 use native.Mathlib.Numerals.{add-one}
 use lib.ListN.{length-take, length-drop, drop-of-length-le}
 use lib.Seq.{sets, length-sets, drop-cons, drop-drop}
@@ -15,9 +14,10 @@ use Rattle.diff.proofs.OnlyDiff.{allowed-reads}
 use Rattle.diff.proofs.Prices.{names-none, names-append, apply-append}
 use Rattle.merger.specs.Applying.{inRange, MarkedBeside}
 use Rattle.merger.proofs.Marking.{marked-part, none-left}
-use Rattle.merger.proofs.Runs.{pricesAt, run-applied, run-named, Left, going-on, PastRun, past-run, past-page}
-use Rattle.merger.proofs.Runs.{none-over}
+use Rattle.merger.proofs.Runs.{pricesAt, run-applied, run-named, Left, going-on, none-over}
+use Rattle.merger.proofs.Runs.{PastRun, past-run, past-page}
 
+-- a diff laid on pages and marks up to a word, runs being for a page
 pub record Laid (pages : ℕ) (list prices₀ marks₀ prices marks : List ℕ) (page index : ℕ) : Type 0 where
   pub rest : List Price
   pub left : Left pages page (drop index list) rest

@@ -1,4 +1,4 @@
--- Words marked beside others: a run of a page, one test after the other, and nothing.
+-- Words marked beside others: what is left to be marked, and a run of a page.
 use Rattle.laws.proofs.Prelude.{ℕ, _+_, _*_, _/_, _%_, _≤_, _<_, _≡_, _≢_, sym, _∙_, List, Bool, false, _||_}
 use Rattle.laws.proofs.Prelude.{arith, ℕ-discrete, decLt, length, getD, set}
 use mathlib.Core.Bool.{or-assoc, or-false}
@@ -9,15 +9,16 @@ use Rattle.merger.specs.Applying.{inRange, MarkedBeside}
 use Rattle.merger.proofs.Range.{below, past, range-alike}
 use Rattle.merger.proofs.Bits.{set-in-either, onesFrom, ones-set}
 
--- ---- tests
+-- ---- what is left to be marked
 
--- what is left to be marked, once a part of it is
+-- once a part of it is
 pub marked-part : (marks after : List ℕ) (named : ℕ → Bool) (label : ℕ) (left whole : Bool)
     → MarkedBeside marks named after → whole ≡ (named label || left)
     → (isMarked after label || left) ≡ (isMarked marks label || whole)
 marked-part marks after named label left whole beside all =
     rw (beside .each label, all) (or-assoc (isMarked marks label) (named label) left)
 
+-- and once nothing is left
 pub none-left : (marks : List ℕ) (label : ℕ) (left : Bool) → left ≡ false
     → (isMarked marks label || left) ≡ isMarked marks label
 none-left marks label left none = rw none (or-false (isMarked marks label))
