@@ -132,10 +132,10 @@ module _ (named : ℕ → Bool) (price : ℕ → ℕ) where
         ∙ listed-applied (label + 1) n l old (sym (names-other-label label n l other) ∙ is)
   ]
 
--- two tests and prices that agree on these labels
+-- two tests that agree on these labels, and prices that do where a label is named
 pub listed-agree : (named named′ : ℕ → Bool) (price price′ : ℕ → ℕ) (label n : ℕ)
     → ((i : ℕ) → label ≤ i → i < label + n → named i ≡ named′ i)
-    → ((i : ℕ) → label ≤ i → i < label + n → price i ≡ price′ i)
+    → ((i : ℕ) → label ≤ i → i < label + n → named i ≡ true → price i ≡ price′ i)
     → listed named price label n ≡ listed named′ price′ label n
 listed-agree named named′ price price′ label zero same equal =
     listed-none named price label ∙ sym (listed-none named′ price′ label)
@@ -154,7 +154,7 @@ listed-agree named named′ price price′ label (suc n) same equal =
         rw (
           listed-take named price label n is,
           listed-take named′ price′ label n (sym here ∙ is),
-          equal label (omega arith) (omega arith),
+          equal label (omega arith) (omega arith) is,
           rest,
         )
     go false un rest =

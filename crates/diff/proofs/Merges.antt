@@ -117,7 +117,8 @@ module _ (a b c : List ℕ) (ab : MergeAccepted a b) (bc : MergeAccepted b c) wh
       ∙ ap encode
       (listed-agree (eitherNames (prices (mergedDiff a b)) (prices c)) (eitherNames (prices a) (prices (mergedDiff b c)))
       (lastPrice (prices (mergedDiff a b)) (prices c)) (lastPrice (prices a) (prices (mergedDiff b c))) 0
-      (32 * mergePages) (λ label low high. named-either-way label) (λ label low high. priced-either-way label))
+      (32 * mergePages) (λ label low high. named-either-way label)
+      (λ label low high is. priced-either-way label))
       ∙ sym (merged-list a (mergedDiff b c))
 
   same-answer : (room : ℕ) → mergeDiffs (mergedDiff a b) c room ≡ mergeDiffs a (mergedDiff b c) room

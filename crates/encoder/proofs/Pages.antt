@@ -14,7 +14,8 @@ use Rattle.diff.specs.Marks.{isSet, isMarked}
 use Rattle.diff.specs.Making.{priceOn, madeDiff}
 use Rattle.diff.proofs.Encoding.{Ascending, none, more, ascending-from, follows-no-page, run-goes-on, run-stops}
 use Rattle.diff.proofs.Encoding.{run-last, run-header-page, encode-none, encode-price}
-use Rattle.diff.proofs.Listed.{listed-none, listed-append, listed-agree, listed-ascends}
+use Rattle.diff.proofs.Listed.{listed-none, listed-append, listed-agree, listed-unnamed, listed-ascends}
+use Rattle.diff.proofs.Marks.{marked-at}
 use Rattle.encoder.specs.Page.{pageWords}
 
 -- ---- prices on the pages below k, and prices from page k on
@@ -59,20 +60,76 @@ module _ (k : ℕ) {pages : ℕ} {qs : List Price} (later : Ascending pages (32 
       ∙ ap (λ ws. header ++ p .price ∷ ws) after
       ∙ sym (rw (encode-price next p ps header refl) (append-assoc header _ (encodeFrom 0 qs)))
 
--- ---- the pages of a diff
+-- ---- the pages of a diff, by a test that names labels
 
--- the words that the pages from one on bring, the end word not among them
+module _ (named : ℕ → Bool) (price : ℕ → ℕ) (pages : ℕ) where
+  -- the words that the pages from one on bring, the end word not among them
+  abbrev pub bodyFrom : ℕ → List ℕ
+  bodyFrom page = encodeFrom 0 (listed named price (32 * page) (32 * (pages - page)))
+
+  pub body-none : (page : ℕ) → pages ≤ page → bodyFrom page ≡ []
+  body-none page past =
+      let over : 32 * (pages - page) ≡ 0 = omega arith in
+      rw (over, listed-none named price (32 * page)) (encode-none 0)
+
+  -- pages that nothing is named on bring none
+  pub body-skip : (page later : ℕ) → page ≤ later → later ≤ pages
+      → ((label : ℕ) → 32 * page ≤ label → label < 32 * later → named label ≡ false)
+      → bodyFrom page ≡ bodyFrom later
+  body-skip page later up fits unnamed =
+      let n = 32 * later - 32 * page in
+      let parts : 32 * (pages - page) ≡ n + 32 * (pages - later) = omega arith in
+      let at : 32 * page + n ≡ 32 * later = omega arith in
+      rw (
+        parts,
+        listed-append named price (32 * page) n (32 * (pages - later)),
+        listed-unnamed named price (32 * page) n (λ label low high. unnamed label low (omega arith)),
+        at,
+      )
+
+  -- a page brings its words, by the word of its marks and its prices
+  module _ (page : ℕ) (within : page < pages) (marks : ℕ) (prices : List ℕ)
+      (marked : (w : ℕ) → w < 32 → isSet marks w ≡ named (32 * page + w))
+      (priced : (w : ℕ) → w < 32 → isSet marks w ≡ true → getD prices w 0 ≡ price (32 * page + w)) where
+    on-page : (label : ℕ) → 32 * page ≤ label → label < 32 * page + 32 → 32 * page + label % 32 ≡ label
+    on-page label above below = omega arith
+
+    own-named : (label : ℕ) → 32 * page ≤ label → label < 32 * page + 32 → named label ≡ isSet marks (label % 32)
+    own-named label above below = sym (marked (label % 32) (omega arith) ∙ ap named (on-page label above below))
+
+    own-price : (label : ℕ) → 32 * page ≤ label → label < 32 * page + 32 → named label ≡ true
+        → price label ≡ getD prices (label % 32) 0
+    own-price label above below is =
+        sym
+        (priced (label % 32) (omega arith) (sym (own-named label above below) ∙ is)
+        ∙ ap price (on-page label above below))
+
+    pub body-next : bodyFrom page ≡ pageWords page marks prices ++ bodyFrom (page + 1)
+    unfolding pageWords
+    body-next =
+        let left : ℕ = pages - (page + 1) in
+        let parts : 32 * (pages - page) ≡ 32 + 32 * left = omega arith in
+        let next : 32 * page + 32 ≡ 32 * (page + 1) = omega arith in
+        let later = listed-ascends named price pages (32 * (page + 1)) (32 * left) (omega arith) in
+        let own = listed-ascends named price (page + 1) (32 * page) 32 (omega arith) in
+        rw (
+          parts,
+          listed-append named price (32 * page) 32 (32 * left),
+          next,
+          encode-append (page + 1) later 0 (omega arith) (ascending-from {low = 0} (omega arith) own),
+          listed-agree named _ price _ (32 * page) 32 own-named own-price,
+        )
+
+-- ---- those of marked words
+
 abbrev pub bodyOn : List ℕ → List ℕ → ℕ → List ℕ
-bodyOn prices marks page =
-    encodeFrom 0 (listed (isMarked marks) (priceOn prices) (32 * page) (32 * (length marks - page)))
+bodyOn prices marks page = bodyFrom (isMarked marks) (priceOn prices) (length marks) page
 
 abbrev pub pricesOfPage : List ℕ → ℕ → List ℕ
 pricesOfPage prices page = take 32 (drop (32 * page) prices)
 
 pub body-on-none : (prices marks : List ℕ) (page : ℕ) → length marks ≤ page → bodyOn prices marks page ≡ []
-body-on-none prices marks page past =
-    let over : 32 * (length marks - page) ≡ 0 = omega arith in
-    rw (over, listed-none (isMarked marks) (priceOn prices) (32 * page)) (encode-none 0)
+body-on-none prices marks = body-none (isMarked marks) (priceOn prices) (length marks)
 
 pub page-left : (prices marks : List ℕ) (page : ℕ) → 0 < length (bodyOn prices marks page) → page < length marks
 page-left prices marks page some = elim (decLt page (length marks)) [
@@ -81,39 +138,13 @@ page-left prices marks page some = elim (decLt page (length marks)) [
 ]
 
 module _ (prices marks : List ℕ) (page : ℕ) (within : page < length marks) where
-  own-marks : (label : ℕ) → 32 * page ≤ label → label < 32 * page + 32
-      → isMarked marks label ≡ isSet (getD marks page 0) (label % 32)
-  own-marks label above below =
-      let own : label / 32 ≡ page = omega arith in
-      rw own
-
-  own-prices : (label : ℕ) → 32 * page ≤ label → label < 32 * page + 32
-      → priceOn prices label ≡ getD (pricesOfPage prices page) (label % 32) 0
-  own-prices label above below =
-      let at : 32 * page + label % 32 ≡ label = omega arith in
-      sym
-      (getD-take 32 (drop (32 * page) prices) (label % 32) 0 (omega arith)
-      ∙ getD-drop (32 * page) prices (label % 32) 0 ∙ rw at)
-
   pub body-on-next :
       bodyOn prices marks page
       ≡ pageWords page (getD marks page 0) (pricesOfPage prices page) ++ bodyOn prices marks (page + 1)
-  unfolding pageWords
   body-on-next =
-      let left : ℕ = length marks - (page + 1) in
-      let parts : 32 * (length marks - page) ≡ 32 + 32 * left = omega arith in
-      let next : 32 * page + 32 ≡ 32 * (page + 1) = omega arith in
-      let named = isMarked marks in
-      let price = priceOn prices in
-      let later = listed-ascends named price (length marks) (32 * (page + 1)) (32 * left) (omega arith) in
-      let own = listed-ascends named price (page + 1) (32 * page) 32 (omega arith) in
-      rw (
-        parts,
-        listed-append named price (32 * page) 32 (32 * left),
-        next,
-        encode-append (page + 1) later 0 (omega arith) (ascending-from {low = 0} (omega arith) own),
-        listed-agree named _ price _ (32 * page) 32 own-marks own-prices,
-      )
+      body-next (isMarked marks) (priceOn prices) (length marks) page within (getD marks page 0)
+      (pricesOfPage prices page) (λ w below. sym (marked-at marks page w below))
+      (λ w below is. getD-take 32 (drop (32 * page) prices) w 0 below ∙ getD-drop (32 * page) prices w 0)
 
   pub length-next :
       length (bodyOn prices marks page)

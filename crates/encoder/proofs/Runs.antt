@@ -17,7 +17,7 @@ use Rattle.diff.proofs.Listed.{listed-none, listed-take, listed-append, listed-
 use Rattle.encoder.specs.Page.{markedBy, pricedBy, pageWords, runWords, FirstRun, Run}
 
 -- no bit is set where nothing is left of a word after a shift
-bit-behind : (word by w : ℕ) → word / 2 ^ by ≡ 0 → by ≤ w → bit word w ≡ 0
+pub bit-behind : (word by w : ℕ) → word / 2 ^ by ≡ 0 → by ≤ w → bit word w ≡ 0
 bit-behind word by w none-left behind =
     let at : w ≡ by + (w - by) = omega arith in
     let left = shr-le (word / 2 ^ by) (w - by) in

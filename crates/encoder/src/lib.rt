@@ -1,11 +1,12 @@
 // Writing diffs: the one diff of the words that are marked, one word of marks for each page, at
 // their prices. It is sized before a word is written.
-ghost use Rattle.laws.specs.Prelude.{_≡_, _*_, _<_, _≤_, List, ℕ, length};
+ghost use Rattle.laws.specs.Prelude.{_≡_, _*_, _≤_, List, ℕ, length};
 ghost use lib.Seq.{sets};
-ghost use Rattle.answer.specs.Outcome.{answerOf};
+ghost use Rattle.answer.specs.Outcome.{answerOf, wrongBuffer};
 ghost use Rattle.diff.specs.Room.{roomFor, writtenBy};
 ghost use Rattle.diff.specs.Making.{madeDiff};
 use answer::Answer;
+use answer::Outcome;
 
 pub mod changes;
 pub mod page;
@@ -47,29 +48,39 @@ pub fn write_diff(prices: &[u32], marks: &[u32], words: usize, list: &mut [u32])
     list[end] = 0xF0000000 + end as u32;
 }
 
-// Writes the diff of the marked words to the front of a buffer: gives its length, or refuses it, by
-// the number that the caller has for a list over 512 words, or by 17 where the buffer is too short.
-// The diff is sized before a word is written, so that a refusal changes none.
-pub fn write_marked(prices: &[u32], marks: &[u32], over: u32, buffer: &mut [u32]) -> Answer
+// What becomes of a diff of so many words by the room that a buffer has for it: its length, or a
+// refusal, by the number that the caller has for a list over 512 words, or by 17.
+pub fn room_for(over: u32, words: usize, room: usize) -> Outcome
+    ensures { λ r. ⌜ r ≡ roomFor over words room ⌝ }
+{
+    if 512 < words {
+        return answer::refused_at(over, 0);
+    }
+    if room < words {
+        return answer::refused_at(answer::WRONG_BUFFER, 0);
+    }
+    answer::given(words as u64)
+}
+
+// Writes the diff of the marked words to the front of a buffer: gives its length, or refusal 17. The
+// diff is sized before a word is written, so that a refusal changes none.
+pub fn write_marked(prices: &[u32], marks: &[u32], buffer: &mut [u32]) -> Answer
     requires { ⌜ length (now marks) ≤ 64 ⌝ }
     requires { ⌜ length (now prices) ≡ 32 * length (now marks) ⌝ }
-    requires { ⌜ 0 < over ⌝ }
     ensures answer { λ r. ⌜ r
         ≡ answerOf
-        (roomFor over (length (madeDiff (now (prices .entry)) (now (marks .entry))))
+        (roomFor wrongBuffer (length (madeDiff (now (prices .entry)) (now (marks .entry))))
         (length (now (buffer .entry)))) ⌝ }
     ensures written { λ _. ⌜ now (buffer .exit)
         ≡ writtenBy
-        (roomFor over (length (madeDiff (now (prices .entry)) (now (marks .entry))))
+        (roomFor wrongBuffer (length (madeDiff (now (prices .entry)) (now (marks .entry))))
         (length (now (buffer .entry))))
         (madeDiff (now (prices .entry)) (now (marks .entry))) (now (buffer .entry)) ⌝ }
 {
     let words = diff_words(marks);
-    if 512 < words {
-        return Answer::Refused(over, 0);
-    }
-    if buffer.len() < words {
-        return Answer::Refused(answer::WRONG_BUFFER, 0);
+    let room = room_for(answer::WRONG_BUFFER, words, buffer.len());
+    if room.number != 0 {
+        return answer::answer_of(room);
     }
     write_diff(prices, marks, words, buffer);
     Answer::Given(words as u64)

@@ -44,7 +44,7 @@ pub fn make(working: &[u32], twins: &[u32], marks: &[u32], buffer: &mut [u32]) -
         (now (buffer .entry)) ⌝ }
 {
     if lent_marked(working.len(), twins.len(), marks.len()) {
-        return encoder::write_marked(working, marks, answer::WRONG_BUFFER, buffer);
+        return encoder::write_marked(working, marks, buffer);
     }
     Answer::Refused(answer::LIMITS, 0)
 }

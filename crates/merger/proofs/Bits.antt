@@ -6,7 +6,7 @@ use lib.Bits.{bitOr, or-step}
 use lib.Pow.{pow-pos, pow-mono, shl-exact}
 use Rattle.diff.specs.Marks.{isSet}
 use Rattle.diff.proofs.Bits.{bit-half, bit-first, none-set}
-use Rattle.merger.specs.Applying.{inRange}
+use Rattle.merger.specs.Page.{inRange}
 use Rattle.merger.proofs.Range.{in-range, below, past, range-alike}
 
 -- ---- two words together

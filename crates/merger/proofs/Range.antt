@@ -1,6 +1,6 @@
 -- Labels among so many from a first on.
 use Rattle.laws.proofs.Prelude.{ℕ, _+_, _≤_, _<_, _≡_, sym, _∙_, true, false, arith, decLt, le-leb, lt-leb, lt-ltb, le-ltb}
-use Rattle.merger.specs.Applying.{inRange}
+use Rattle.merger.specs.Page.{inRange}
 
 module _ (first count label : ℕ) where
   pub in-range : first ≤ label → label < first + count → inRange first count label ≡ true

@@ -1,2 +1,3 @@
 -- What the contracts on merging cite beside the definitions of `diff`.
-pub mod Applying
+pub mod Page
+pub mod Merging

@@ -1,6 +1,5 @@
 -- `maker::make` meets its contract: the lengths are tested first, the rest is the writing of the list.
 use mathlib.Core.Path.{sym, _∙_}
-use native.Mathlib.Omega.{arith}
 use borrow.Author.Needs.{needs}
 use denote.Ref.{now}
 use Rattle.diff.specs.Making.{makeDiff}
@@ -13,7 +12,7 @@ write-marked-requires c κs =
     let args = c .before .before .before .before .before .before .before .args in
     let passed = sym (c .before .before .lent-marked .ensures) ∙ c .before .if1 .taken in
     let lent = lent-words (now (args .working)) (now (args .twins)) (now (args .marks)) passed in
-    (lent .few, (lent .priced, omega arith))
+    (lent .few, lent .priced)
 
 returns : tie.Need-returns
 unfolding makeDiff

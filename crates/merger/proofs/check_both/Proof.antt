@@ -4,6 +4,7 @@ use borrow.Author.Needs.{needs}
 use denote.Ref.{now}
 use Rattle.answer.proofs.InOrder.{first-passes, first-refuses}
 use Rattle.diff.specs.Reading.{checkDiff}
+use Rattle.diff.specs.Merging.{mergePages}
 use Rattle.merger.proofs.check_both.Statement.{statement}
 use Rattle.merger.proofs.check_both.Tie as tie
 
@@ -14,14 +15,14 @@ returns c =
     let passed = sym (ap (λ o. o .number) checked) ∙ c .before .if1 .taken in
     c .check2 .ensures
     ∙ sym
-    (first-passes (checkDiff (args .pages) (now (args .first))) (checkDiff (args .pages) (now (args .second))) passed)
+    (first-passes (checkDiff mergePages (now (args .first))) (checkDiff mergePages (now (args .second))) passed)
 
 returns-2 : tie.Need-returns-2
 returns-2 c =
     let checked = c .before .before .check .ensures in
     let args = c .before .before .before .before .before .args in
     checked
-    ∙ sym (first-refuses (checkDiff (args .pages) (now (args .first))) (checkDiff (args .pages) (now (args .second)))
+    ∙ sym (first-refuses (checkDiff mergePages (now (args .first))) (checkDiff mergePages (now (args .second)))
     (λ none. c .if1 .left (ap (λ o. o .number) checked ∙ none)))
 
 pub check-both-spec : {M : Type 1} → statement M

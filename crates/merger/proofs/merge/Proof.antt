@@ -1,40 +1,104 @@
--- `merger::merge` meets its contract: both lists are checked first; a rack of 64 pages allows what one of 16 does.
-use mathlib.Core.Path.{sym, ap, _∙_}
+-- `merger::merge` meets its contract: both lists are checked first; the diff is made apart, and is copied where there is
+-- room.
+use Prim.Native.Nat.{ℕ, _-_}
+use mathlib.Core.Path.{_≡_, refl, sym, ap, _∙_}
 use mathlib.Core.Logic.{_≢_}
-use lib.ListN.{length}
+use native.Mathlib.Omega.{arith}
+use lib.ListN.{length, length-take, length-drop}
 use borrow.Author.Needs.{needs}
-use borrow.Author.Tests.{ne-eqb}
 use denote.Ref.{now}
-use Rattle.answer.specs.Outcome.{answerOf, andThen}
+use Rattle.answer.specs.Outcome.{answerOf, andThen, given, listTooLong}
 use Rattle.answer.proofs.InOrder.{both-pass}
 use Rattle.diff.specs.Reading.{checkDiff}
-use Rattle.diff.proofs.Merging.{merge-faulty}
+use Rattle.diff.specs.Merging.{mergePages, mergedDiff, mergeDiffs}
+use Rattle.diff.proofs.Merging.{merge-faulty, merge-sized}
+use Rattle.diff.proofs.Room.{within-limit, within-room, room-given, written-none, written-all}
+use Rattle.merger.proofs.Made.{made-room, made-front}
 use Rattle.merger.proofs.merge.Statement.{statement}
 use Rattle.merger.proofs.merge.Tie as tie
 
-merge-few-requires : tie.Need-merge-few-requires
-merge-few-requires c κs =
+returns : tie.Need-returns
+returns c =
     let args = c .before .before .before .before .before .before .before .args in
-    both-pass (checkDiff 16 (now (args .first))) (checkDiff 16 (now (args .second)))
-    (sym (ap (λ o. o .number) (c .before .before .before .check-both .ensures)) ∙ c .before .if1 .taken)
+    let first = now (args .first) in
+    let second = now (args .second) in
+    let buffer = now (args .buffer) in
+    let checked = c .before .before .before .check-both .ensures in
+    let comes = andThen (checkDiff mergePages first) (checkDiff mergePages second) in
+    let refused : comes .number ≢ 0 = λ none. c .before .if1 .taken (ap (λ o. o .number) checked ∙ none) in
+    let faulty = merge-faulty first second (length buffer) refused in (
+      rw faulty (c .answer-of .ensures ∙ ap answerOf checked),
+      rw faulty (sym (written-none comes (mergedDiff first second) buffer refused)),
+    )
 
-merge-all-requires : tie.Need-merge-all-requires
-merge-all-requires c κs =
-    let args = c .before .before .before .before .before .before .before .before .before .before .args in
-    both-pass (checkDiff 64 (now (args .first))) (checkDiff 64 (now (args .second)))
-    (sym (ap (λ o. o .number) (c .before .before .before .check-both2 .ensures)) ∙ c .before .if2 .taken)
+merge-pages-requires : tie.Need-merge-pages-requires
+merge-pages-requires c κs =
+    let args = c .before .before .before .before .before .before .before .args in
+    let allowed = both-pass (checkDiff mergePages (now (args .first))) (checkDiff mergePages (now (args .second)))
+    (sym (ap (λ o. o .number) (c .before .before .before .check-both .ensures)) ∙ c .before .if1 .left) in
+    ((allowed .0, allowed .1), refl)
+
+returns-2 : tie.Need-returns-2
+returns-2 c =
+    let args = c .before .before .before .before .before .before .before .before .before .before .before .before .before .args in
+    let first = now (args .first) in
+    let second = now (args .second) in
+    let buffer = now (args .buffer) in
+    let allowed = both-pass (checkDiff mergePages first) (checkDiff mergePages second)
+    (sym (ap (λ o. o .number) (c .before .before .before .before .before .before .before .before .before .check-both .ensures)) ∙ c .before .before .before .before .before .before .before .if1 .left) in
+    let made = c .before .before .before .before .before .merge-pages .ensures in
+    let comes = c .before .before .before .room-for .ensures ∙ made-room made refl listTooLong (length buffer)
+    ∙ sym (merge-sized first second (length buffer) (allowed .0) (allowed .1)) in (
+      c .answer-of2 .ensures ∙ ap answerOf comes,
+      sym
+          (written-none (mergeDiffs first second (length buffer)) (mergedDiff first second) buffer
+          (λ none. c .before .if2 .taken (ap (λ o. o .number) comes ∙ none))),
+    )
+
+part-store-run-in-end : tie.Need-part-store-run-in-end
+part-store-run-in-end c =
+    let words = c .before .before .before .before .before .before .merge-pages .result in
+    let room = length (now (c .before .before .before .before .before .before .before .before .before .before .before .before .before .before .args .buffer)) in
+    let accepted = sym (ap (λ o. o .number) (c .before .before .before .before .room-for .ensures)) ∙ c .before .before .if2 .left in
+    let few = within-limit listTooLong words room (omega arith) accepted in
+    search needs
+
+store-run-in-requires : tie.Need-store-run-in-requires
+store-run-in-requires c κs =
+    let words = c .before .before .before .before .before .before .before .merge-pages .result in
+    let room = length (now (c .before .before .before .before .before .before .before .before .before .before .before .before .before .before .before .args .buffer)) in
+    let accepted = sym (ap (λ o. o .number) (c .before .before .before .before .before .room-for .ensures)) ∙ c .before .before .before .if2 .left in
+    rw length-take (omega (arith, within-room listTooLong words room (omega arith) accepted))
 
 returns-3 : tie.Need-returns-3
 returns-3 c =
-    let args = c .before .before .before .before .before .before .before .before .before .before .args in
-    let checked = c .before .before .before .check-both2 .ensures in
-    let comes = andThen (checkDiff 64 (now (args .first))) (checkDiff 64 (now (args .second))) in
-    let refused : comes .number ≢ 0 = λ none. c .before .if2 .left (ap (λ o. o .number) checked ∙ none) in
-    let faulty = merge-faulty (now (args .first)) (now (args .second)) (length (now (args .buffer))) refused in
-    (rw faulty (c .answer-of .ensures ∙ ap answerOf checked), rw (faulty, ne-eqb (comes .number) 0 refused))
+    let args = c .before .before .before .before .before .before .before .before .before .before .before .before .before .before .before .before .before .before .args in
+    let first = now (args .first) in
+    let second = now (args .second) in
+    let buffer = now (args .buffer) in
+    let allowed = both-pass (checkDiff mergePages first) (checkDiff mergePages second)
+    (sym (ap (λ o. o .number) (c .before .before .before .before .before .before .before .before .before .before .before .before .before .before .check-both .ensures)) ∙ c .before .before .before .before .before .before .before .before .before .before .before .before .if1 .left) in
+    let words = c .before .before .before .before .before .before .before .before .before .before .merge-pages .result in
+    let made = c .before .before .before .before .before .before .before .before .before .before .merge-pages .ensures in
+    let room = c .before .before .before .before .before .before .before .before .room-for .ensures in
+    let sized = made-room made refl listTooLong (length buffer) in
+    let comes = sym (merge-sized first second (length buffer) (allowed .0) (allowed .1)) in
+    let accepted = sym (ap (λ o. o .number) room) ∙ c .before .before .before .before .before .before .if2 .left in
+    let few = within-limit listTooLong words (length buffer) (omega arith) accepted in
+    let front = made-front made refl few in
+    let passes = sym (ap (λ o. o .number) sized) ∙ accepted in
+    let fits = within-room listTooLong (length (mergedDiff first second)) (length buffer) (omega arith) passes in
+    let all : words - 0 ≡ words = omega arith in (
+      ap answerOf (sym (room-given listTooLong words (length buffer) (omega arith) accepted) ∙ sized ∙ comes),
+      (rw (all, front) at (c .before .before .store-run-in .ensures))
+          ∙ sym
+          (written-all (mergeDiffs first second (length buffer)) (mergedDiff first second) buffer
+          (sym (ap (λ o. o .number) comes) ∙ passes) fits),
+    )
 
 pub merge-spec : {M : Type 1} → statement M
 merge-spec =
     tie.close
-    (tie.spec (λ c κs. search needs) merge-few-requires (λ c. search needs) (λ c. search needs) (λ c κs. search needs)
-    merge-all-requires (λ c. search needs) (λ c. search needs) (λ c κs. search needs) returns-3)
+    (tie.spec (λ c κs. search needs) (λ c κs. search needs) returns (λ c. search needs) merge-pages-requires
+    (λ c κs. search needs) (λ c κs. search needs) returns-2 (λ c. search needs) (λ c. search needs)
+    part-store-run-in-end store-run-in-requires (λ c. search needs) returns-3)

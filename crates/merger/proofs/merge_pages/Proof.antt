@@ -1,0 +1,147 @@
+-- `merger::merge_pages` meets its contract. The loop's invariant: what the pages before one bring stands in the list, and
+-- the rest of both diffs is ahead. The next word rises with each page.
+use Prim.Native.Nat.{_-_, _%_, _<_}
+use mathlib.Core.Path.{_≡_, refl}
+use lib.ListN.{length}
+use native.Mathlib.Omega.{arith}
+use borrow.Author.Needs.{needs}
+use denote.Ref.{now}
+use Rattle.merger.proofs.Ahead.{ahead-first}
+use Rattle.merger.proofs.Merging.{Merging, merging-first, ahead-inside, next-page-on, page-of-first, page-of-second}
+use Rattle.merger.proofs.Merging.{first-inside, second-inside, no-room, merging-next, merged-made}
+use Rattle.merger.proofs.merge_pages.Statement.{statement}
+use Rattle.merger.proofs.merge_pages.Tie as tie
+use Rattle.merger.proofs.merge_pages.Reads as reads
+use Rattle.merger.proofs.merge_pages.Lts as lts
+use Rattle.encoder.proofs.page.page_words.Reads as page-words-reads
+use Rattle.encoder.proofs.page.write_page.Reads as write-page-reads
+use Rattle.merger.proofs.next_word.Reads as next-word-reads
+use Rattle.merger.proofs.page.take_page.Reads as take-page-reads
+
+abbrev Inv-loop : tie.InvT-loop
+Inv-loop first second list₀ prices₀ one₀ two₀ at₀ next₀ list prices one two at next =
+    (length prices ≡ 32) × Merging first second list₀ one two at next list
+
+abbrev μ-loop : tie.MeasureT-loop
+μ-loop first second list₀ prices₀ one₀ two₀ at₀ next₀ list prices one two at next = 0xF0000000 - next
+
+next-word-requires : tie.Need-next-word-requires Inv-loop μ-loop
+next-word-requires c κs =
+    let start = c .before .before .before in (
+      ahead-inside (ahead-first (now (start .args .first)) (start .pre .0 .0)),
+      ahead-inside (ahead-first (now (start .args .second)) (start .pre .0 .1)),
+    )
+
+loop-holds : tie.Need-loop-holds Inv-loop μ-loop
+loop-holds c =
+    let start = c .before .before .before .before in (
+      refl,
+      merging-first _ _ _ _ (start .pre .0 .0) (start .pre .0 .1) (omega (arith, start .pre .1)) (c .next-word .ensures),
+    )
+
+take-page-requires : tie.Need-take-page-requires Inv-loop μ-loop
+take-page-requires c κs =
+    let merging = c .before .before .loop .inv .1 in
+    let more = c .before .loop-test .taken in
+    (next-page-on merging more, (c .before .before .loop .inv .0, (_, (_, page-of-first merging more))))
+
+take-page-requires-2 : tie.Need-take-page-requires-2 Inv-loop μ-loop
+take-page-requires-2 c κs =
+    let merging = c .before .before .before .before .before .loop .inv .1 in
+    let more = c .before .before .before .before .loop-test .taken in
+    (next-page-on merging more, (search needs, (_, (_, page-of-second merging more))))
+
+returns : tie.Need-returns Inv-loop μ-loop
+returns c =
+    let loop = c .before .before .before .before .before .before .before .before in
+    let merging = loop .before .loop .inv .1 in
+    let more = loop .loop-test .taken in
+    let laid = c .before .before .before .before .before .before .take-page .ensures .1 _ _ (page-of-first merging more) in
+    let laid′ = c .before .before .before .take-page2 .ensures .1 _ _ (page-of-second merging more) in
+    let start = loop .before .before .before .before .before .before in
+    no-room merging more _ _ _ _ _ laid laid′ _ (c .before .page-words .ensures .1) _ 513
+    (omega (arith, c .if1 .taken, start .pre .1)) (omega (arith, start .pre .1))
+
+write-page-requires : tie.Need-write-page-requires Inv-loop μ-loop
+write-page-requires c κs =
+    let loop = c .before .before .before .before .before .before .before .before .before .before in
+    let merging = loop .before .loop .inv .1 in
+    let start = loop .before .before .before .before .before .before in
+    let prices = c .before .before .before .before .before .take-page2 .last .1 .1 .1 .0 in
+    let sized = c .before .before .before .page-words .ensures .1 in (
+      next-page-on merging (loop .loop-test .taken),
+      (search needs, omega (arith, sized (loop .before .loop .next % 0x10000000) prices, c .before .before .if1 .left, merging .long, start .pre .1)),
+    )
+
+next-word-requires-2 : tie.Need-next-word-requires-2 Inv-loop μ-loop
+next-word-requires-2 c κs =
+    let loop = c .before .before .before .before .before .before .before .before .before .before .before .before .before
+    in
+    let merging = loop .before .loop .inv .1 in
+    let more = loop .loop-test .taken in
+    let below = c .before .before .before .before .before .before .before .before .before .before .before in
+    let over = c .before .before .before .before .before .before .before .before in (
+      first-inside merging more _ (below .take-page .ensures .0 _ _ (page-of-first merging more)),
+      second-inside merging more _ (over .take-page2 .ensures .0 _ _ (page-of-second merging more)),
+    )
+
+-- after a page, the next word is higher, and what the page brings stands in the list
+again : (c : lts.After-next-word2 (
+  next-word-reads.Asked,
+  next-word-reads.Learnt,
+  take-page-reads.Asked,
+  take-page-reads.Learnt,
+  page-words-reads.Asked,
+  page-words-reads.Learnt,
+  write-page-reads.Asked,
+  write-page-reads.Learnt,
+) reads.Pre
+    reads.Post Inv-loop μ-loop)
+    → (c .before .before .before .before .before .before .before .before .before .before .before .before .before .before .before .loop .next < c .next-word2 .result)
+    × Merging (now (c .before .before .before .before .before .before .before .before .before .before .before .before .before .before .before .before .before .before .before .before .args .first))
+    (now (c .before .before .before .before .before .before .before .before .before .before .before .before .before .before .before .before .before .before .before .before .args .second))
+    (now (c .before .before .before .before .before .before .before .before .before .before .before .before .before .before .before .before .before .before .before .before .args .list))
+    (c .before .before .before .before .before .before .before .before .before .before .before .before .take-page .result .next)
+    (c .before .before .before .before .before .before .before .before .before .take-page2 .result .next)
+    (c .before .before .before .write-page .result) (c .next-word2 .result)
+    (c .before .before .before .write-page .last .1 .1 .1 .0)
+again c =
+    let over = c .before .before .before .before .before .before .before .before .before in
+    let below = over .before .before .before in
+    let loop = below .before .before in
+    let merging = loop .before .loop .inv .1 in
+    let more = loop .loop-test .taken in
+    let first = page-of-first merging more in
+    let second = page-of-second merging more in
+    let wrote = c .before .before .before .write-page .ensures in
+    let sized = c .before .before .before .before .before .before .before .page-words .ensures .1 in
+    let long = loop .before .before .before .before .before .before .pre .1 in
+    merging-next merging more _ _ _ _ _ (below .take-page .ensures .1 _ _ first)
+    (over .take-page2 .ensures .1 _ _ second) _ sized
+    (omega (arith, c .before .before .before .before .before .before .if1 .left, long)) _ _ _ _ _
+    (below .take-page .ensures .0 _ _ first) (over .take-page2 .ensures .0 _ _ second) (c .next-word2 .ensures)
+    (wrote .0) (wrote .1)
+
+loop-less : tie.Need-loop-less Inv-loop μ-loop
+loop-less c = omega (arith, again c .0, c .before .before .before .before .before .before .before .before .before .before .before .before .before .before .loop-test .taken)
+
+loop-again : tie.Need-loop-again Inv-loop μ-loop
+loop-again c = (search needs, again c .1)
+
+returns-2 : tie.Need-returns-2 Inv-loop μ-loop
+returns-2 c = merged-made (c .before .loop .inv .1) (c .loop-test .left) _ refl
+
+pub merge-pages-spec : {M : Type 1} → statement M
+merge-pages-spec =
+    tie.close
+    (tie.spec Inv-loop μ-loop next-word-requires loop-holds (λ c. search needs) (λ c. search needs) take-page-requires
+    (λ c. search needs) take-page-requires-2 (λ c κs. search needs) (λ c. search needs)
+    (λ c. let room = c .before .before .before .before .before .before .before .before .loop .inv .1 .room in search needs)
+    (λ c. let long = c .before .before .before .before .before .before .before .before .before .loop .inv .1 .long in search needs) returns
+    (λ c. search needs) write-page-requires next-word-requires-2 loop-less loop-again
+    (λ c. let room = c .before .loop .inv .1 .room in search needs)
+    (λ c. let room = c .before .loop .inv .1 .room in search needs)
+    (λ c. let room = c .before .loop .inv .1 .room in search needs)
+    (λ c. let room = c .before .loop .inv .1 .room in search needs)
+    (λ c. let room = c .before .loop .inv .1 .room in search needs)
+    (λ c. let long = c .before .loop .inv .1 .long in search needs) returns-2)

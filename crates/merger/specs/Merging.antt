@@ -1,0 +1,11 @@
+-- Inner contracts only. A diff made in a list that may be too short for it.
+-- Assumes nothing: these are definitions.
+use Rattle.laws.specs.Prelude.{ℕ, _<_, _≤_, _≡_, List, length}
+use lib.Seq.{sets}
+
+-- a diff of so many words stands at the front of a list; where the list is too short for it, there are more words than
+-- the list has
+pub record MadeIn (diff before : List ℕ) (words : ℕ) (after : List ℕ) : Type 0 where
+  pub too-long : length before < length diff → length before < words
+  pub counted : length diff ≤ length before → words ≡ length diff
+  pub stored : length diff ≤ length before → after ≡ sets before 0 diff
