@@ -71,7 +71,7 @@ module _ (pages : ℕ) (few : pages ≤ 64) (first second : List ℕ) (allowed :
           listed-unnamed (eitherNames p q) (lastPrice p q) (0 + 32 * pages) (32 * mergePages - 32 * pages)
           (λ i low high. either-past i (omega arith))
 
-  pub merged-listed : merged ≡ listedDiff (eitherNames p q) (lastPrice p q) (32 * pages)
+  merged-listed : merged ≡ listedDiff (eitherNames p q) (lastPrice p q) (32 * pages)
   merged-listed =
       merged-list first second
       ∙ rw (more-prices few first allowed, more-prices few second allowed′) (ap encode listed-pages)

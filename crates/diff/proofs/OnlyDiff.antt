@@ -54,7 +54,7 @@ whole-allowed pages diff k whole = rw (whole, zero-add) (rw (le-ltb (length diff
 -- ---- an allowed diff is the encoding of its prices, which ascend
 
 module _ (pages : ℕ) (diff : List ℕ) (allowed : Allowed pages diff) where
-  pub allowed-reads : Reads pages start 0 diff (pricesOf pages diff)
+  allowed-reads : Reads pages start 0 diff (pricesOf pages diff)
   unfolding pricesOf
   allowed-reads =
       let whole = allowed-whole pages diff allowed in
@@ -82,16 +82,13 @@ module _ (pages : ℕ) (diff : List ℕ) (allowed : Allowed pages diff) where
       (arith, simp length-append at (ap length (allowed-coded .code))) in
       allowed-coded .code ∙ rw end
 
--- a rack with more pages allows it too, and reads the same prices
+-- a rack with more pages reads the same prices
 module _ {pages pages′ : ℕ} (more : pages ≤ pages′) (diff : List ℕ) (allowed : Allowed pages diff) where
   few-words : 0 + length diff ≤ mostWords
   few-words = omega (arith, allowed-few pages diff allowed)
 
   reads-more : Reads pages′ start 0 diff (pricesOf pages diff)
   reads-more = reads-more-pages more (allowed-reads pages diff allowed)
-
-  pub more-allowed : Allowed pages′ diff
-  more-allowed = whole-allowed pages′ diff (0 + length (pricesOf pages diff)) (reads-good pages′ reads-more few-words)
 
   pub more-prices : pricesOf pages′ diff ≡ pricesOf pages diff
   unfolding pricesOf

@@ -1,5 +1,5 @@
 -- A diff page by page: the words of prices on one page and of those on later pages stand one after the other.
-use Rattle.laws.proofs.Prelude.{ℕ, suc, _+_, _-_, _*_, _/_, _%_, _≤_, _<_, _≡_, refl, sym, ap, _∙_, List, [], _∷_, _++_}
+use Rattle.laws.proofs.Prelude.{ℕ, suc, _+_, _-_, _*_, _%_, _≤_, _<_, _≡_, refl, sym, ap, _∙_, List, [], _∷_, _++_}
 use Rattle.laws.proofs.Prelude.{Bool, true, false, arith, decLt, length, getD, set, take, drop}
 use mathlib.Core.List.{append-assoc}
 use native.Mathlib.Nat.{zero-add}

@@ -1,13 +1,12 @@
 -- What is left of an allowed diff from a page on: the first page of it that has words, and what stands behind these.
-use Rattle.laws.proofs.Prelude.{ℕ, zero, suc, _+_, _-_, _*_, _/_, _%_, _^_, _≤_, _<_, _≡_, _≢_, refl, sym, ap, _∙_, arith, decLt}
+use Rattle.laws.proofs.Prelude.{ℕ, zero, suc, _+_, _-_, _*_, _%_, _^_, _≤_, _<_, _≡_, refl, sym, ap, _∙_, arith, decLt}
 use Rattle.laws.proofs.Prelude.{List, [], _∷_, _++_, false, length, getD, drop, ℕ-discrete}
 use mathlib.Core.List.{append-assoc}
 use lib.ListN.{length-append}
 use lib.Seq.{drop-drop, drop-at}
-use Rattle.diff.specs.Format.{kind, pageWord, endWord}
+use Rattle.diff.specs.Format.{pageWord, endWord}
 use Rattle.diff.specs.declared.Price.{Price}
 use Rattle.diff.specs.Prices.{pricesOf, names, appliedAt}
-use Rattle.diff.specs.Encoding.{listedDiff}
 use Rattle.diff.specs.OnlyDiff.{Allowed}
 use Rattle.diff.specs.Merging.{mergePages}
 use Rattle.diff.specs.Marks.{isSet}

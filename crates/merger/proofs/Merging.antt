@@ -4,13 +4,12 @@ use Rattle.laws.proofs.Prelude.{ℕ, _+_, _*_, _%_, _≤_, _<_, _≡_, refl, sy
 use Rattle.laws.proofs.Prelude.{Bool, true, false, cond, _||_, true≢false, length, getD, set}
 use Rattle.laws.proofs.Lists.{sets-append}
 use Prim.Native.Nat.{min}
-use mathlib.Core.List.{append-nil}
 use native.Mathlib.Nat.{zero-add}
 use lib.ListN.{length-append}
 use lib.Seq.{sets, length-sets}
 use Rattle.diff.specs.Format.{pageWord, endWord}
 use Rattle.diff.specs.declared.Price.{Price}
-use Rattle.diff.specs.Prices.{pricesOf, names, appliedAt}
+use Rattle.diff.specs.Prices.{pricesOf, names}
 use Rattle.diff.specs.Marks.{isSet}
 use Rattle.diff.specs.OnlyDiff.{Allowed}
 use Rattle.diff.specs.Merging.{mergePages, eitherNames, lastPrice, mergedDiff}

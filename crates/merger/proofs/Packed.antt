@@ -1,5 +1,5 @@
 -- A test on the words of a page as a word of marks, and their prices as a list.
-use Rattle.laws.proofs.Prelude.{ℕ, zero, suc, _+_, _*_, _/_, _%_, _^_, _<_, _≡_, refl, sym, ap, _∙_, arith}
+use Rattle.laws.proofs.Prelude.{ℕ, zero, suc, _+_, _*_, _/_, _^_, _<_, _≡_, refl, ap, arith}
 use Rattle.laws.proofs.Prelude.{List, [], _∷_, Bool, true, false, cond, length, getD, eq-eqb, ne-eqb}
 use native.Mathlib.Nat.{pow-suc, pow-zero}
 use Rattle.diff.specs.Marks.{bit, isSet}

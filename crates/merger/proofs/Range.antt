@@ -12,12 +12,6 @@ module _ (first count label : ℕ) where
   pub past : first ≤ label → first + count ≤ label → inRange first count label ≡ false
   past low high = rw (le-leb first label low, le-ltb label (first + count) high)
 
-pub none-in-range : (first label : ℕ) → inRange first 0 label ≡ false
-none-in-range first label = elim (decLt label first) [
-  | yes low ↦ below first 0 label low
-  | no from ↦ past first 0 label (omega arith) (omega arith)
-]
-
 -- two labels that are alike in both bounds
 pub range-alike : (first count label first′ count′ label′ : ℕ) → (label < first → label′ < first′)
     → (first ≤ label → first′ ≤ label′) → (label < first + count → label′ < first′ + count′)

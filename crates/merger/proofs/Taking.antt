@@ -1,7 +1,7 @@
 -- The runs that a diff has on a page, taken one after the other: which words are laid over the page once so many runs are
 -- taken, and that the words of the list past them are those of the runs that are left.
-use Rattle.laws.proofs.Prelude.{ℕ, _+_, _-_, _/_, _%_, _^_, _≤_, _<_, _≡_, _≢_, refl, sym, ap, _∙_, arith, decLt}
-use Rattle.laws.proofs.Prelude.{List, [], _∷_, _++_, Bool, true, false, cond, _||_, length, getD, take, drop, ℕ-discrete}
+use Rattle.laws.proofs.Prelude.{ℕ, _+_, _-_, _/_, _^_, _≤_, _<_, _≡_, _≢_, sym, ap, _∙_, arith, decLt}
+use Rattle.laws.proofs.Prelude.{List, _∷_, _++_, Bool, true, false, cond, _||_, length, getD, take, drop, ℕ-discrete}
 use Rattle.laws.proofs.Prelude.{true≢false}
 use Rattle.laws.proofs.Lists.{getD-sets-outside, getD-sets-inside}
 use mathlib.Core.Bool.{or-assoc, or-false, or-true}

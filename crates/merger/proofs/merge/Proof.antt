@@ -1,13 +1,13 @@
 -- `merger::merge` meets its contract: both lists are checked first; the diff is made apart, and is copied where there is
 -- room.
-use Prim.Native.Nat.{ℕ, _-_}
+use Prim.Native.Nat.{_-_}
 use mathlib.Core.Path.{_≡_, refl, sym, ap, _∙_}
 use mathlib.Core.Logic.{_≢_}
 use native.Mathlib.Omega.{arith}
-use lib.ListN.{length, length-take, length-drop}
+use lib.ListN.{length, length-take}
 use borrow.Author.Needs.{needs}
 use denote.Ref.{now}
-use Rattle.answer.specs.Outcome.{answerOf, andThen, given, listTooLong}
+use Rattle.answer.specs.Outcome.{answerOf, andThen, listTooLong}
 use Rattle.answer.proofs.InOrder.{both-pass}
 use Rattle.diff.specs.Reading.{checkDiff}
 use Rattle.diff.specs.Merging.{mergePages, mergedDiff, mergeDiffs}
