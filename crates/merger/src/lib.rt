@@ -41,7 +41,7 @@ fn next_word(first: &[u32], one: usize, second: &[u32], two: usize) -> u32
 }
 
 // Makes one diff of two that are allowed, in a list of 512 words, and gives its length, or 513 where
-// it is longer.
+// it is longer. Prices that stand there from the page before are not marked, and not written.
 fn merge_pages(first: &[u32], second: &[u32], list: &mut [u32]) -> usize
     requires { ⌜ Allowed mergePages (now first) × Allowed mergePages (now second) ⌝ }
     requires { ⌜ length (now list) ≡ 512 ⌝ }
