@@ -81,6 +81,7 @@ module _ {first second before : List ℕ} {one two at next : ℕ} {list : List �
   abbrev p′ : List Price
   p′ = pricesOf mergePages second
 
+  -- the next page of each
   abbrev np : NextPage p (merging .ahead .end) (merging .page)
   np = first-page (merging .ahead)
 
@@ -98,10 +99,10 @@ module _ {first second before : List ℕ} {one two at next : ℕ} {list : List �
   -- ---- at a page word
 
   module _ (more : next < 0xF0000000) where
+    -- the page that it names: of the next pages of both the lower one
     abbrev q : ℕ
     q = next % 0x10000000
 
-    -- of the next pages of both the lower one
     record Next : Type 0 where
       on : q < 64
       word : next ≡ pageWord q
@@ -152,11 +153,24 @@ module _ {first second before : List ℕ} {one two at next : ℕ} {list : List �
       past-second : index ≡ two + length (pageWords q (marksOn p′ q) (pricesOn p′ q)) → Ahead second p′ index (q + 1)
       past-second past = rw past (past-page (merging .ahead′) q (next-is .on) (next-is .from) (next-is .to′))
 
-      pub first-inside : index ≡ one + length (pageWords q (marksOn p q) (pricesOn p q)) → index < length first
-      first-inside past = ahead-inside (past-first past)
+    module _ (one′ two′ : ℕ) (past : one′ ≡ one + length (pageWords q (marksOn p q) (pricesOn p q)))
+        (past′ : two′ ≡ two + length (pageWords q (marksOn p′ q) (pricesOn p′ q))) where
+      pub both-inside : (one′ < length first) × (two′ < length second)
+      both-inside = (ahead-inside (past-first one′ past), ahead-inside (past-second two′ past′))
 
-      pub second-inside : index ≡ two + length (pageWords q (marksOn p′ q) (pricesOn p′ q)) → index < length second
-      second-inside past = ahead-inside (past-second past)
+      pub next-rises : (next′ : ℕ) → next′ ≡ min (getD first one′ 0) (getD second two′ 0) → next < next′
+      next-rises next′ lower =
+          let ahead = past-first one′ past in
+          let ahead′ = past-second two′ past′ in
+          omega (
+            arith,
+            lower,
+            ahead-word ahead,
+            ahead-word ahead′,
+            word-above (first-page ahead),
+            word-above (first-page ahead′),
+            next-is .word,
+          )
 
     -- what both have on the page is laid over one another
     module _ (shown : List ℕ) (marks : ℕ) (prices : List ℕ) (marks′ : ℕ) (prices′ : List ℕ)
@@ -221,8 +235,8 @@ module _ {first second before : List ℕ} {one two at next : ℕ} {list : List �
           (lower : next′ ≡ min (getD first one′ 0) (getD second two′ 0))
           (written : at′ ≡ at + length (pageWords q marks′ prices′))
           (stores : list′ ≡ sets list at (pageWords q marks′ prices′)) where
-        merging-later : Merging first second before one′ two′ at′ next′ list′
-        merging-later =
+        pub merging-next : Merging first second before one′ two′ at′ next′ list′
+        merging-next =
             record {
               page = q + 1;
               ahead = past-first one′ past;
@@ -236,21 +250,6 @@ module _ {first second before : List ℕ} {one two at next : ℕ} {list : List �
                   (sym (sets-append (pageWords q marks′ prices′) (mergedBody first second (q + 1)) list at)
                   ∙ ap (sets list at) (sym merged-next) ∙ merging .stored);
             }
-
-        rises : next < next′
-        rises =
-            omega (
-              arith,
-              lower,
-              ahead-word (past-first one′ past),
-              ahead-word (past-second two′ past′),
-              word-above (first-page (past-first one′ past)),
-              word-above (first-page (past-second two′ past′)),
-              next-is .word,
-            )
-
-        pub merging-next : (next < next′) × Merging first second before one′ two′ at′ next′ list′
-        merging-next = (rises, merging-later)
 
   -- ---- at the end of both
 

@@ -40,14 +40,18 @@ merge-pages-requires c κs =
 
 returns-2 : tie.Need-returns-2
 returns-2 c =
-    let args = c .before .before .before .before .before .before .before .before .before .before .before .before .before .args in
+    let room = c .before .before .before in
+    let merged = room .before .before in
+    let args = merged .before .before .before .before .before .before .before .before .args in
     let first = now (args .first) in
     let second = now (args .second) in
     let buffer = now (args .buffer) in
-    let allowed = both-pass (checkDiff mergePages first) (checkDiff mergePages second)
-    (sym (ap (λ o. o .number) (c .before .before .before .before .before .before .before .before .before .check-both .ensures)) ∙ c .before .before .before .before .before .before .before .if1 .left) in
-    let made = c .before .before .before .before .before .merge-pages .ensures in
-    let comes = c .before .before .before .room-for .ensures ∙ made-room made refl listTooLong (length buffer)
+    let checked = merged .before .before .before .before .check-both .ensures in
+    let allowed =
+    both-pass (checkDiff mergePages first) (checkDiff mergePages second)
+    (sym (ap (λ o. o .number) checked) ∙ merged .before .before .if1 .left) in
+    let comes =
+    room .room-for .ensures ∙ made-room (merged .merge-pages .ensures) refl listTooLong (length buffer)
     ∙ sym (merge-sized first second (length buffer) (allowed .0) (allowed .1)) in (
       c .answer-of2 .ensures ∙ ap answerOf comes,
       sym
@@ -57,35 +61,41 @@ returns-2 c =
 
 part-store-run-in-end : tie.Need-part-store-run-in-end
 part-store-run-in-end c =
-    let words = c .before .before .before .before .before .before .merge-pages .result in
-    let room = length (now (c .before .before .before .before .before .before .before .before .before .before .before .before .before .before .args .buffer)) in
-    let accepted = sym (ap (λ o. o .number) (c .before .before .before .before .room-for .ensures)) ∙ c .before .before .if2 .left in
-    let few = within-limit listTooLong words room (omega arith) accepted in
+    let room = c .before .before .before .before in
+    let merged = room .before .before in
+    let buffer = now (merged .before .before .before .before .before .before .before .before .args .buffer) in
+    let accepted = sym (ap (λ o. o .number) (room .room-for .ensures)) ∙ c .before .before .if2 .left in
+    let few = within-limit listTooLong (merged .merge-pages .result) (length buffer) (omega arith) accepted in
     search needs
 
 store-run-in-requires : tie.Need-store-run-in-requires
 store-run-in-requires c κs =
-    let words = c .before .before .before .before .before .before .before .merge-pages .result in
-    let room = length (now (c .before .before .before .before .before .before .before .before .before .before .before .before .before .before .before .args .buffer)) in
-    let accepted = sym (ap (λ o. o .number) (c .before .before .before .before .before .room-for .ensures)) ∙ c .before .before .before .if2 .left in
-    rw length-take (omega (arith, within-room listTooLong words room (omega arith) accepted))
+    let room = c .before .before .before .before .before in
+    let merged = room .before .before in
+    let buffer = now (merged .before .before .before .before .before .before .before .before .args .buffer) in
+    let accepted = sym (ap (λ o. o .number) (room .room-for .ensures)) ∙ c .before .before .before .if2 .left in
+    let fits = within-room listTooLong (merged .merge-pages .result) (length buffer) (omega arith) accepted in
+    rw length-take (omega arith)
 
 returns-3 : tie.Need-returns-3
 returns-3 c =
-    let args = c .before .before .before .before .before .before .before .before .before .before .before .before .before .before .before .before .before .before .args in
+    let room = c .before .before .before .before .before .before .before .before in
+    let merged = room .before .before in
+    let args = merged .before .before .before .before .before .before .before .before .args in
     let first = now (args .first) in
     let second = now (args .second) in
     let buffer = now (args .buffer) in
-    let allowed = both-pass (checkDiff mergePages first) (checkDiff mergePages second)
-    (sym (ap (λ o. o .number) (c .before .before .before .before .before .before .before .before .before .before .before .before .before .before .check-both .ensures)) ∙ c .before .before .before .before .before .before .before .before .before .before .before .before .if1 .left) in
-    let words = c .before .before .before .before .before .before .before .before .before .before .merge-pages .result in
-    let made = c .before .before .before .before .before .before .before .before .before .before .merge-pages .ensures in
-    let room = c .before .before .before .before .before .before .before .before .room-for .ensures in
+    let checked = merged .before .before .before .before .check-both .ensures in
+    let allowed =
+    both-pass (checkDiff mergePages first) (checkDiff mergePages second)
+    (sym (ap (λ o. o .number) checked) ∙ merged .before .before .if1 .left) in
+    let words = merged .merge-pages .result in
+    let made = merged .merge-pages .ensures in
     let sized = made-room made refl listTooLong (length buffer) in
     let comes = sym (merge-sized first second (length buffer) (allowed .0) (allowed .1)) in
-    let accepted = sym (ap (λ o. o .number) room) ∙ c .before .before .before .before .before .before .if2 .left in
-    let few = within-limit listTooLong words (length buffer) (omega arith) accepted in
-    let front = made-front made refl few in
+    let accepted =
+    sym (ap (λ o. o .number) (room .room-for .ensures)) ∙ c .before .before .before .before .before .before .if2 .left in
+    let front = made-front made refl (within-limit listTooLong words (length buffer) (omega arith) accepted) in
     let passes = sym (ap (λ o. o .number) sized) ∙ accepted in
     let fits = within-room listTooLong (length (mergedDiff first second)) (length buffer) (omega arith) passes in
     let all : words - 0 ≡ words = omega arith in (

@@ -1,6 +1,6 @@
 -- `merger::merge_pages` meets its contract. The loop's invariant: what the pages before one bring stands in the list, and
 -- the rest of both diffs is ahead. The next word rises with each page.
-use Prim.Native.Nat.{_-_, _%_, _<_}
+use Prim.Native.Nat.{_-_, _%_}
 use mathlib.Core.Path.{_≡_, refl}
 use lib.ListN.{length}
 use native.Mathlib.Omega.{arith}
@@ -8,15 +8,9 @@ use borrow.Author.Needs.{needs}
 use denote.Ref.{now}
 use Rattle.merger.proofs.Ahead.{ahead-first}
 use Rattle.merger.proofs.Merging.{Merging, merging-first, ahead-inside, next-page-on, page-of-first, page-of-second}
-use Rattle.merger.proofs.Merging.{first-inside, second-inside, no-room, merging-next, merged-made}
+use Rattle.merger.proofs.Merging.{both-inside, next-rises, no-room, merging-next, merged-made}
 use Rattle.merger.proofs.merge_pages.Statement.{statement}
 use Rattle.merger.proofs.merge_pages.Tie as tie
-use Rattle.merger.proofs.merge_pages.Reads as reads
-use Rattle.merger.proofs.merge_pages.Lts as lts
-use Rattle.encoder.proofs.page.page_words.Reads as page-words-reads
-use Rattle.encoder.proofs.page.write_page.Reads as write-page-reads
-use Rattle.merger.proofs.next_word.Reads as next-word-reads
-use Rattle.merger.proofs.page.take_page.Reads as take-page-reads
 
 abbrev Inv-loop : tie.InvT-loop
 Inv-loop first second list₀ prices₀ one₀ two₀ at₀ next₀ list prices one two at next =
@@ -70,42 +64,41 @@ write-page-requires c κs =
     let prices = c .before .before .before .before .before .take-page2 .last .1 .1 .1 .0 in
     let sized = c .before .before .before .page-words .ensures .1 in (
       next-page-on merging (loop .loop-test .taken),
-      (search needs, omega (arith, sized (loop .before .loop .next % 0x10000000) prices, c .before .before .if1 .left, merging .long, start .pre .1)),
+      (
+        search needs,
+        omega (
+          arith,
+          sized (loop .before .loop .next % 0x10000000) prices,
+          c .before .before .if1 .left,
+          merging .long,
+          start .pre .1,
+        ),
+      ),
     )
 
 next-word-requires-2 : tie.Need-next-word-requires-2 Inv-loop μ-loop
 next-word-requires-2 c κs =
-    let loop = c .before .before .before .before .before .before .before .before .before .before .before .before .before
-    in
+    let over = c .before .before .before .before .before .before .before .before in
+    let below = over .before .before .before in
+    let loop = below .before .before in
     let merging = loop .before .loop .inv .1 in
     let more = loop .loop-test .taken in
-    let below = c .before .before .before .before .before .before .before .before .before .before .before in
-    let over = c .before .before .before .before .before .before .before .before in (
-      first-inside merging more _ (below .take-page .ensures .0 _ _ (page-of-first merging more)),
-      second-inside merging more _ (over .take-page2 .ensures .0 _ _ (page-of-second merging more)),
-    )
+    both-inside merging more _ _ (below .take-page .ensures .0 _ _ (page-of-first merging more))
+    (over .take-page2 .ensures .0 _ _ (page-of-second merging more))
 
--- after a page, the next word is higher, and what the page brings stands in the list
-again : (c : lts.After-next-word2 (
-  next-word-reads.Asked,
-  next-word-reads.Learnt,
-  take-page-reads.Asked,
-  take-page-reads.Learnt,
-  page-words-reads.Asked,
-  page-words-reads.Learnt,
-  write-page-reads.Asked,
-  write-page-reads.Learnt,
-) reads.Pre
-    reads.Post Inv-loop μ-loop)
-    → (c .before .before .before .before .before .before .before .before .before .before .before .before .before .before .before .loop .next < c .next-word2 .result)
-    × Merging (now (c .before .before .before .before .before .before .before .before .before .before .before .before .before .before .before .before .before .before .before .before .args .first))
-    (now (c .before .before .before .before .before .before .before .before .before .before .before .before .before .before .before .before .before .before .before .before .args .second))
-    (now (c .before .before .before .before .before .before .before .before .before .before .before .before .before .before .before .before .before .before .before .before .args .list))
-    (c .before .before .before .before .before .before .before .before .before .before .before .before .take-page .result .next)
-    (c .before .before .before .before .before .before .before .before .before .take-page2 .result .next)
-    (c .before .before .before .write-page .result) (c .next-word2 .result)
-    (c .before .before .before .write-page .last .1 .1 .1 .0)
-again c =
+loop-less : tie.Need-loop-less Inv-loop μ-loop
+loop-less c =
+    let over = c .before .before .before .before .before .before .before .before .before in
+    let below = over .before .before .before in
+    let loop = below .before .before in
+    let merging = loop .before .loop .inv .1 in
+    let more = loop .loop-test .taken in
+    let past = below .take-page .ensures .0 _ _ (page-of-first merging more) in
+    let past′ = over .take-page2 .ensures .0 _ _ (page-of-second merging more) in
+    omega (arith, more, next-rises merging more _ _ past past′ _ (c .next-word2 .ensures))
+
+loop-again : tie.Need-loop-again Inv-loop μ-loop
+loop-again c =
     let over = c .before .before .before .before .before .before .before .before .before in
     let below = over .before .before .before in
     let loop = below .before .before in
@@ -115,18 +108,14 @@ again c =
     let second = page-of-second merging more in
     let wrote = c .before .before .before .write-page .ensures in
     let sized = c .before .before .before .before .before .before .before .page-words .ensures .1 in
-    let long = loop .before .before .before .before .before .before .pre .1 in
-    merging-next merging more _ _ _ _ _ (below .take-page .ensures .1 _ _ first)
-    (over .take-page2 .ensures .1 _ _ second) _ sized
-    (omega (arith, c .before .before .before .before .before .before .if1 .left, long)) _ _ _ _ _
-    (below .take-page .ensures .0 _ _ first) (over .take-page2 .ensures .0 _ _ second) (c .next-word2 .ensures)
-    (wrote .0) (wrote .1)
-
-loop-less : tie.Need-loop-less Inv-loop μ-loop
-loop-less c = omega (arith, again c .0, c .before .before .before .before .before .before .before .before .before .before .before .before .before .before .loop-test .taken)
-
-loop-again : tie.Need-loop-again Inv-loop μ-loop
-loop-again c = (search needs, again c .1)
+    let long = loop .before .before .before .before .before .before .pre .1 in (
+      search needs,
+      merging-next merging more _ _ _ _ _ (below .take-page .ensures .1 _ _ first)
+          (over .take-page2 .ensures .1 _ _ second) _ sized
+          (omega (arith, c .before .before .before .before .before .before .if1 .left, long)) _ _ _ _ _
+          (below .take-page .ensures .0 _ _ first) (over .take-page2 .ensures .0 _ _ second) (c .next-word2 .ensures)
+          (wrote .0) (wrote .1),
+    )
 
 returns-2 : tie.Need-returns-2 Inv-loop μ-loop
 returns-2 c = merged-made (c .before .loop .inv .1) (c .loop-test .left) _ refl
