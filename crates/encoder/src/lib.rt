@@ -1,5 +1,5 @@
 // Writing diffs: the one diff of the words that are marked, one word of marks for each page, at
-// their prices. It is sized before a word is written.
+// their prices; how many words it has, and what becomes of it by the room that there is for it.
 ghost use Rattle.laws.specs.Prelude.{_≡_, _*_, _≤_, List, ℕ, length};
 ghost use lib.Seq.{sets};
 ghost use Rattle.answer.specs.Outcome.{answerOf, wrongBuffer};
@@ -50,11 +50,11 @@ pub fn write_diff(prices: &[u32], marks: &[u32], words: usize, list: &mut [u32])
 
 // What becomes of a diff of so many words by the room that a buffer has for it: its length, or a
 // refusal, by the number that the caller has for a list over 512 words, or by 17.
-pub fn room_for(over: u32, words: usize, room: usize) -> Outcome
-    ensures { λ r. ⌜ r ≡ roomFor over words room ⌝ }
+pub fn room_for(refusal: u32, words: usize, room: usize) -> Outcome
+    ensures { λ r. ⌜ r ≡ roomFor refusal words room ⌝ }
 {
     if 512 < words {
-        return answer::refused_at(over, 0);
+        return answer::refused_at(refusal, 0);
     }
     if room < words {
         return answer::refused_at(answer::WRONG_BUFFER, 0);

@@ -22,7 +22,7 @@ use Rattle.merger.proofs.Packed.{packed, packed-set, packed-small, tabu
 -- ---- the pages of a diff with these prices
 
 module _ (ps : List Price) where
-  abbrev pub body : ℕ → List ℕ
+  abbrev body : ℕ → List ℕ
   body page = bodyFrom (names ps) (λ (label : ℕ). appliedAt ps label 0) mergePages page
 
   abbrev pub marksOn : ℕ → ℕ
@@ -68,7 +68,7 @@ pub record NextPage (ps : List Price) (end page : ℕ) : Type 0 where
   pub of-page : next < 64 → word ≡ pageWord next
   pub of-end : next ≡ 64 → word ≡ endWord end
 
-pub next-page : (ps : List Price) (end n page : ℕ) → page + n ≡ 64 → NextPage ps end page
+next-page : (ps : List Price) (end n page : ℕ) → page + n ≡ 64 → NextPage ps end page
 next-page ps end zero page all =
     record {
       next = 64;
@@ -147,7 +147,13 @@ pub ahead-first : (list : List ℕ) → Allowed mergePages list → Ahead list (
 ahead-first list allowed =
     record {
       end = length (body ps 0);
-      small = omega (arith, allowed-few mergePages list allowed, ap length is, length-append (body ps 0) (endWord (length (body ps 0)) ∷ []));
+      small =
+          omega (
+            arith,
+            allowed-few mergePages list allowed,
+            ap length is,
+            length-append (body ps 0) (endWord (length (body ps 0)) ∷ []),
+          );
       within = omega arith;
       words = is;
     }
@@ -165,28 +171,28 @@ module _ {list : List ℕ} {ps : List Price} {index page : ℕ} (ahead : Ahead l
   first-page = next-page ps (ahead .end) (64 - page) page (omega (arith, ahead .within))
 
   -- at a page before which nothing is named
-  module _ (q : ℕ) (on : q < 64) (from : page ≤ q) (to : q ≤ first-page .next) where
-    behind : NextPage ps (ahead .end) (q + 1)
-    behind = next-page ps (ahead .end) (64 - (q + 1)) (q + 1) (omega arith)
+  module _ (k : ℕ) (on : k < 64) (from : page ≤ k) (to : k ≤ first-page .next) where
+    behind : NextPage ps (ahead .end) (k + 1)
+    behind = next-page ps (ahead .end) (64 - (k + 1)) (k + 1) (omega arith)
 
     from-page : drop index list
-        ≡ pageWords q (marksOn ps q) (pricesOn ps q) ++ (body ps (q + 1) ++ endWord (ahead .end) ∷ [])
+        ≡ pageWords k (marksOn ps k) (pricesOn ps k) ++ (body ps (k + 1) ++ endWord (ahead .end) ∷ [])
     from-page =
         ahead .words
         ∙ ap (λ ws. ws ++ endWord (ahead .end) ∷ [])
-        (body-skip (names ps) (λ (label : ℕ). appliedAt ps label 0) mergePages page q from (omega arith)
+        (body-skip (names ps) (λ (label : ℕ). appliedAt ps label 0) mergePages page k from (omega arith)
         (λ label low high. first-page .unnamed label low (omega (arith, to)))
-        ∙ body-page ps q on)
-        ∙ append-assoc (pageWords q (marksOn ps q) (pricesOn ps q)) (body ps (q + 1)) (endWord (ahead .end) ∷ [])
+        ∙ body-page ps k on)
+        ∙ append-assoc (pageWords k (marksOn ps k) (pricesOn ps k)) (body ps (k + 1)) (endWord (ahead .end) ∷ [])
 
-    pub page-at : PageAt list index q (marksOn ps q) (pricesOn ps q)
+    pub page-at : PageAt list index k (marksOn ps k) (pricesOn ps k)
     page-at =
         record {
-          small = marks-small ps q;
-          size = prices-size ps q;
+          small = marks-small ps k;
+          size = prices-size ps k;
           behind = behind .word;
           rest = behind .rest;
-          words = from-page ∙ ap (λ ws. pageWords q (marksOn ps q) (pricesOn ps q) ++ ws) (behind .words);
+          words = from-page ∙ ap (λ ws. pageWords k (marksOn ps k) (pricesOn ps k) ++ ws) (behind .words);
           no-run = λ two. elim (decLt (behind .next) 64) [
             | yes less ↦ absurd (omega (arith, behind .of-page less))
             | no last ↦ absurd (omega (arith, behind .of-end (omega (arith, behind .to)), ahead .small))
@@ -197,14 +203,14 @@ module _ {list : List ℕ} {ps : List Price} {index page : ℕ} (ahead : Ahead l
           ];
         }
 
-    pub past-page : Ahead list ps (index + length (pageWords q (marksOn ps q) (pricesOn ps q))) (q + 1)
+    pub past-page : Ahead list ps (index + length (pageWords k (marksOn ps k) (pricesOn ps k))) (k + 1)
     past-page =
         record {
           end = ahead .end;
           small = ahead .small;
           within = omega arith;
           words =
-              sym (drop-drop (length (pageWords q (marksOn ps q) (pricesOn ps q))) index list)
-              ∙ ap (drop (length (pageWords q (marksOn ps q) (pricesOn ps q)))) from-page
-              ∙ drop-at (pageWords q (marksOn ps q) (pricesOn ps q)) _ _ refl;
+              sym (drop-drop (length (pageWords k (marksOn ps k) (pricesOn ps k))) index list)
+              ∙ ap (drop (length (pageWords k (marksOn ps k) (pricesOn ps k)))) from-page
+              ∙ drop-at (pageWords k (marksOn ps k) (pricesOn ps k)) _ _ refl;
         }

@@ -1,8 +1,5 @@
 -- Laws that the functions on merging cite.
-pub mod Range
-pub mod Bits
-pub mod Below
-pub mod Taking
+pub mod Words
 pub mod Packed
 pub mod Ahead
 pub mod Merging

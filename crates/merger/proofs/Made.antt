@@ -5,7 +5,7 @@ use lib.Seq.{take-append-seam}
 use Rattle.diff.specs.Format.{mostWords}
 use Rattle.diff.specs.Room.{roomFor}
 use Rattle.diff.proofs.Room.{over-limit}
-use Rattle.merger.specs.Merging.{MadeIn}
+use Rattle.merger.specs.Made.{MadeIn}
 
 module _ {diff before : List ℕ} {words : ℕ} {after : List ℕ} (made : MadeIn diff before words after)
     (long : length before ≡ mostWords) where

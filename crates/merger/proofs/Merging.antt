@@ -17,9 +17,9 @@ use Rattle.diff.proofs.Bits.{none-set}
 use Rattle.diff.proofs.MergedDiff.{merged-list}
 use Rattle.encoder.specs.Page.{pageWords}
 use Rattle.encoder.proofs.Pages.{bodyFrom, body-none, body-skip, body-next}
-use Rattle.merger.specs.Page.{PageAt, LaidOver}
-use Rattle.merger.specs.Merging.{MadeIn}
-use Rattle.merger.proofs.Taking.{word-at, word-inside}
+use Rattle.merger.specs.Page.{PageAt, PageApplied}
+use Rattle.merger.specs.Made.{MadeIn}
+use Rattle.merger.proofs.Words.{word-at, word-inside}
 use Rattle.merger.proofs.Ahead.{NextPage, marksOn, pricesOn, marks-on, prices-on, Ahead, ahead-first, first-page}
 use Rattle.merger.proofs.Ahead.{word-above, page-at, past-page}
 
@@ -41,11 +41,11 @@ length-merged first second =
     ∙ length-append (mergedBody first second 0) (endWord (length (mergedBody first second 0)) ∷ [])
 
 -- a list in which what the pages before one bring stands before an index
-pub record Merging (first second before : List ℕ) (one two at next : ℕ) (list : List ℕ) : Type 0 where
+pub record Merging (first second before : List ℕ) (i j at next : ℕ) (list : List ℕ) : Type 0 where
   page : ℕ
-  ahead : Ahead first (pricesOf mergePages first) one page
-  ahead′ : Ahead second (pricesOf mergePages second) two page
-  lower : next ≡ min (getD first one 0) (getD second two 0)
+  ahead : Ahead first (pricesOf mergePages first) i page
+  ahead′ : Ahead second (pricesOf mergePages second) j page
+  lower : next ≡ min (getD first i 0) (getD second j 0)
   pub long : length list ≡ length before
   pub room : at < length before
   counted : at + length (mergedBody first second page) ≡ length (mergedBody first second 0)
@@ -73,8 +73,8 @@ ahead-word : {list : List ℕ} {ps : List Price} {index page : ℕ} (ahead : Ahe
     → getD list index 0 ≡ first-page ahead .word
 ahead-word {list} {ps} {index} ahead = word-at list index (ahead .words ∙ first-page ahead .words)
 
-module _ {first second before : List ℕ} {one two at next : ℕ} {list : List ℕ}
-    (merging : Merging first second before one two at next list) where
+module _ {first second before : List ℕ} {i j at next : ℕ} {list : List ℕ}
+    (merging : Merging first second before i j at next list) where
   abbrev p : List Price
   p = pricesOf mergePages first
 
@@ -91,24 +91,24 @@ module _ {first second before : List ℕ} {one two at next : ℕ} {list : List �
   lower-word : next ≡ min (np .word) (np′ .word)
   lower-word = merging .lower ∙ rw (ahead-word (merging .ahead), ahead-word (merging .ahead′))
 
-  either-unnamed : (q : ℕ) → q ≤ np .next → q ≤ np′ .next → (label : ℕ) → 32 * merging .page ≤ label → label < 32 * q
+  either-unnamed : (k : ℕ) → k ≤ np .next → k ≤ np′ .next → (label : ℕ) → 32 * merging .page ≤ label → label < 32 * k
       → eitherNames p p′ label ≡ false
-  either-unnamed q to to′ label low high =
+  either-unnamed k to to′ label low high =
       rw (np .unnamed label low (omega arith), np′ .unnamed label low (omega arith))
 
   -- ---- at a page word
 
   module _ (more : next < 0xF0000000) where
     -- the page that it names: of the next pages of both the lower one
-    abbrev q : ℕ
-    q = next % 0x10000000
+    abbrev k : ℕ
+    k = next % 0x10000000
 
     record Next : Type 0 where
-      on : q < 64
-      word : next ≡ pageWord q
-      from : merging .page ≤ q
-      to : q ≤ np .next
-      to′ : q ≤ np′ .next
+      on : k < 64
+      word : next ≡ pageWord k
+      from : merging .page ≤ k
+      to : k ≤ np .next
+      to′ : k ≤ np′ .next
 
     next-is : Next
     next-is =
@@ -136,32 +136,32 @@ module _ {first second before : List ℕ} {one two at next : ℕ} {list : List �
               ]
         ]
 
-    pub next-page-on : q < 64
+    pub next-page-on : k < 64
     next-page-on = next-is .on
 
-    pub page-of-first : PageAt first one q (marksOn p q) (pricesOn p q)
-    page-of-first = page-at (merging .ahead) q (next-is .on) (next-is .from) (next-is .to)
+    pub page-of-first : PageAt first i k (marksOn p k) (pricesOn p k)
+    page-of-first = page-at (merging .ahead) k (next-is .on) (next-is .from) (next-is .to)
 
-    pub page-of-second : PageAt second two q (marksOn p′ q) (pricesOn p′ q)
-    page-of-second = page-at (merging .ahead′) q (next-is .on) (next-is .from) (next-is .to′)
+    pub page-of-second : PageAt second j k (marksOn p′ k) (pricesOn p′ k)
+    page-of-second = page-at (merging .ahead′) k (next-is .on) (next-is .from) (next-is .to′)
 
     -- behind the page
     module _ (index : ℕ) where
-      past-first : index ≡ one + length (pageWords q (marksOn p q) (pricesOn p q)) → Ahead first p index (q + 1)
-      past-first past = rw past (past-page (merging .ahead) q (next-is .on) (next-is .from) (next-is .to))
+      past-first : index ≡ i + length (pageWords k (marksOn p k) (pricesOn p k)) → Ahead first p index (k + 1)
+      past-first past = rw past (past-page (merging .ahead) k (next-is .on) (next-is .from) (next-is .to))
 
-      past-second : index ≡ two + length (pageWords q (marksOn p′ q) (pricesOn p′ q)) → Ahead second p′ index (q + 1)
-      past-second past = rw past (past-page (merging .ahead′) q (next-is .on) (next-is .from) (next-is .to′))
+      past-second : index ≡ j + length (pageWords k (marksOn p′ k) (pricesOn p′ k)) → Ahead second p′ index (k + 1)
+      past-second past = rw past (past-page (merging .ahead′) k (next-is .on) (next-is .from) (next-is .to′))
 
-    module _ (one′ two′ : ℕ) (past : one′ ≡ one + length (pageWords q (marksOn p q) (pricesOn p q)))
-        (past′ : two′ ≡ two + length (pageWords q (marksOn p′ q) (pricesOn p′ q))) where
-      pub both-inside : (one′ < length first) × (two′ < length second)
-      both-inside = (ahead-inside (past-first one′ past), ahead-inside (past-second two′ past′))
+    module _ (i′ j′ : ℕ) (past : i′ ≡ i + length (pageWords k (marksOn p k) (pricesOn p k)))
+        (past′ : j′ ≡ j + length (pageWords k (marksOn p′ k) (pricesOn p′ k))) where
+      pub both-inside : (i′ < length first) × (j′ < length second)
+      both-inside = (ahead-inside (past-first i′ past), ahead-inside (past-second j′ past′))
 
-      pub next-rises : (next′ : ℕ) → next′ ≡ min (getD first one′ 0) (getD second two′ 0) → next < next′
+      pub next-rises : (next′ : ℕ) → next′ ≡ min (getD first i′ 0) (getD second j′ 0) → next < next′
       next-rises next′ lower =
-          let ahead = past-first one′ past in
-          let ahead′ = past-second two′ past′ in
+          let ahead = past-first i′ past in
+          let ahead′ = past-second j′ past′ in
           omega (
             arith,
             lower,
@@ -172,26 +172,26 @@ module _ {first second before : List ℕ} {one two at next : ℕ} {list : List �
             next-is .word,
           )
 
-    -- what both have on the page is laid over one another
+    -- what both have on the page is applied to it
     module _ (shown : List ℕ) (marks : ℕ) (prices : List ℕ) (marks′ : ℕ) (prices′ : List ℕ)
-        (laid : LaidOver (marksOn p q) (pricesOn p q) 0 shown marks prices)
-        (laid′ : LaidOver (marksOn p′ q) (pricesOn p′ q) marks prices marks′ prices′) (size : ℕ)
+        (applied : PageApplied (marksOn p k) (pricesOn p k) 0 shown marks prices)
+        (applied′ : PageApplied (marksOn p′ k) (pricesOn p′ k) marks prices marks′ prices′) (size : ℕ)
         (sized : (page : ℕ) (prices : List ℕ) → size ≡ length (pageWords page marks′ prices)) where
-      marked : (w : ℕ) → w < 32 → isSet marks′ w ≡ eitherNames p p′ (32 * q + w)
+      marked : (w : ℕ) → w < 32 → isSet marks′ w ≡ eitherNames p p′ (32 * k + w)
       marked w small =
-          laid′ .marked w ∙ rw (laid .marked w, none-set w, marks-on p q w small, marks-on p′ q w small)
+          applied′ .marked w ∙ rw (applied .marked w, none-set w, marks-on p k w small, marks-on p′ k w small)
 
-      priced : (w : ℕ) → w < 32 → isSet marks′ w ≡ true → getD prices′ w 0 ≡ lastPrice p p′ (32 * q + w)
+      priced : (w : ℕ) → w < 32 → isSet marks′ w ≡ true → getD prices′ w 0 ≡ lastPrice p p′ (32 * k + w)
       priced w small is =
-          laid′ .priced w small
+          applied′ .priced w small
           ∙ rw (
-            laid .priced w small,
-            marks-on p q w small,
-            marks-on p′ q w small,
-            prices-on p q w small,
-            prices-on p′ q w small,
+            applied .priced w small,
+            marks-on p k w small,
+            marks-on p′ k w small,
+            prices-on p k w small,
+            prices-on p′ k w small,
           )
-          (go (names p (32 * q + w)) (names p′ (32 * q + w)) _ _ _ (sym (marked w small) ∙ is))
+          (go (names p (32 * k + w)) (names p′ (32 * k + w)) _ _ _ (sym (marked w small) ∙ is))
         where
           go : (named named′ : Bool) (x y z : ℕ) → (named || named′) ≡ true
               → cond named′ x (cond named y z) ≡ cond named′ x y
@@ -200,20 +200,20 @@ module _ {first second before : List ℕ} {one two at next : ℕ} {list : List �
           go false false x y z either = absurd (true≢false (sym either))
 
       merged-next : mergedBody first second (merging .page)
-          ≡ pageWords q marks′ prices′ ++ mergedBody first second (q + 1)
+          ≡ pageWords k marks′ prices′ ++ mergedBody first second (k + 1)
       merged-next =
-          body-skip (eitherNames p p′) (lastPrice p p′) mergePages (merging .page) q (next-is .from) (omega (arith, next-is .on))
-          (either-unnamed q (next-is .to) (next-is .to′))
-          ∙ body-next (eitherNames p p′) (lastPrice p p′) mergePages q (next-is .on) marks′ prices′ marked priced
+          body-skip (eitherNames p p′) (lastPrice p p′) mergePages (merging .page) k (next-is .from) (omega (arith, next-is .on))
+          (either-unnamed k (next-is .to) (next-is .to′))
+          ∙ body-next (eitherNames p p′) (lastPrice p p′) mergePages k (next-is .on) marks′ prices′ marked priced
 
-      merged-length : at + size + length (mergedBody first second (q + 1)) ≡ length (mergedBody first second 0)
+      merged-length : at + size + length (mergedBody first second (k + 1)) ≡ length (mergedBody first second 0)
       merged-length =
           omega (
             arith,
             merging .counted,
-            sized q prices′,
+            sized k prices′,
             ap length merged-next,
-            length-append (pageWords q marks′ prices′) (mergedBody first second (q + 1)),
+            length-append (pageWords k marks′ prices′) (mergedBody first second (k + 1)),
           )
 
       -- where the page has no room before the end word, the merged diff has none in the list
@@ -229,25 +229,25 @@ module _ {first second before : List ℕ} {one two at next : ℕ} {list : List �
           }
 
       -- and where it has, it is written
-      module _ (room : at + size < length before) (one′ two′ at′ next′ : ℕ) (list′ : List ℕ)
-          (past : one′ ≡ one + length (pageWords q (marksOn p q) (pricesOn p q)))
-          (past′ : two′ ≡ two + length (pageWords q (marksOn p′ q) (pricesOn p′ q)))
-          (lower : next′ ≡ min (getD first one′ 0) (getD second two′ 0))
-          (written : at′ ≡ at + length (pageWords q marks′ prices′))
-          (stores : list′ ≡ sets list at (pageWords q marks′ prices′)) where
-        pub merging-next : Merging first second before one′ two′ at′ next′ list′
+      module _ (room : at + size < length before) (i′ j′ at′ next′ : ℕ) (list′ : List ℕ)
+          (past : i′ ≡ i + length (pageWords k (marksOn p k) (pricesOn p k)))
+          (past′ : j′ ≡ j + length (pageWords k (marksOn p′ k) (pricesOn p′ k)))
+          (lower : next′ ≡ min (getD first i′ 0) (getD second j′ 0))
+          (written : at′ ≡ at + length (pageWords k marks′ prices′))
+          (stores : list′ ≡ sets list at (pageWords k marks′ prices′)) where
+        pub merging-next : Merging first second before i′ j′ at′ next′ list′
         merging-next =
             record {
-              page = q + 1;
-              ahead = past-first one′ past;
-              ahead′ = past-second two′ past′;
+              page = k + 1;
+              ahead = past-first i′ past;
+              ahead′ = past-second j′ past′;
               lower = lower;
-              long = rw stores (length-sets list at (pageWords q marks′ prices′) ∙ merging .long);
-              room = omega (arith, written, sized q prices′);
-              counted = omega (arith, written, sized q prices′, merged-length);
+              long = rw stores (length-sets list at (pageWords k marks′ prices′) ∙ merging .long);
+              room = omega (arith, written, sized k prices′);
+              counted = omega (arith, written, sized k prices′, merged-length);
               stored =
                   rw (stores, written)
-                  (sym (sets-append (pageWords q marks′ prices′) (mergedBody first second (q + 1)) list at)
+                  (sym (sets-append (pageWords k marks′ prices′) (mergedBody first second (k + 1)) list at)
                   ∙ ap (sets list at) (sym merged-next) ∙ merging .stored);
             }
 

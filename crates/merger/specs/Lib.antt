@@ -1,3 +1,3 @@
 -- What the contracts on merging cite beside the definitions of `diff`.
 pub mod Page
-pub mod Merging
+pub mod Made

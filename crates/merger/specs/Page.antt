@@ -1,4 +1,4 @@
--- Inner contracts only. What a diff has on one page, and a page with it laid over.
+-- Inner contracts only. What a diff has on one page, and a page to which it is applied.
 -- Assumes nothing: these are definitions.
 use Rattle.laws.specs.Prelude.{ℕ, _+_, _^_, _<_, _≡_, _≢_, List, _∷_, _++_, Bool, cond, _&&_, _||_, length, getD, drop}
 use Rattle.laws.specs.Prelude.{ltb, leb}
@@ -21,8 +21,8 @@ pub record PageAt (list : List ℕ) (index page marks : ℕ) (prices : List ℕ)
   pub no-run : kind behind ≢ 2
   pub no-page : behind ≢ pageWord page
 
--- the marks and prices of a page, before and after others were laid over them
-pub record LaidOver (over : ℕ) (prices : List ℕ) (marks : ℕ) (shown : List ℕ) (marks′ : ℕ) (shown′ : List ℕ) : Type 0
+-- the marks and prices of a page before and after what a diff has on it, by its own marks and prices, is applied
+pub record PageApplied (own : ℕ) (prices : List ℕ) (marks : ℕ) (shown : List ℕ) (marks′ : ℕ) (shown′ : List ℕ) : Type 0
   where
-    pub marked : (w : ℕ) → isSet marks′ w ≡ (isSet marks w || isSet over w)
-    pub priced : (w : ℕ) → w < 32 → getD shown′ w 0 ≡ cond (isSet over w) (getD prices w 0) (getD shown w 0)
+    pub marked : (w : ℕ) → isSet marks′ w ≡ (isSet marks w || isSet own w)
+    pub priced : (w : ℕ) → w < 32 → getD shown′ w 0 ≡ cond (isSet own w) (getD prices w 0) (getD shown w 0)

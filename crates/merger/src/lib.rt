@@ -1,13 +1,12 @@
-// Two diffs made one: both are checked, and what they have on a page is laid on it, the second over
-// the first, page by page. The diff of these pages is made apart, and is then copied into a lent
-// buffer.
+// Two diffs made one: both are checked, and what each has on a page is applied to it, page by page,
+// the second's after the first's. The diff is made apart, and is then copied into a lent buffer.
 ghost use Prim.Native.Nat.{min};
 ghost use Rattle.laws.specs.Prelude.{_≡_, _<_, length, getD};
 ghost use Rattle.answer.specs.Outcome.{answerOf, andThen};
 ghost use Rattle.diff.specs.Reading.{checkDiff};
 ghost use Rattle.diff.specs.OnlyDiff.{Allowed};
 ghost use Rattle.diff.specs.Merging.{mergePages, mergedDiff, mergeDiffs, mergedBuffer};
-ghost use Rattle.merger.specs.Merging.{MadeIn};
+ghost use Rattle.merger.specs.Made.{MadeIn};
 
 mod page;
 
@@ -28,20 +27,21 @@ fn check_both(first: &[u32], second: &[u32]) -> Outcome
     checked
 }
 
-// The lower of the next words of two diffs: page words ascend as their pages do, and an end word is
-// above them all.
-fn next_word(first: &[u32], one: usize, second: &[u32], two: usize) -> u32
-    requires { ⌜ (one < length (now first)) × (two < length (now second)) ⌝ }
-    ensures { λ r. ⌜ r ≡ min (getD (now (first .entry)) one 0) (getD (now (second .entry)) two 0) ⌝ }
+// The lower of the next words of two diffs, where each is a page word or the end word: the word of
+// the next page that one of them names, or an end word where none is left.
+fn next_word(first: &[u32], i: usize, second: &[u32], j: usize) -> u32
+    requires { ⌜ (i < length (now first)) × (j < length (now second)) ⌝ }
+    ensures { λ r. ⌜ r ≡ min (getD (now (first .entry)) i 0) (getD (now (second .entry)) j 0) ⌝ }
 {
-    if first[one] < second[two] {
-        return first[one];
+    if first[i] < second[j] {
+        return first[i];
     }
-    second[two]
+    second[j]
 }
 
 // Makes one diff of two that are allowed, in a list of 512 words, and gives its length, or 513 where
-// it is longer. Prices that stand there from the page before are not marked, and not written.
+// it is longer. `prices` is not cleared between pages: what stands there from an earlier page is
+// not marked, and so is not written.
 fn merge_pages(first: &[u32], second: &[u32], list: &mut [u32]) -> usize
     requires { ⌜ Allowed mergePages (now first) × Allowed mergePages (now second) ⌝ }
     requires { ⌜ length (now list) ≡ 512 ⌝ }
@@ -49,21 +49,21 @@ fn merge_pages(first: &[u32], second: &[u32], list: &mut [u32]) -> usize
         (now (list .entry)) r (now (list .exit)) ⌝ }
 {
     let mut prices: [u32; 32] = [0; 32];
-    let mut one: usize = 0;
-    let mut two: usize = 0;
+    let mut i: usize = 0;
+    let mut j: usize = 0;
     let mut at: usize = 0;
-    let mut next = next_word(first, one, second, two);
+    let mut next = next_word(first, i, second, j);
     while next < 0xF0000000 {
         let page = (next % 0x10000000) as usize;
-        let below = page::take_page(first, one, page, &mut prices, 0);
-        let over = page::take_page(second, two, page, &mut prices, below.marks);
-        if 511 < at + encoder::page::page_words(over.marks) as usize {
+        let of_first = page::apply_page(first, i, page, &mut prices, 0);
+        let of_both = page::apply_page(second, j, page, &mut prices, of_first.marks);
+        if 511 < at + encoder::page::page_words(of_both.marks) as usize {
             return 513;
         }
-        at = encoder::page::write_page(page, over.marks, &prices, list, at);
-        one = below.next;
-        two = over.next;
-        next = next_word(first, one, second, two);
+        at = encoder::page::write_page(page, of_both.marks, &prices, list, at);
+        i = of_first.next;
+        j = of_both.next;
+        next = next_word(first, i, second, j);
     }
     list[at] = 0xF0000000 + at as u32;
     at + 1

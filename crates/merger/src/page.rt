@@ -1,11 +1,11 @@
-// One page of an allowed diff: its prices laid over those of the page, and its words marked.
+// One page of an allowed diff: its prices applied to the page, and its words marked.
 ghost use Rattle.laws.specs.Prelude.{ℕ, _≡_, _+_, _<_, _≤_, List, length};
 ghost use Rattle.diff.specs.Marks.{isSet};
 ghost use Rattle.encoder.specs.Page.{pageWords};
-ghost use Rattle.merger.specs.Page.{inRange, PageAt, LaidOver};
+ghost use Rattle.merger.specs.Page.{inRange, PageAt, PageApplied};
 
 // The marks of a page, and the index behind its words.
-pub(crate) struct Taken {
+pub(crate) struct Applied {
     pub(crate) marks: u32,
     pub(crate) next: usize,
 }
@@ -20,29 +20,29 @@ fn run_marks(offset: u32, count: u32) -> u32
     (within - below) as u32
 }
 
-// Lays what a diff has on a page, if anything, over the prices and marks of the page. Its words are
-// not checked again.
-pub(crate) fn take_page(
+// Applies what a diff has on a page, if anything, to the page's prices, and marks it. The words of
+// the diff are not checked again.
+pub(crate) fn apply_page(
     list: &[u32],
     index: usize,
     page: usize,
     prices: &mut [u32],
     marks: u32,
-) -> Taken
+) -> Applied
     requires { ⌜ page < 64 ⌝ }
     requires { ⌜ length (now prices) ≡ 32 ⌝ }
     requires { ⌜ ((own : ℕ) × ((priced : List ℕ) × PageAt (now list) index page own priced)) ⌝ }
     ensures past { λ r. ⌜ ((own : ℕ) (priced : List ℕ)
         → PageAt (now (list .entry)) index page own priced
         → r .next ≡ index + length (pageWords page own priced)) ⌝ }
-    ensures laid { λ r. ⌜ ((own : ℕ) (priced : List ℕ)
+    ensures applied { λ r. ⌜ ((own : ℕ) (priced : List ℕ)
         → PageAt (now (list .entry)) index page own priced
-        → LaidOver own priced marks (now (prices .entry)) (r .marks) (now (prices .exit))) ⌝ }
+        → PageApplied own priced marks (now (prices .entry)) (r .marks) (now (prices .exit))) ⌝ }
 {
     if list[index] != 0x10000000 + page as u32 {
-        return Taken { marks, next: index };
+        return Applied { marks, next: index };
     }
-    let mut laid = marks;
+    let mut marked = marks;
     let mut at = index + 1;
     let mut word = list[at];
     while word / 0x10000000 == 2 {
@@ -51,11 +51,11 @@ pub(crate) fn take_page(
         let first = at + 1;
         at = first + count as usize;
         memory::store_run_in(prices, offset as usize, &list[first..at]);
-        laid = laid | run_marks(offset, count);
+        marked = marked | run_marks(offset, count);
         word = list[at];
     }
-    Taken {
-        marks: laid,
+    Applied {
+        marks: marked,
         next: at,
     }
 }

@@ -18,7 +18,8 @@ returns c =
     let made = madeDiff (now (start .args .prices)) (now (start .args .marks)) in
     let buffer = now (start .args .buffer) in
     let words = c .before .before .before .before .diff-words .ensures (now (start .args .prices)) (start .pre .1) in
-    let room = c .before .before .before .room-for .ensures ∙ ap (λ (n : ℕ). roomFor wrongBuffer n (length buffer)) words in (
+    let room = c .before .before .before .room-for .ensures
+    ∙ ap (λ (n : ℕ). roomFor wrongBuffer n (length buffer)) words in (
       c .answer-of .ensures ∙ ap answerOf room,
       sym
           (written-none (roomFor wrongBuffer (length made) (length buffer)) made buffer
@@ -41,10 +42,11 @@ returns-2 c =
     let start = c .before .before .before .before .before .before .before .before .before .before .before in
     let made = madeDiff (now (start .args .prices)) (now (start .args .marks)) in
     let buffer = now (start .args .buffer) in
-    let words = c .before .before .before .before .before .before .before .diff-words .ensures (now (start .args .prices)) (start .pre .1) in
-    let room = c .before .before .before .before .before .before .room-for .ensures
+    let tested = c .before .before .before .before in
+    let words = tested .before .before .before .diff-words .ensures (now (start .args .prices)) (start .pre .1) in
+    let room = tested .before .before .room-for .ensures
     ∙ ap (λ (n : ℕ). roomFor wrongBuffer n (length buffer)) words in
-    let accepted = sym (ap (λ o. o .number) room) ∙ c .before .before .before .before .if1 .left in
+    let accepted = sym (ap (λ o. o .number) room) ∙ tested .if1 .left in
     let is = room-given wrongBuffer (length made) (length buffer) (omega arith) accepted in
     let fits = within-room wrongBuffer (length made) (length buffer) (omega arith) accepted in (
       ap (λ (n : ℕ). answerOf (given n)) words ∙ ap answerOf (sym is),

@@ -13,11 +13,11 @@ use Rattle.merger.proofs.merge_pages.Statement.{statement}
 use Rattle.merger.proofs.merge_pages.Tie as tie
 
 abbrev Inv-loop : tie.InvT-loop
-Inv-loop first second list₀ prices₀ one₀ two₀ at₀ next₀ list prices one two at next =
-    (length prices ≡ 32) × Merging first second list₀ one two at next list
+Inv-loop first second list₀ prices₀ i₀ j₀ at₀ next₀ list prices i j at next =
+    (length prices ≡ 32) × Merging first second list₀ i j at next list
 
 abbrev μ-loop : tie.MeasureT-loop
-μ-loop first second list₀ prices₀ one₀ two₀ at₀ next₀ list prices one two at next = 0xF0000000 - next
+μ-loop first second list₀ prices₀ i₀ j₀ at₀ next₀ list prices i j at next = 0xF0000000 - next
 
 next-word-requires : tie.Need-next-word-requires Inv-loop μ-loop
 next-word-requires c κs =
@@ -33,14 +33,14 @@ loop-holds c =
       merging-first _ _ _ _ (start .pre .0 .0) (start .pre .0 .1) (omega (arith, start .pre .1)) (c .next-word .ensures),
     )
 
-take-page-requires : tie.Need-take-page-requires Inv-loop μ-loop
-take-page-requires c κs =
+apply-page-requires : tie.Need-apply-page-requires Inv-loop μ-loop
+apply-page-requires c κs =
     let merging = c .before .before .loop .inv .1 in
     let more = c .before .loop-test .taken in
     (next-page-on merging more, (c .before .before .loop .inv .0, (_, (_, page-of-first merging more))))
 
-take-page-requires-2 : tie.Need-take-page-requires-2 Inv-loop μ-loop
-take-page-requires-2 c κs =
+apply-page-requires-2 : tie.Need-apply-page-requires-2 Inv-loop μ-loop
+apply-page-requires-2 c κs =
     let merging = c .before .before .before .before .before .loop .inv .1 in
     let more = c .before .before .before .before .loop-test .taken in
     (next-page-on merging more, (search needs, (_, (_, page-of-second merging more))))
@@ -50,10 +50,10 @@ returns c =
     let loop = c .before .before .before .before .before .before .before .before in
     let merging = loop .before .loop .inv .1 in
     let more = loop .loop-test .taken in
-    let laid = c .before .before .before .before .before .before .take-page .ensures .1 _ _ (page-of-first merging more) in
-    let laid′ = c .before .before .before .take-page2 .ensures .1 _ _ (page-of-second merging more) in
+    let applied = c .before .before .before .before .before .before .apply-page .ensures .1 _ _ (page-of-first merging more) in
+    let applied′ = c .before .before .before .apply-page2 .ensures .1 _ _ (page-of-second merging more) in
     let start = loop .before .before .before .before .before .before in
-    no-room merging more _ _ _ _ _ laid laid′ _ (c .before .page-words .ensures .1) _ 513
+    no-room merging more _ _ _ _ _ applied applied′ _ (c .before .page-words .ensures .1) _ 513
     (omega (arith, c .if1 .taken, start .pre .1)) (omega (arith, start .pre .1))
 
 write-page-requires : tie.Need-write-page-requires Inv-loop μ-loop
@@ -61,7 +61,7 @@ write-page-requires c κs =
     let loop = c .before .before .before .before .before .before .before .before .before .before in
     let merging = loop .before .loop .inv .1 in
     let start = loop .before .before .before .before .before .before in
-    let prices = c .before .before .before .before .before .take-page2 .last .1 .1 .1 .0 in
+    let prices = c .before .before .before .before .before .apply-page2 .last .1 .1 .1 .0 in
     let sized = c .before .before .before .page-words .ensures .1 in (
       next-page-on merging (loop .loop-test .taken),
       (
@@ -83,8 +83,8 @@ next-word-requires-2 c κs =
     let loop = below .before .before in
     let merging = loop .before .loop .inv .1 in
     let more = loop .loop-test .taken in
-    both-inside merging more _ _ (below .take-page .ensures .0 _ _ (page-of-first merging more))
-    (over .take-page2 .ensures .0 _ _ (page-of-second merging more))
+    both-inside merging more _ _ (below .apply-page .ensures .0 _ _ (page-of-first merging more))
+    (over .apply-page2 .ensures .0 _ _ (page-of-second merging more))
 
 loop-less : tie.Need-loop-less Inv-loop μ-loop
 loop-less c =
@@ -93,8 +93,8 @@ loop-less c =
     let loop = below .before .before in
     let merging = loop .before .loop .inv .1 in
     let more = loop .loop-test .taken in
-    let past = below .take-page .ensures .0 _ _ (page-of-first merging more) in
-    let past′ = over .take-page2 .ensures .0 _ _ (page-of-second merging more) in
+    let past = below .apply-page .ensures .0 _ _ (page-of-first merging more) in
+    let past′ = over .apply-page2 .ensures .0 _ _ (page-of-second merging more) in
     omega (arith, more, next-rises merging more _ _ past past′ _ (c .next-word2 .ensures))
 
 loop-again : tie.Need-loop-again Inv-loop μ-loop
@@ -110,10 +110,10 @@ loop-again c =
     let sized = c .before .before .before .before .before .before .before .page-words .ensures .1 in
     let long = loop .before .before .before .before .before .before .pre .1 in (
       search needs,
-      merging-next merging more _ _ _ _ _ (below .take-page .ensures .1 _ _ first)
-          (over .take-page2 .ensures .1 _ _ second) _ sized
+      merging-next merging more _ _ _ _ _ (below .apply-page .ensures .1 _ _ first)
+          (over .apply-page2 .ensures .1 _ _ second) _ sized
           (omega (arith, c .before .before .before .before .before .before .if1 .left, long)) _ _ _ _ _
-          (below .take-page .ensures .0 _ _ first) (over .take-page2 .ensures .0 _ _ second) (c .next-word2 .ensures)
+          (below .apply-page .ensures .0 _ _ first) (over .apply-page2 .ensures .0 _ _ second) (c .next-word2 .ensures)
           (wrote .0) (wrote .1),
     )
 
@@ -123,11 +123,11 @@ returns-2 c = merged-made (c .before .loop .inv .1) (c .loop-test .left) _ refl
 pub merge-pages-spec : {M : Type 1} → statement M
 merge-pages-spec =
     tie.close
-    (tie.spec Inv-loop μ-loop next-word-requires loop-holds (λ c. search needs) (λ c. search needs) take-page-requires
-    (λ c. search needs) take-page-requires-2 (λ c κs. search needs) (λ c. search needs)
+    (tie.spec Inv-loop μ-loop next-word-requires loop-holds (λ c. search needs) (λ c. search needs) apply-page-requires
+    (λ c. search needs) apply-page-requires-2 (λ c κs. search needs) (λ c. search needs)
     (λ c. let room = c .before .before .before .before .before .before .before .before .loop .inv .1 .room in search needs)
-    (λ c. let long = c .before .before .before .before .before .before .before .before .before .loop .inv .1 .long in search needs) returns
-    (λ c. search needs) write-page-requires next-word-requires-2 loop-less loop-again
+    (λ c. let long = c .before .before .before .before .before .before .before .before .before .loop .inv .1 .long in
+    search needs) returns (λ c. search needs) write-page-requires next-word-requires-2 loop-less loop-again
     (λ c. let room = c .before .loop .inv .1 .room in search needs)
     (λ c. let room = c .before .loop .inv .1 .room in search needs)
     (λ c. let room = c .before .loop .inv .1 .room in search needs)

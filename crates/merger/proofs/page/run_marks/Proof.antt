@@ -2,7 +2,7 @@
 use Prim.Native.Nat.{_+_}
 use native.Mathlib.Omega.{arith}
 use borrow.Author.Needs.{needs}
-use Rattle.merger.proofs.Bits.{shifted, below-end, ones-fit, ones-set}
+use Rattle.merger.proofs.page.Bits.{shifted, below-end, ones-fit, ones-set}
 use Rattle.merger.proofs.page.run_marks.Statement.{statement}
 use Rattle.merger.proofs.page.run_marks.Tie as tie
 

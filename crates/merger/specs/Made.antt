@@ -1,10 +1,10 @@
--- Inner contracts only. A diff made in a list that may be too short for it.
+-- Inner contracts only. A diff made in a list that may be too short for it, and the number of words that is answered.
 -- Assumes nothing: these are definitions.
 use Rattle.laws.specs.Prelude.{ℕ, _<_, _≤_, _≡_, List, length}
 use lib.Seq.{sets}
 
--- a diff of so many words stands at the front of a list; where the list is too short for it, there are more words than
--- the list has
+-- the diff's length is answered, and the diff stands at the front of the list; where the list is too short for it, a number
+-- above the list's length is
 pub record MadeIn (diff before : List ℕ) (words : ℕ) (after : List ℕ) : Type 0 where
   pub too-long : length before < length diff → length before < words
   pub counted : length diff ≤ length before → words ≡ length diff

@@ -7,7 +7,7 @@ use Rattle.diff.proofs.Bits.{bit-shifted}
 use Rattle.encoder.specs.Page.{FirstRun}
 use Rattle.encoder.proofs.Runs.{bit-behind}
 use Rattle.merger.specs.Page.{inRange}
-use Rattle.merger.proofs.Range.{in-range, below, past}
+use Rattle.merger.proofs.page.Range.{in-range, below, past}
 
 abbrev pub upTo : ℕ → ℕ → ℕ → Bool
 upTo own word w = ltb w word && isSet own w

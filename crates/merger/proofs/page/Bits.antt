@@ -7,7 +7,7 @@ use lib.Pow.{pow-pos, pow-mono, shl-exact}
 use Rattle.diff.specs.Marks.{isSet}
 use Rattle.diff.proofs.Bits.{bit-half, bit-first, none-set}
 use Rattle.merger.specs.Page.{inRange}
-use Rattle.merger.proofs.Range.{in-range, below, past, range-alike}
+use Rattle.merger.proofs.page.Range.{in-range, below, past, range-alike}
 
 -- ---- two words together
 
@@ -35,7 +35,7 @@ set-in-either a b (suc w) =
 
 -- ---- so many ones from an offset on
 
-abbrev pub onesFrom : ℕ → ℕ → ℕ
+abbrev onesFrom : ℕ → ℕ → ℕ
 onesFrom offset count = 2 ^ (offset + count) - 2 ^ offset
 
 later-half : (offset count : ℕ) → onesFrom (suc offset) count / 2 ≡ onesFrom offset count

@@ -1,4 +1,4 @@
--- `page::take_page` meets its contract. The loop's invariant: the runs before an index are laid over the page, and those
+-- `page::apply_page` meets its contract. The loop's invariant: the runs before an index are applied to the page, and those
 -- that are left stand from there on.
 use Prim.Native.Nat.{ℕ, _+_, _-_, _%_, _<_}
 use mathlib.Core.Path.{_≡_, refl}
@@ -8,23 +8,23 @@ use borrow.Author.Needs.{needs}
 use lib.ListN.{length, getD, length-take, length-drop}
 use denote.Ref.{now}
 use Rattle.merger.specs.Page.{PageAt}
-use Rattle.merger.proofs.Taking.{RunsTaken, page-inside, none-past, none-laid, runs-start, run-there, run-fits}
-use Rattle.merger.proofs.Taking.{run-inside, run-taken, all-past, all-laid}
-use Rattle.merger.proofs.page.take_page.Statement.{statement}
-use Rattle.merger.proofs.page.take_page.Tie as tie
-use Rattle.merger.proofs.page.take_page.Reads as reads
-use Rattle.merger.proofs.page.take_page.Lts as lts
+use Rattle.merger.proofs.page.Applying.{RunsApplied, page-inside, none-past, none-applied, runs-start, run-there, run-fits}
+use Rattle.merger.proofs.page.Applying.{run-inside, run-applied, all-past, all-applied}
+use Rattle.merger.proofs.page.apply_page.Statement.{statement}
+use Rattle.merger.proofs.page.apply_page.Tie as tie
+use Rattle.merger.proofs.page.apply_page.Reads as reads
+use Rattle.merger.proofs.page.apply_page.Lts as lts
 use Rattle.memory.proofs.store_run_in.Reads as store-run-in-reads
 use Rattle.merger.proofs.page.run_marks.Reads as run-marks-reads
 
 abbrev Inv-loop : tie.InvT-loop
-Inv-loop list index page prices₀ marks laid₀ at₀ word₀ prices laid at word =
+Inv-loop list index page prices₀ marks marked₀ at₀ word₀ prices marked at word =
     (word ≡ getD list at 0)
     × ((own : ℕ) (priced : List ℕ) (there : PageAt list index page own priced)
-    → RunsTaken there marks prices₀ laid prices at)
+    → RunsApplied there marks prices₀ marked prices at)
 
 abbrev μ-loop : tie.MeasureT-loop
-μ-loop list index page prices₀ marks laid₀ at₀ word₀ prices laid at word = length list - at
+μ-loop list index page prices₀ marks marked₀ at₀ word₀ prices marked at word = length list - at
 
 shared-slice-read-if1 : tie.Need-shared-slice-read-if1 Inv-loop μ-loop
 shared-slice-read-if1 c = page-inside (c .before .before .before .pre .1 .1 .1 .1)
@@ -33,7 +33,7 @@ returns : tie.Need-returns Inv-loop μ-loop
 returns c =
     let args = c .before .before .before .before .args in (
       λ own priced there. none-past there (c .if1 .taken),
-      λ own priced there. none-laid there (args .marks) (now (args .prices)) (c .if1 .taken),
+      λ own priced there. none-applied there (args .marks) (now (args .prices)) (c .if1 .taken),
     )
 
 shared-slice-read-word : tie.Need-shared-slice-read-word Inv-loop μ-loop
@@ -84,7 +84,7 @@ loop-again c =
     let two = rw (inv .0) at (loop .loop-test .taken) in
     let ones = rw (inv .0) at (c .before .run-marks .ensures) in
     let stored = rw (inv .0) at (c .before .before .before .before .store-run-in .ensures) in
-    (refl, λ own priced there. rw (inv .0) (run-taken (inv .1 own priced there) two _ _ _ ones refl stored))
+    (refl, λ own priced there. rw (inv .0) (run-applied (inv .1 own priced there) two _ _ _ ones refl stored))
 
 same-length : tie.Need-same-length Inv-loop μ-loop
 same-length c =
@@ -96,10 +96,10 @@ returns-2 : tie.Need-returns-2 Inv-loop μ-loop
 returns-2 c =
     let inv = c .before .loop .inv in
     let other = rw (inv .0) at (c .loop-test .left) in
-    (λ own priced there. all-past (inv .1 own priced there) other, λ own priced there. all-laid (inv .1 own priced there) other)
+    (λ own priced there. all-past (inv .1 own priced there) other, λ own priced there. all-applied (inv .1 own priced there) other)
 
-pub take-page-spec : {M : Type 1} → statement M
-take-page-spec =
+pub apply-page-spec : {M : Type 1} → statement M
+apply-page-spec =
     tie.close
     (tie.spec Inv-loop μ-loop (λ c. let fits = page-inside (c .before .before .pre .1 .1 .1 .1) in search needs)
     shared-slice-read-if1 (λ c. search needs) (λ c. search needs) returns

@@ -1,53 +1,38 @@
--- The runs that a diff has on a page, taken one after the other: which words are laid over the page once so many runs are
--- taken, and that the words of the list past them are those of the runs that are left.
+-- The runs that a diff has on a page, applied one after the other: which words are set on the page once so many runs are
+-- applied, and that the words of the list past them are those of the runs that are left.
 use Rattle.laws.proofs.Prelude.{ℕ, _+_, _-_, _/_, _^_, _≤_, _<_, _≡_, _≢_, sym, ap, _∙_, arith, decLt}
 use Rattle.laws.proofs.Prelude.{List, _∷_, _++_, Bool, true, false, cond, _||_, length, getD, take, drop, ℕ-discrete}
 use Rattle.laws.proofs.Prelude.{true≢false}
 use Rattle.laws.proofs.Lists.{getD-sets-outside, getD-sets-inside}
 use mathlib.Core.Bool.{or-assoc, or-false, or-true}
 use mathlib.Core.List.{append-assoc}
-use native.Mathlib.Numerals.{add-one}
 use lib.Bits.{bitOr}
 use lib.ListN.{length-take, length-drop, length-append}
 use lib.Pow.{shr-le}
-use lib.Seq.{sets, length-sets, drop-cons, drop-drop, drop-at, take-at, getD-take, getD-drop}
+use lib.Seq.{sets, length-sets, drop-drop, drop-at, take-at, getD-take, getD-drop}
 use Rattle.diff.specs.Format.{kind, offset, count, pageWord, runWord}
 use Rattle.diff.specs.Marks.{isSet}
 use Rattle.diff.proofs.Bits.{none-set}
 use Rattle.encoder.specs.Page.{pageWords, FirstRun}
 use Rattle.encoder.proofs.Bits.{first-run}
 use Rattle.encoder.proofs.Runs.{runsFrom, runs-all, runs-none, runs-first, run-within, page-words-none, page-words-some}
-use Rattle.merger.specs.Page.{inRange, PageAt, LaidOver}
-use Rattle.merger.proofs.Range.{in-range, below, past}
-use Rattle.merger.proofs.Bits.{set-in-either}
-use Rattle.merger.proofs.Below.{upTo, up-to-none, up-to-all, up-to-run}
-
--- ---- the first word of what a list has from an index on
-
-module _ (list : List ℕ) (index : ℕ) {w : ℕ} {ws : List ℕ} (from : drop index list ≡ w ∷ ws) where
-  pub word-inside : index < length list
-  word-inside = omega (arith, sym (length-drop index list) ∙ ap length from)
-
-  parts : getD list index 0 ∷ drop (index + 1) list ≡ w ∷ ws
-  parts = rw (add-one index) (sym (drop-cons list index 0 word-inside) ∙ from)
-
-  pub word-at : getD list index 0 ≡ w
-  word-at = let whole = parts in cc
-
-  pub words-behind : drop (index + 1) list ≡ ws
-  words-behind = let whole = parts in cc
+use Rattle.merger.specs.Page.{inRange, PageAt, PageApplied}
+use Rattle.merger.proofs.Words.{word-at, words-behind}
+use Rattle.merger.proofs.page.Range.{in-range, below, past}
+use Rattle.merger.proofs.page.Bits.{set-in-either}
+use Rattle.merger.proofs.page.Below.{upTo, up-to-none, up-to-all, up-to-run}
 
 -- ---- the runs of a page
 
--- those below a word are laid over the page, and those from there on stand in the list
-pub record RunsTaken {list : List ℕ} {index page own : ℕ} {priced : List ℕ} (there : PageAt list index page own priced)
-    (marks : ℕ) (shown : List ℕ) (laid : ℕ) (prices : List ℕ) (at : ℕ) : Type 0 where
+-- those below a word are applied to the page, and those from there on stand in the list
+pub record RunsApplied {list : List ℕ} {index page own : ℕ} {priced : List ℕ} (there : PageAt list index page own priced)
+    (marks : ℕ) (shown : List ℕ) (after : ℕ) (prices : List ℕ) (at : ℕ) : Type 0 where
   word : ℕ
   within : word ≤ 32
   counted : at + length (runsFrom page own priced word) ≡ index + length (pageWords page own priced)
   words : drop at list ≡ runsFrom page own priced word ++ there .behind ∷ there .rest
   pub size : length prices ≡ 32
-  marked : (w : ℕ) → isSet laid w ≡ (isSet marks w || upTo own word w)
+  marked : (w : ℕ) → isSet after w ≡ (isSet marks w || upTo own word w)
   showing : (w : ℕ) → w < 32 → getD prices w 0 ≡ cond (upTo own word w) (getD priced w 0) (getD shown w 0)
 
 -- words and one more are some
@@ -87,15 +72,15 @@ module _ {list : List ℕ} {index page own : ℕ} {priced : List ℕ} (there : P
   none-past other = omega (arith, ap length (page-words-none page own priced (none-marked other)))
 
   module _ (marks : ℕ) (shown : List ℕ) where
-    pub none-laid : getD list index 0 ≢ pageWord page → LaidOver own priced marks shown marks shown
-    none-laid other =
+    pub none-applied : getD list index 0 ≢ pageWord page → PageApplied own priced marks shown marks shown
+    none-applied other =
         record {
           marked = λ w. rw (none-marked other, none-set w) (sym (or-false (isSet marks w)));
           priced = λ w below. rw (none-marked other, none-set w);
         }
 
     pub runs-start : getD list index 0 ≡ pageWord page → length shown ≡ 32
-        → RunsTaken there marks shown marks shown (index + 1)
+        → RunsApplied there marks shown marks shown (index + 1)
     runs-start is size =
         let words = page-word-first (some-marked is) in
         record {
@@ -110,23 +95,23 @@ module _ {list : List ℕ} {index page own : ℕ} {priced : List ℕ} (there : P
         }
 
 module _ {list : List ℕ} {index page own : ℕ} {priced : List ℕ} {there : PageAt list index page own priced} {marks : ℕ}
-    {shown : List ℕ} {laid : ℕ} {prices : List ℕ} {at : ℕ} (taken : RunsTaken there marks shown laid prices at) where
+    {shown : List ℕ} {after : ℕ} {prices : List ℕ} {at : ℕ} (applied : RunsApplied there marks shown after prices at) where
   pub run-there : at < length list
-  run-there = some-words list at (runsFrom page own priced (taken .word)) (there .behind) (there .rest) (taken .words)
+  run-there = some-words list at (runsFrom page own priced (applied .word)) (there .behind) (there .rest) (applied .words)
 
   abbrev left : ℕ
-  left = own / 2 ^ taken .word
+  left = own / 2 ^ applied .word
 
   abbrev w : ℕ
   w = getD list at 0
 
   left-small : left < 2 ^ 32
-  left-small = omega (arith, there .small, shr-le own (taken .word))
+  left-small = omega (arith, there .small, shr-le own (applied .word))
 
   -- the first run of those that are left
   module _ (o n : ℕ) (is : FirstRun left (record { offset = o; count = n })) where
     abbrev start : ℕ
-    start = taken .word + o
+    start = applied .word + o
 
     behind-run : List ℕ
     behind-run = runsFrom page own priced (start + n) ++ there .behind ∷ there .rest
@@ -134,15 +119,15 @@ module _ {list : List ℕ} {index page own : ℕ} {priced : List ℕ} {there : P
     run-first : drop at list ≡ runWord start n ∷ take n (drop start priced) ++ behind-run
     unfolding behind-run
     run-first =
-        taken .words
-        ∙ rw (runs-first page own priced (taken .word) _ is (there .small) (there .size))
+        applied .words
+        ∙ rw (runs-first page own priced (applied .word) _ is (there .small) (there .size))
         (ap (λ ws. runWord start n ∷ ws) (append-assoc (take n (drop start priced)) _ _))
 
     run-here : w ≡ runWord start n
     run-here = word-at list at run-first
 
     run-on-page : start + n ≤ 32
-    run-on-page = run-within page own priced (taken .word) _ is (there .small) (there .size)
+    run-on-page = run-within page own priced (applied .word) _ is (there .small) (there .size)
 
     run-kind : kind w ≡ 2
     run-kind = rw run-here (omega (arith, run-on-page))
@@ -166,25 +151,25 @@ module _ {list : List ℕ} {index page own : ℕ} {priced : List ℕ} {there : P
         sym (drop-drop n (at + 1) list)
         ∙ rw (words-behind list at run-first) (drop-at (take n (drop start priced)) behind-run n long)
 
-    -- laid over the page, it leaves the runs behind it
-    module _ (ones laid′ : ℕ) (prices′ : List ℕ) (set-ones : (v : ℕ) → isSet ones v ≡ inRange start n v)
-        (together : laid′ ≡ bitOr laid ones) (stored : prices′ ≡ sets prices start (take n (drop start priced))) where
-      run-marked : (v : ℕ) → isSet laid′ v ≡ (isSet marks v || upTo own (start + n) v)
+    -- applied to the page, it leaves the runs behind it
+    module _ (ones after′ : ℕ) (prices′ : List ℕ) (set-ones : (v : ℕ) → isSet ones v ≡ inRange start n v)
+        (together : after′ ≡ bitOr after ones) (stored : prices′ ≡ sets prices start (take n (drop start priced))) where
+      run-marked : (v : ℕ) → isSet after′ v ≡ (isSet marks v || upTo own (start + n) v)
       run-marked v =
-          rw (together, set-in-either laid ones v, set-ones v, taken .marked v, up-to-run own (taken .word) o n is v)
-          (or-assoc (isSet marks v) (upTo own (taken .word) v) (inRange start n v))
+          rw (together, set-in-either after ones v, set-ones v, applied .marked v, up-to-run own (applied .word) o n is v)
+          (or-assoc (isSet marks v) (upTo own (applied .word) v) (inRange start n v))
 
       -- words outside it show what they did, and those in it its prices
       outside-run : (v : ℕ) → v < 32 → inRange start n v ≡ false
           → getD prices′ v 0 ≡ cond (upTo own (start + n) v) (getD priced v 0) (getD shown v 0)
       outside-run v small outside =
-          let same : upTo own (start + n) v ≡ upTo own (taken .word) v =
-          up-to-run own (taken .word) o n is v ∙ ap (λ (b : Bool). upTo own (taken .word) v || b) outside
-          ∙ or-false (upTo own (taken .word) v) in
+          let same : upTo own (start + n) v ≡ upTo own (applied .word) v =
+          up-to-run own (applied .word) o n is v ∙ ap (λ (b : Bool). upTo own (applied .word) v || b) outside
+          ∙ or-false (upTo own (applied .word) v) in
           rw (same, stored)
           (getD-sets-outside (take n (drop start priced)) prices start v
           (λ j inside same. true≢false (sym (in-range start n v (omega arith) (omega (arith, long))) ∙ outside))
-          ∙ taken .showing v small)
+          ∙ applied .showing v small)
 
       inside-run : (v : ℕ) → start ≤ v → v < start + n
           → getD prices′ v 0 ≡ cond (upTo own (start + n) v) (getD priced v 0) (getD shown v 0)
@@ -192,11 +177,11 @@ module _ {list : List ℕ} {index page own : ℕ} {priced : List ℕ} {there : P
           let j : ℕ = v - start in
           let at : start + j ≡ v = omega arith in
           let marked : upTo own (start + n) v ≡ true =
-          up-to-run own (taken .word) o n is v
-          ∙ ap (λ (b : Bool). upTo own (taken .word) v || b) (in-range start n v low high)
-          ∙ or-true (upTo own (taken .word) v) in
+          up-to-run own (applied .word) o n is v
+          ∙ ap (λ (b : Bool). upTo own (applied .word) v || b) (in-range start n v low high)
+          ∙ or-true (upTo own (applied .word) v) in
           rw (marked, stored, ← at)
-          (getD-sets-inside (take n (drop start priced)) prices start j (omega (arith, run-on-page, taken .size))
+          (getD-sets-inside (take n (drop start priced)) prices start j (omega (arith, run-on-page, applied .size))
           (omega (arith, long))
           ∙ getD-take n (drop start priced) j 0 (omega arith) ∙ getD-drop start priced j 0)
 
@@ -210,22 +195,22 @@ module _ {list : List ℕ} {index page own : ℕ} {priced : List ℕ} {there : P
         ]
       ]
 
-      next-taken : RunsTaken there marks shown laid′ prices′ (at + 1 + n)
+      next-applied : RunsApplied there marks shown after′ prices′ (at + 1 + n)
       unfolding behind-run
-      next-taken =
+      next-applied =
           record {
             word = start + n;
             within = run-on-page;
             counted =
                 omega (
                   arith,
-                  ap length (runs-first page own priced (taken .word) _ is (there .small) (there .size)),
+                  ap length (runs-first page own priced (applied .word) _ is (there .small) (there .size)),
                   length-append (take n (drop start priced)) (runsFrom page own priced (start + n)),
                   long,
-                  taken .counted,
+                  applied .counted,
                 );
             words = past-run;
-            size = rw (stored, length-sets) (taken .size);
+            size = rw (stored, length-sets) (applied .size);
             marked = run-marked;
             showing = run-showing;
           }
@@ -238,9 +223,9 @@ module _ {list : List ℕ} {index page own : ℕ} {priced : List ℕ} {there : P
         (sym
         (ap kind
         (word-at list at
-        (taken .words
+        (applied .words
         ∙ ap (λ ws. ws ++ there .behind ∷ there .rest)
-        (runs-none page own priced (taken .word) none (taken .within)))))
+        (runs-none page own priced (applied .word) none (applied .within)))))
         ∙ two)
 
     pub run-fits : offset w + count w ≤ 32
@@ -255,16 +240,16 @@ module _ {list : List ℕ} {index page own : ℕ} {priced : List ℕ} {there : P
         rw (run-count _ _ is)
         (some-words list _ (runsFrom page own priced _) (there .behind) (there .rest) (past-run _ _ is))
 
-    pub run-taken : (ones laid′ : ℕ) (prices′ : List ℕ)
-        → ((v : ℕ) → isSet ones v ≡ inRange (offset w) (count w) v) → laid′ ≡ bitOr laid ones
+    pub run-applied : (ones after′ : ℕ) (prices′ : List ℕ)
+        → ((v : ℕ) → isSet ones v ≡ inRange (offset w) (count w) v) → after′ ≡ bitOr after ones
         → prices′ ≡ sets prices (offset w) (take (at + 1 + count w - (at + 1)) (drop (at + 1) list))
-        → RunsTaken there marks shown laid′ prices′ (at + 1 + count w)
-    run-taken ones laid′ prices′ set-ones together stored =
+        → RunsApplied there marks shown after′ prices′ (at + 1 + count w)
+    run-applied ones after′ prices′ set-ones together stored =
         let is = first-run left (omega (arith, some-left)) left-small in
         let many : at + 1 + count w - (at + 1) ≡ count w = omega arith in
         let same = rw (many, run-offset _ _ is, run-count _ _ is, run-prices _ _ is) at stored in
         rw (run-count _ _ is)
-        (next-taken _ _ is ones laid′ prices′ (rw (run-offset _ _ is, run-count _ _ is) at set-ones) together same)
+        (next-applied _ _ is ones after′ prices′ (rw (run-offset _ _ is, run-count _ _ is) at set-ones) together same)
 
   -- and where no run word stands, none is
   module _ (other : kind w ≢ 2) where
@@ -276,11 +261,11 @@ module _ {list : List ℕ} {index page own : ℕ} {priced : List ℕ} {there : P
 
     pub all-past : at ≡ index + length (pageWords page own priced)
     all-past =
-        omega (arith, taken .counted, ap length (runs-none page own priced (taken .word) none-left (taken .within)))
+        omega (arith, applied .counted, ap length (runs-none page own priced (applied .word) none-left (applied .within)))
 
-    pub all-laid : LaidOver own priced marks shown laid prices
-    all-laid =
+    pub all-applied : PageApplied own priced marks shown after prices
+    all-applied =
         record {
-          marked = λ v. taken .marked v ∙ rw (up-to-all own (taken .word) v none-left);
-          priced = λ v small. taken .showing v small ∙ rw (up-to-all own (taken .word) v none-left);
+          marked = λ v. applied .marked v ∙ rw (up-to-all own (applied .word) v none-left);
+          priced = λ v small. applied .showing v small ∙ rw (up-to-all own (applied .word) v none-left);
         }
