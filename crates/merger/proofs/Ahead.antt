@@ -17,6 +17,7 @@ use Rattle.encoder.proofs.Bits.{first-run}
 use Rattle.encoder.proofs.Runs.{page-words-none, page-words-some}
 use Rattle.encoder.proofs.Pages.{bodyFrom, body-none, body-skip, body-next}
 use Rattle.merger.specs.Page.{PageAt}
+use Rattle.merger.proofs.Words.{words-inside, word-at}
 use Rattle.merger.proofs.Packed.{packed, packed-set, packed-small, tabulated, length-tabulated, tabulated-at}
 
 -- ---- the pages of a diff with these prices
@@ -169,6 +170,12 @@ ahead-first list allowed =
 module _ {list : List ℕ} {ps : List Price} {index page : ℕ} (ahead : Ahead list ps index page) where
   pub first-page : NextPage ps (ahead .end) page
   first-page = next-page ps (ahead .end) (64 - page) page (omega (arith, ahead .within))
+
+  pub ahead-inside : index < length list
+  ahead-inside = words-inside list index (body ps page) (endWord (ahead .end)) [] (ahead .words)
+
+  pub ahead-word : getD list index 0 ≡ first-page .word
+  ahead-word = word-at list index (ahead .words ∙ first-page .words)
 
   -- at a page before which nothing is named
   module _ (k : ℕ) (on : k < 64) (from : page ≤ k) (to : k ≤ first-page .next) where

@@ -19,9 +19,8 @@ use Rattle.encoder.specs.Page.{pageWords}
 use Rattle.encoder.proofs.Pages.{bodyFrom, body-none, body-skip, body-next}
 use Rattle.merger.specs.Page.{PageAt, PageApplied}
 use Rattle.merger.specs.Made.{MadeIn}
-use Rattle.merger.proofs.Words.{word-at, word-inside}
 use Rattle.merger.proofs.Ahead.{NextPage, marksOn, pricesOn, marks-on, prices-on, Ahead, ahead-first, first-page}
-use Rattle.merger.proofs.Ahead.{word-above, page-at, past-page}
+use Rattle.merger.proofs.Ahead.{word-above, ahead-inside, ahead-word, page-at, past-page}
 
 -- the words that the pages of the merged diff bring from one on
 abbrev mergedBody : List ℕ → List ℕ → ℕ → List ℕ
@@ -65,13 +64,6 @@ merging-first first second before next allowed allowed′ room lower =
       counted = zero-add (length (mergedBody first second 0));
       stored = refl;
     }
-
-pub ahead-inside : {list : List ℕ} {ps : List Price} {index page : ℕ} → Ahead list ps index page → index < length list
-ahead-inside {list} {ps} {index} ahead = word-inside list index (ahead .words ∙ first-page ahead .words)
-
-ahead-word : {list : List ℕ} {ps : List Price} {index page : ℕ} (ahead : Ahead list ps index page)
-    → getD list index 0 ≡ first-page ahead .word
-ahead-word {list} {ps} {index} ahead = word-at list index (ahead .words ∙ first-page ahead .words)
 
 module _ {first second before : List ℕ} {i j at next : ℕ} {list : List ℕ}
     (merging : Merging first second before i j at next list) where

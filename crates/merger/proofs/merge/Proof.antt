@@ -11,9 +11,9 @@ use Rattle.answer.specs.Outcome.{answerOf, andThen, listTooLong}
 use Rattle.answer.proofs.InOrder.{both-pass}
 use Rattle.diff.specs.Reading.{checkDiff}
 use Rattle.diff.specs.Merging.{mergePages, mergedDiff, mergeDiffs}
-use Rattle.diff.proofs.Merging.{merge-faulty, merge-sized}
+use Rattle.diff.proofs.Merging.{merge-faulty}
 use Rattle.diff.proofs.Room.{within-limit, within-room, room-given, written-none, written-all}
-use Rattle.merger.proofs.Made.{made-room, made-front}
+use Rattle.merger.proofs.Made.{made-front, merge-comes}
 use Rattle.merger.proofs.merge.Statement.{statement}
 use Rattle.merger.proofs.merge.Tie as tie
 
@@ -47,12 +47,9 @@ returns-2 c =
     let second = now (args .second) in
     let buffer = now (args .buffer) in
     let checked = merged .before .before .before .before .check-both .ensures in
-    let allowed =
-    both-pass (checkDiff mergePages first) (checkDiff mergePages second)
-    (sym (ap (λ o. o .number) checked) ∙ merged .before .before .if1 .left) in
+    let passed = sym (ap (λ o. o .number) checked) ∙ merged .before .before .if1 .left in
     let comes =
-    room .room-for .ensures ∙ made-room (merged .merge-pages .ensures) refl listTooLong (length buffer)
-    ∙ sym (merge-sized first second (length buffer) (allowed .0) (allowed .1)) in (
+    room .room-for .ensures ∙ merge-comes first second (merged .merge-pages .ensures) refl passed (length buffer) in (
       c .answer-of2 .ensures ∙ ap answerOf comes,
       sym
           (written-none (mergeDiffs first second (length buffer)) (mergedDiff first second) buffer
@@ -82,28 +79,23 @@ returns-3 c =
     let room = c .before .before .before .before .before .before .before .before in
     let merged = room .before .before in
     let args = merged .before .before .before .before .before .before .before .before .args in
+    let checked = merged .before .before .before .before .check-both .ensures in
+    let passed = sym (ap (λ o. o .number) checked) ∙ merged .before .before .if1 .left in
     let first = now (args .first) in
     let second = now (args .second) in
-    let buffer = now (args .buffer) in
-    let checked = merged .before .before .before .before .check-both .ensures in
-    let allowed =
-    both-pass (checkDiff mergePages first) (checkDiff mergePages second)
-    (sym (ap (λ o. o .number) checked) ∙ merged .before .before .if1 .left) in
-    let words = merged .merge-pages .result in
     let made = merged .merge-pages .ensures in
-    let sized = made-room made refl listTooLong (length buffer) in
-    let comes = sym (merge-sized first second (length buffer) (allowed .0) (allowed .1)) in
-    let accepted =
-    sym (ap (λ o. o .number) (room .room-for .ensures)) ∙ c .before .before .before .before .before .before .if2 .left in
-    let front = made-front made refl (within-limit listTooLong words (length buffer) (omega arith) accepted) in
-    let passes = sym (ap (λ o. o .number) sized) ∙ accepted in
-    let fits = within-room listTooLong (length (mergedDiff first second)) (length buffer) (omega arith) passes in
+    let words = merged .merge-pages .result in
+    let most = length (now (args .buffer)) in
+    let comes = merge-comes first second made refl passed most in
+    let accepted = sym (ap (λ o. o .number) (room .room-for .ensures)) ∙ c .before .before .before .before .before .before .if2 .left in
+    let front = made-front made refl (within-limit listTooLong words most (omega arith) accepted) in
+    let fits = within-room listTooLong words most (omega arith) accepted in
     let all : words - 0 ≡ words = omega arith in (
-      ap answerOf (sym (room-given listTooLong words (length buffer) (omega arith) accepted) ∙ sized ∙ comes),
-      (rw (all, front) at (c .before .before .store-run-in .ensures))
+      ap answerOf (sym (room-given listTooLong words most (omega arith) accepted) ∙ comes),
+      (rw (all, front .1) at (c .before .before .store-run-in .ensures))
           ∙ sym
-          (written-all (mergeDiffs first second (length buffer)) (mergedDiff first second) buffer
-          (sym (ap (λ o. o .number) comes) ∙ passes) fits),
+          (written-all (mergeDiffs first second most) (mergedDiff first second) (now (args .buffer))
+          (sym (ap (λ o. o .number) comes) ∙ accepted) (omega (arith, front .0))),
     )
 
 pub merge-spec : {M : Type 1} → statement M

@@ -6,8 +6,8 @@ use lib.ListN.{length}
 use native.Mathlib.Omega.{arith}
 use borrow.Author.Needs.{needs}
 use denote.Ref.{now}
-use Rattle.merger.proofs.Ahead.{ahead-first}
-use Rattle.merger.proofs.Merging.{Merging, merging-first, ahead-inside, next-page-on, page-of-first, page-of-second}
+use Rattle.merger.proofs.Ahead.{ahead-first, ahead-inside}
+use Rattle.merger.proofs.Merging.{Merging, merging-first, next-page-on, page-of-first, page-of-second}
 use Rattle.merger.proofs.Merging.{both-inside, next-rises, no-room, merging-next, merged-made}
 use Rattle.merger.proofs.merge_pages.Statement.{statement}
 use Rattle.merger.proofs.merge_pages.Tie as tie

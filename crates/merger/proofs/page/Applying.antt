@@ -17,7 +17,7 @@ use Rattle.encoder.specs.Page.{pageWords, FirstRun}
 use Rattle.encoder.proofs.Bits.{first-run}
 use Rattle.encoder.proofs.Runs.{runsFrom, runs-all, runs-none, runs-first, run-within, page-words-none, page-words-some}
 use Rattle.merger.specs.Page.{inRange, PageAt, PageApplied}
-use Rattle.merger.proofs.Words.{word-at, words-behind}
+use Rattle.merger.proofs.Words.{words-inside, word-at, words-behind}
 use Rattle.merger.proofs.page.Range.{in-range, below, past}
 use Rattle.merger.proofs.page.Bits.{set-in-either}
 use Rattle.merger.proofs.page.Below.{upTo, up-to-none, up-to-all, up-to-run}
@@ -35,15 +35,9 @@ pub record RunsApplied {list : List ℕ} {index page own : ℕ} {priced : List �
   marked : (w : ℕ) → isSet after w ≡ (isSet marks w || upTo own word w)
   showing : (w : ℕ) → w < 32 → getD prices w 0 ≡ cond (upTo own word w) (getD priced w 0) (getD shown w 0)
 
--- words and one more are some
-some-words : (list : List ℕ) (index : ℕ) (us : List ℕ) (v : ℕ) (vs : List ℕ) → drop index list ≡ us ++ v ∷ vs
-    → index < length list
-some-words list index us v vs from =
-    omega (arith, sym (length-drop index list) ∙ ap length from ∙ length-append us (v ∷ vs))
-
 module _ {list : List ℕ} {index page own : ℕ} {priced : List ℕ} (there : PageAt list index page own priced) where
   pub page-inside : index < length list
-  page-inside = some-words list index (pageWords page own priced) (there .behind) (there .rest) (there .words)
+  page-inside = words-inside list index (pageWords page own priced) (there .behind) (there .rest) (there .words)
 
   page-word-first : own ≢ 0 → pageWords page own priced ≡ pageWord page ∷ runsFrom page own priced 0
   page-word-first some =
@@ -97,7 +91,7 @@ module _ {list : List ℕ} {index page own : ℕ} {priced : List ℕ} (there : P
 module _ {list : List ℕ} {index page own : ℕ} {priced : List ℕ} {there : PageAt list index page own priced} {marks : ℕ}
     {shown : List ℕ} {after : ℕ} {prices : List ℕ} {at : ℕ} (applied : RunsApplied there marks shown after prices at) where
   pub run-there : at < length list
-  run-there = some-words list at (runsFrom page own priced (applied .word)) (there .behind) (there .rest) (applied .words)
+  run-there = words-inside list at (runsFrom page own priced (applied .word)) (there .behind) (there .rest) (applied .words)
 
   abbrev left : ℕ
   left = own / 2 ^ applied .word
@@ -238,7 +232,7 @@ module _ {list : List ℕ} {index page own : ℕ} {priced : List ℕ} {there : P
     run-inside =
         let is = first-run left (omega (arith, some-left)) left-small in
         rw (run-count _ _ is)
-        (some-words list _ (runsFrom page own priced _) (there .behind) (there .rest) (past-run _ _ is))
+        (words-inside list _ (runsFrom page own priced _) (there .behind) (there .rest) (past-run _ _ is))
 
     pub run-applied : (ones after′ : ℕ) (prices′ : List ℕ)
         → ((v : ℕ) → isSet ones v ≡ inRange (offset w) (count w) v) → after′ ≡ bitOr after ones
