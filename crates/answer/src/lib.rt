@@ -1,4 +1,6 @@
 // What a call answers, and the numbers of documents 01 and 02 for what it refuses.
+#![tactic(auto)]
+
 ghost use Rattle.std.specs.Prelude.{◌≡◌};
 ghost use Rattle.answer.specs.Outcome.{outcome, answer_of, given, refused_at};
 
@@ -45,7 +47,7 @@ pub const LIST_TOO_LONG: u32 = 19;
 pub const STAMP_TOO_HIGH: u32 = 20;
 
 // What a call came to, in these numbers.
-#[derive(Drop)]
+#[derive(Clone, Copy)]
 pub struct Outcome {
     // 0 if the call was accepted, else the refusal.
     pub number: u32,
@@ -71,7 +73,7 @@ pub fn refused_at(number: u32, place: u64) -> Outcome
     }
 }
 
-#[derive(Drop)]
+#[derive(Clone, Copy)]
 pub enum Answer {
     // The number that an accepted call gives.
     Given(u64),

@@ -1,5 +1,7 @@
 // A card's area in the lent memory (document 01, "Cards, pages, memory"): where things stand in it,
 // and what it says of releases, lists, records and pages.
+#![tactic(auto)]
+
 ghost use Rattle.laws.specs.Examples.{AllHold};
 ghost use Rattle.area.specs.Examples.{examples};
 

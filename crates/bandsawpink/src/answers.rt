@@ -9,7 +9,7 @@ use answer::Answer;
 
 // 0 and what the call gives, or the refusal and its place.
 #[repr(C)]
-#[derive(Drop)]
+#[derive(Clone, Copy)]
 pub struct RackAnswer {
     pub number: u32,
     pub value: u64,
@@ -17,7 +17,7 @@ pub struct RackAnswer {
 
 // An answer with desk words: all zero if it is refused.
 #[repr(C)]
-#[derive(Drop)]
+#[derive(Clone, Copy)]
 pub struct RackDeskAnswer {
     pub number: u32,
     pub value: u64,
@@ -26,7 +26,7 @@ pub struct RackDeskAnswer {
 
 // An answer with the number of steps made, also if a refusal stopped them.
 #[repr(C)]
-#[derive(Drop)]
+#[derive(Clone, Copy)]
 pub struct RackStepsAnswer {
     pub number: u32,
     pub made: u32,
@@ -35,7 +35,7 @@ pub struct RackStepsAnswer {
 
 // An answer with the pages that were shown: none if it is refused.
 #[repr(C)]
-#[derive(Drop)]
+#[derive(Clone, Copy)]
 pub struct RackFetchAllAnswer {
     pub number: u32,
     pub value: u64,

@@ -22,7 +22,7 @@ use directory::{Directory, Header};
 // ---- steps
 
 // How many steps were made; the answer is that number, or the refusal that stopped them.
-#[derive(Drop)]
+#[derive(Clone, Copy)]
 pub struct StepsReply {
     pub directory: Directory,
     pub made: u32,
@@ -185,7 +185,7 @@ fn fetch_pages(
 }
 
 // The answer, and which pages were shown: none if the call is refused.
-#[derive(Drop)]
+#[derive(Clone, Copy)]
 pub struct FetchAllAnswer {
     pub answer: Answer,
     pub shown: [bool; 64],
@@ -222,7 +222,7 @@ pub fn fetch_all_lent<'a>(
 }
 
 // The same, with the directory handed back.
-#[derive(Drop)]
+#[derive(Clone, Copy)]
 pub struct FetchAllReply {
     pub directory: Directory,
     pub answer: Answer,

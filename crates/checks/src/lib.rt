@@ -2,6 +2,8 @@
 // a card: refusals 1, 2, 11 and 3. Each check is true where it refuses; a function that ends in
 // `_refusal` answers the outcome of several, with the number 0 where none refuses. A directory comes
 // as its header, by value, with its homes lent beside it.
+#![tactic(auto)]
+
 ghost use Rattle.laws.specs.Prelude.{◌≡◌, ◌*◌, ◌<◌, ◌≤◌, [], ◌∷◌, not, ◌||◌, length, leb};
 ghost use Rattle.laws.specs.Search.{any_below, count_below};
 ghost use Rattle.directory.specs.Directory.{live_at, directory_by, FullHomes, awaits_card};

@@ -11,7 +11,7 @@ use directory::Directory;
 use lines::Command;
 
 // What a command shows, and the directory that it leaves.
-#[derive(Drop)]
+#[derive(Clone, Copy)]
 pub struct Shown {
     pub directory: Directory,
     pub outcome: Outcome,

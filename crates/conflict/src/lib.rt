@@ -1,6 +1,8 @@
 // Open releases that stand in the way of a call: any (refusal 15), one that prices a word of a list
 // handed in (refusal 8, `sharing`), and one that counts already and names a page asked for (refusal
 // 10, `motion`). The searches for 8 and 10 answer the lowest such card, or the number of cards.
+#![tactic(auto)]
+
 ghost use Rattle.laws.specs.Prelude.{◌≡◌, ◌<◌, ◌≤◌, length};
 ghost use Rattle.laws.specs.Search.{any_below};
 ghost use Rattle.area.specs.Prelude.{AreaIn, MemoryOf, area_size, pages_start, has_open_release};

@@ -15,7 +15,7 @@ use directory::Header;
 use reader::walk;
 
 // How many prices a list has, and whether one of them names a page.
-#[derive(Drop)]
+#[derive(Clone, Copy)]
 struct Tally {
     prices: u32,
     named: bool,

@@ -87,17 +87,19 @@ module _ (pages last : ℕ) (few : pages ≤ 0x10000000) where
   between_prices p s word page at one =
       record { idle = omega arith; gap = refl; low = omega arith; at = λ _. omega arith; past = λ _. omega arith }
 
-  pub run_decoded : (p : Price) {ps : List Price} → p.word < 32 → Ascending pages (label_of p + 1) ps → RunReads p ps
-  run_decoded p word none s index page at due whole =
+  -- the run is followed by the prices from a label on that is the one behind p
+  run-decoded-from : (p : Price) {ps : List Price} (next : ℕ) → p.word < 32 → next ≡ label_of p + 1
+      → Ascending pages next ps → RunReads p ps
+  run-decoded-from p next word behind none s index page at due whole =
       let one : s.due ≡ 1 = due ∙ run_last p in
       let own : last ≡ index + 1 = sym (omega (arith, ap length (encode_none (label_of p + 1)))) in
       rw (encode_none (label_of p + 1), own)
       (subst (λ (q : Price). Reads pages s index (p.price ∷ end_word (index + 1) ∷ []) (q ∷ []))
       (same_price p s page at)
       (reads_price {s = s} (omega arith) (reads_end {s = past_price s} (omega arith) (omega arith))))
-  run_decoded p word (more {p = q} {ps = qs} up below fits rest) s index page at due whole =
+  run-decoded-from p next word behind (more {p = q} {ps = qs} up below fits rest) s index page at due whole =
       subst (λ (x : Price). Reads pages s index (p.price ∷ coded (label_of p + 1) last (q ∷ qs)) (x ∷ q ∷ qs))
-      (same_price p s page at) (go (follows p q) refl (λ t i a b c d. run_decoded q below rest t i a b c d))
+      (same_price p s page at) (go (follows p q) refl (λ t i a b c d. run-decoded-from q (label_of q + 1) below refl rest t i a b c d))
     where
       go : (on : Bool) → follows p q ≡ on → RunReads q qs
           → Reads pages s index (p.price ∷ coded (label_of p + 1) last (q ∷ qs)) (priced_word s p.price ∷ q ∷ qs)
@@ -114,8 +116,11 @@ module _ (pages last : ℕ) (few : pages ≤ 0x10000000) where
           let long = run_stops p q qs off in
           reads_price {s = s} (omega arith)
           (price_reads q qs below fits rest later (past_price s) (index + 1) (label_of p + 1)
-          (between_prices p s word page at (omega arith)) up whole
-          (λ old next. true≢false (sym (follows_yes p q (omega arith) (omega arith)) ∙ off)))
+          (between_prices p s word page at (omega arith)) (rw behind at up) whole
+          (λ old again. true≢false (sym (follows_yes p q (omega arith) (omega arith)) ∙ off)))
+
+  pub run_decoded : (p : Price) {ps : List Price} → p.word < 32 → Ascending pages (label_of p + 1) ps → RunReads p ps
+  run_decoded p word up s index page at due whole = run-decoded-from p (label_of p + 1) word refl up s index page at due whole
 
   -- ascending prices from the start on
   pub decoded : {ps : List Price} → Ascending pages 0 ps → length (encode_from 0 ps) ≡ last

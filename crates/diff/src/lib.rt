@@ -1,6 +1,8 @@
 // The diff (document 01's list of changes): its definitions, and the theorems on the one that
 // prices, marked words, two states of the pages, or two diffs make.
 // The types are declared here; the code that reads and makes diffs stands in the crates above.
+#![tactic(auto)]
+
 ghost use Rattle.laws.specs.Examples.{AllHold};
 ghost use Rattle.diff.specs.OnlyDiff.{OneDiffForPrices};
 ghost use Rattle.diff.specs.MadeDiff.{MadeOfMarksOnly, MakesAllowedDiff, MarksAreChanges};
@@ -11,7 +13,7 @@ ghost use Rattle.diff.specs.Examples.{examples};
 ghost use Rattle.diff.specs.MergeExamples.{merge_examples};
 
 // Where the reading of a diff stands.
-#[derive(Drop)]
+#[derive(Clone, Copy)]
 pub struct Cursor {
     // The lowest page that a page word may name: one more than the last one named, 0 before the
     // first.
@@ -29,7 +31,7 @@ pub struct Cursor {
 }
 
 // What one word does to the reading.
-#[derive(Drop)]
+#[derive(Clone, Copy)]
 pub enum Step {
     Next(Cursor),
     End,
@@ -37,7 +39,7 @@ pub enum Step {
 }
 
 // What reading a diff comes to.
-#[derive(Drop)]
+#[derive(Clone, Copy)]
 pub enum Verdict {
     // Its prices and its words, the end word among them.
     Good(u32, u32),
@@ -46,7 +48,7 @@ pub enum Verdict {
 }
 
 // One word of one page, and the price that it is set to.
-#[derive(Drop)]
+#[derive(Clone, Copy)]
 pub struct Price {
     pub page: u32,
     pub word: u32,

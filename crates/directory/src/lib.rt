@@ -1,5 +1,7 @@
 // The directory of a rack: a value that every call takes and hands back (document 01,
 // "Cards, pages, memory").
+#![tactic(auto)]
+
 ghost use Rattle.laws.specs.Prelude.{◌≡◌, ◌<◌, ◌≤◌, length};
 ghost use Rattle.laws.specs.Examples.{AllHold};
 ghost use Rattle.directory.specs.Live.{live_at, first_live, next_live};
@@ -13,14 +15,14 @@ ghost use Rattle.directory.specs.Examples.{examples};
 
 pub mod homes;
 
-#[derive(Drop)]
+#[derive(Clone, Copy)]
 pub enum Status {
     Running,
     // Recovery of this card is awaited.
     Awaiting(u32),
 }
 
-#[derive(Drop)]
+#[derive(Clone, Copy)]
 pub struct Directory {
     pub cards: u32,
     pub pages: u32,
@@ -33,7 +35,7 @@ pub struct Directory {
 
 // What a directory says beside the homes. It is small enough to be handed on by value, with the
 // homes lent beside it: a directory handed on by value would be copied at each call.
-#[derive(Drop)]
+#[derive(Clone, Copy)]
 pub struct Header {
     pub cards: u32,
     pub pages: u32,

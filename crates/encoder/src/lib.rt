@@ -1,5 +1,7 @@
 // Writing diffs: the one diff of the words that are marked, one word of marks for each page, at
 // their prices; how many words it has, and what becomes of it by the room that there is for it.
+#![tactic(auto)]
+
 ghost use Rattle.laws.specs.Prelude.{◌≡◌, ◌*◌, ◌≤◌, List, ℕ, length};
 ghost use Rattle.std.proofs.lemmas.List.Edits.{sets};
 ghost use Rattle.answer.specs.Outcome.{answer_of, wrong_buffer};

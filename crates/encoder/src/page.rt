@@ -6,7 +6,7 @@ ghost use Rattle.diff.specs.Format.{run_word};
 ghost use Rattle.encoder.specs.Page.{page_words, run_words, FirstRun};
 
 // Consecutive marked words of a page.
-#[derive(Drop)]
+#[derive(Clone, Copy)]
 struct Run {
     offset: u32,
     count: u32,

@@ -12,7 +12,7 @@ use directory::Directory;
 use lines::Line;
 
 // Where the reading of an input stands.
-#[derive(Drop)]
+#[derive(Clone, Copy)]
 pub struct Session {
     pub directory: Directory,
     // Of the line that is being read, from 1 on.
@@ -37,7 +37,7 @@ impl Session {
 // ---- the input
 
 // What the end of a line gives.
-#[derive(Drop)]
+#[derive(Clone, Copy)]
 pub struct Ended {
     // Before the next line.
     pub session: Session,
@@ -84,7 +84,7 @@ fn end_line(memory: &mut [u32], session: Session, output: &mut [u8], written: us
 }
 
 // What answering a part of the input gives.
-#[derive(Drop)]
+#[derive(Clone, Copy)]
 pub struct Progress {
     pub session: Session,
     // How many bytes of the input were read, and how many of the output written.

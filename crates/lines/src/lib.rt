@@ -1,5 +1,7 @@
 // The lines of the program shelfrun (document 01, "Numbers to hold it against"): a line read byte
 // by byte into a command, and the line that answers it.
+#![tactic(auto)]
+
 ghost use Rattle.laws.specs.Prelude.{◌≡◌, ◌+◌, ◌≤◌, length, drop};
 ghost use Rattle.std.proofs.lemmas.List.Edits.{sets};
 ghost use Rattle.laws.specs.Examples.{AllHold};
@@ -12,7 +14,7 @@ ghost use Rattle.lines.specs.Answer.{answer_line};
 ghost use Rattle.lines.specs.Examples.{examples};
 
 // What a line asks for.
-#[derive(Drop)]
+#[derive(Clone, Copy)]
 pub enum Command {
     // B: opens a release of one price on a card.
     Open {
@@ -40,7 +42,7 @@ pub enum Command {
 }
 
 // What has been read of a line. A line of any length is read in this much memory.
-#[derive(Drop)]
+#[derive(Clone, Copy)]
 pub struct Line {
     // Whether it can still be a command.
     pub readable: bool,
@@ -264,7 +266,7 @@ pub fn reads_commands()
 {}
 
 // A part of the input that holds no line feed.
-#[derive(Drop)]
+#[derive(Clone, Copy)]
 pub struct Part {
     // The line as far as it has been read.
     pub line: Line,

@@ -1,5 +1,7 @@
 // The list maker: the diff of the marked words of working pages, written into a lent buffer; and
 // the marks of what differs, for a desk that keeps none.
+#![tactic(auto)]
+
 ghost use Rattle.laws.specs.Prelude.{◌≡◌, ◌*◌, ◌≤◌, length};
 ghost use Rattle.answer.specs.Outcome.{answer_of};
 ghost use Rattle.diff.specs.Marks.{change_marks};

@@ -1,6 +1,8 @@
 // The lent memory: one area per card, ascending (document 01, "Cards, pages, memory"). Words and
 // runs of words of an area are loaded, stored, copied and cleared here; what stands where in an
 // area is told by `area`.
+#![tactic(auto)]
+
 ghost use Rattle.laws.specs.Prelude.{◌≡◌, ◌+◌, ◌<◌, ◌≤◌, length};
 ghost use Rattle.std.proofs.lemmas.List.Edits.{sets};
 ghost use Rattle.laws.specs.Examples.{AllHold};

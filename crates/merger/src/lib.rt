@@ -1,5 +1,7 @@
 // Two diffs made one: both are checked, and what each has on a page is applied to it, page by page,
 // the second's after the first's. The diff is made apart, and is then copied into a lent buffer.
+#![tactic(auto)]
+
 ghost use Rattle.std.specs.Prelude.{min};
 ghost use Rattle.laws.specs.Prelude.{◌≡◌, ◌<◌, length, get_or};
 ghost use Rattle.answer.specs.Outcome.{answer_of, and_then};

@@ -5,7 +5,7 @@ ghost use Rattle.encoder.specs.Page.{page_words};
 ghost use Rattle.merger.specs.Page.{in_range, PageAt, PageApplied};
 
 // The marks of a page, and the index behind its words.
-#[derive(Drop)]
+#[derive(Clone, Copy)]
 pub(crate) struct Applied {
     pub(crate) marks: u32,
     pub(crate) next: usize,

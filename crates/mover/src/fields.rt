@@ -10,14 +10,14 @@ ghost use Rattle.mover.specs.Moving.{ValidWidths, RackMemories, Room, after, sto
 use area::layout;
 
 // The words of a number in the form of the source and in that of the target.
-#[derive(Drop)]
+#[derive(Clone, Copy)]
 pub struct Widths {
     pub from: usize,
     pub to: usize,
 }
 
 // The words of both that a move has passed.
-#[derive(Drop)]
+#[derive(Clone, Copy)]
 pub struct Cursor {
     pub from: usize,
     pub to: usize,

@@ -10,7 +10,7 @@ pub const NEW: usize = layout::NUMBER_SIZE;
 
 // Where an area of a form has the words that tell whether a release is open on its card and can go on.
 // `area::layout` has the table of the new form; specs/Forms.antt has that of both.
-#[derive(Drop)]
+#[derive(Clone, Copy)]
 pub struct Places {
     // The words of the whole area.
     pub size: usize,

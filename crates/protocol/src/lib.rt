@@ -2,6 +2,8 @@
 // do nothing when they are called: they are where the gate shows the theorems. Demand 3 and what
 // follows from it hold by the rule for new homes that recovery has, and by any other that names a
 // live card other than the home that a page keeps.
+#![tactic(auto)]
+
 ghost use Rattle.laws.specs.Examples.{AllHold};
 ghost use Rattle.protocol.specs.Demand1.{Demand1};
 ghost use Rattle.protocol.specs.Demand3.{Demand3, Demand3By, ByAnyRule};

@@ -14,14 +14,14 @@ use answer::{Answer, Outcome};
 use directory::{Directory, Header, Status};
 
 // What a call hands back.
-#[derive(Drop)]
+#[derive(Clone, Copy)]
 pub struct Reply {
     pub directory: Directory,
     pub answer: Answer,
 }
 
 // What a call hands back that answers desk words: all zero if it is refused.
-#[derive(Drop)]
+#[derive(Clone, Copy)]
 pub struct DeskReply {
     pub directory: Directory,
     pub answer: Answer,

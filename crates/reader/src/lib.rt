@@ -1,5 +1,7 @@
 // Reading a diff (document 01's list of changes), whether it is handed in or stands in a card's
 // area: the whole of it, one price, and its prices as a table.
+#![tactic(auto)]
+
 ghost use Rattle.laws.specs.Prelude.{◌≡◌, ◌<◌, ◌≤◌, length};
 ghost use Rattle.std.specs.Prelude.{min, map};
 ghost use Rattle.std.proofs.lemmas.List.Edits.{sets};
@@ -198,7 +200,7 @@ pub fn check(list: &[u32], pages: u32) -> Outcome
 }
 
 // A price of a diff, or that there is none of this number.
-#[derive(Drop)]
+#[derive(Clone, Copy)]
 pub enum Found {
     Priced(Price),
     Nothing,

@@ -6,7 +6,7 @@ ghost use Rattle.reader.specs.Walking.{at_first, past_word, past_run};
 use diff::{Cursor, Step};
 
 // How far the walk is.
-#[derive(Drop)]
+#[derive(Clone, Copy)]
 pub struct Walk {
     pub cursor: Cursor,
     pub index: usize,

@@ -1,6 +1,8 @@
 // Recovery of a failed card, and a dead card that joins again: what they write in the memory of a
 // rack that passed its checks, and the directory after a recovery; which calls are refused is decided
 // above.
+#![tactic(auto)]
+
 ghost use Rattle.laws.specs.Prelude.{◌≡◌, ◌<◌, length};
 ghost use Rattle.directory.specs.Directory.{with_status};
 ghost use Rattle.directory.specs.NewHome.{even_home};
@@ -21,7 +23,7 @@ mod restoring;
 
 // What a recovery gives beside the failed card's desk: the directory from then on, and the failed
 // card's stamp.
-#[derive(Drop)]
+#[derive(Clone, Copy)]
 pub struct Recovered {
     pub directory: Directory,
     pub number: u64,

@@ -1,6 +1,8 @@
 // Which calls the rack refuses: document 01's checks, in its order, for each call. A function
 // answers the first refusal with its place, or the number 0 where the call is accepted. A directory
 // comes as its header, by value, with its homes lent beside it.
+#![tactic(auto)]
+
 ghost use Rattle.laws.specs.Prelude.{◌≡◌, ◌<◌, length};
 ghost use Rattle.directory.specs.Directory.{directory_by, FullHomes};
 ghost use Rattle.area.specs.Prelude.{MemoryOf};

@@ -115,12 +115,12 @@ module _ {d : Directory} {backup c k : ℕ} {before : List ℕ} {total : ℕ} wh
       }
 
   -- several of them
-  pub steps_run : {m : List ℕ} {left : ℕ} (n : ℕ) → c < 8 → AreaIn (length before) (size_of d) c
+  pub steps_run : (n : ℕ) {m : List ℕ} {left : ℕ} → c < 8 → AreaIn (length before) (size_of d) c
       → StepsMade d backup c k before total m left → n ≤ left
       → StepsMade d backup c k before total (step_times d backup c n m) (left - n)
   unfolding step_times
-  steps_run {m} {left} zero few area far within = rw sub-zero far
-  steps_run {m} {left} (suc n) few area far within =
+  steps_run zero {m} {left} few area far within = rw sub-zero far
+  steps_run (suc n) {m} {left} few area far within =
       let here : AreaIn (length m) (size_of d) c = rw far.same area in
       let some = far.some (omega arith) in
       let same = step-length d backup m c few here (omega (arith, some.counts, some.prices)) in

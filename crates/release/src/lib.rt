@@ -1,5 +1,7 @@
 // A release on its card: opening it, one step of it, its close. These write the memory of a rack
 // that passed its checks; which calls are refused is decided above.
+#![tactic(auto)]
+
 ghost use Rattle.laws.specs.Prelude.{◌≡◌, List, [], ◌∷◌, ℕ, ◌+◌, ◌*◌, ◌<◌, ◌≤◌, length, get_or};
 ghost use Rattle.directory.specs.Directory.{directory_by};
 ghost use Rattle.area.specs.Prelude.{AreaIn, store, area_size, steps_made, page_at, record_desk};

@@ -54,7 +54,7 @@ fn listed_price(labels: &[u32], prices: &[u32], n: usize) -> Price
 }
 
 // So many steps of the release open on a card, which has k prices.
-#[derive(Drop)]
+#[derive(Clone, Copy)]
 struct StepsToMake {
     card: usize,
     // Holds the record; those that store a price store nothing there.

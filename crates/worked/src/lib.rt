@@ -1,5 +1,7 @@
 // Document 01's worked numbers, from the definitions that the calls' contracts cite. The functions
 // do nothing when they are called.
+#![tactic(auto)]
+
 ghost use Rattle.laws.specs.Examples.{AllHold};
 ghost use Rattle.worked.specs.Rows.{rows, shown};
 

@@ -73,25 +73,25 @@ allowed rack s found online undisturbed =
 -- ---- call after call
 
 module _ (rule rule' : HomeRule) where
-  same_answers : (rack rack' : RackState) (s : Model) (events : List TwoEvents)
+  same_answers : (events : List TwoEvents) (rack rack' : RackState) (s : Model)
       → Follows rule rack.directory rack.left s (firsts events)
       → Follows rule' rack'.directory rack'.left s (seconds events)
       → Online s rack.offline → Online s rack'.offline → SameAnswers rule rule' rack rack' events
   unfolding Follows SameAnswers
-  same_answers rack rack' s [] follows follows' online online' = tt
-  same_answers rack rack' s (e ∷ es) follows follows' online online' = λ typed found found'.
+  same_answers [] rack rack' s follows follows' online online' = tt
+  same_answers (e ∷ es) rack rack' s follows follows' online online' = λ typed found found'.
       let one = follows typed (allowed rack s e.found online found) in
       let two = follows' typed (allowed rack' s e.found' online' found') in (
         one.0 ∙ sym two.0,
         one.1 ∙ sym two.1,
-        same_answers _ _ (model_after e.call s) es one.2 two.2
+        same_answers es _ _ (model_after e.call s) one.2 two.2
             (after_online e.call s rack.offline _ one.0 online)
             (after_online e.call s rack'.offline _ two.0 online'),
       )
 
 pub answers_by_any_rule : AnswersByAnyRule
 answers_by_any_rule rule rule' good good' m cards pages ok events =
-    same_answers rule rule' _ _ _ events
+    same_answers rule rule' events _ _ _
     (answers_as_model rule good m cards pages ok (firsts events))
     (answers_as_model rule' good' m cards pages ok (seconds events))
     (λ c live. refl) (λ c live. refl)

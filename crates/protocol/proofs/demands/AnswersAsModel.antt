@@ -51,16 +51,16 @@ module _ (rule : HomeRule) (good : NamesLive rule) (d : Directory) (m : List ℕ
           (same.words, rw (same.directory, same.memory) agrees)
 
 module _ (rule : HomeRule) (good : NamesLive rule) where
-  follows : (d : Directory) (left : List ℕ) (s : Model) (events : List Event) → Agrees d left s
+  follows : (events : List Event) (d : Directory) (left : List ℕ) (s : Model) → Agrees d left s
       → Follows rule d left s events
   unfolding Follows
-  follows d left s [] agrees = tt
-  follows d left s (e ∷ es) agrees = λ typed interference.
+  follows [] d left s agrees = tt
+  follows (e ∷ es) d left s agrees = λ typed interference.
       let found = agrees_found d left e.found s agrees interference in
       let alike = answers_alike rule good d e.found s found e.call typed in
-      (outcome_agrees d e.found s found rule e.call, alike.0, follows _ _ _ es alike.1)
+      (outcome_agrees d e.found s found rule e.call, alike.0, follows es _ _ _ alike.1)
 
 pub answers_as_model : ByAnyRule AnswersAsModelBy
 answers_as_model rule good m cards pages ok events =
     formatting-accepted (λ d left. Follows rule d left (new_model cards pages) events) m cards pages
-    (λ limits. follows rule good _ _ _ events (formatted_agrees cards pages (length m) limits)) ok
+    (λ limits. follows rule good events _ _ _ (formatted_agrees cards pages (length m) limits)) ok

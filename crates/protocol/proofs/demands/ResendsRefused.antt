@@ -1,5 +1,5 @@
 -- A release that the book has is refused with 4 or 5 when it is sent again.
-use Rattle.laws.proofs.Prelude.{ℕ, ◌≤◌, ◌≡◌, refl, ap, ◌⊎◌, inl, List, [], ◌∷◌, true, arith, le-leb, lt-leb, drop}
+use Rattle.laws.proofs.Prelude.{ℕ, ◌≤◌, ◌≡◌, refl, ap, ◌⊎◌, inl, inr, List, [], ◌∷◌, true, arith, le-leb, lt-leb, drop}
 use Rattle.answer.specs.declared.Outcome.{Outcome}
 use Rattle.directory.specs.declared.Directory.{Directory}
 use Rattle.directory.specs.Directory.{is_live}
@@ -53,6 +53,7 @@ module _ (d : Directory) (m : List ℕ) (b : Book) (rack : RunningRack d m b) (f
         le-leb r.number (own_release (size_of d) m c).number
             (omega arith),
       )))
+  resent none is (inr nothing) = elim nothing [ ]
   resent (opened r' list' s) is taken = rw (number_is 4 (rw (is_open d m b rack c r' list' s is)))
 
 resend_refused : (rule : HomeRule) (d : Directory) (b : Book) (e : Event) → Rack d e.found b

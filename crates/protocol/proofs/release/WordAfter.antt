@@ -105,24 +105,24 @@ written_miss w card offset v other =
       | no elsewhere ↦ written_other_card w card offset v elsewhere
     ]
 
-pub word_after_miss : {ws : List Write} {card offset : ℕ} (v : ℕ) → Misses card offset ws
+pub word_after_miss : {card offset : ℕ} {ws : List Write} (v : ℕ) → Misses card offset ws
     → word_after ws card offset v ≡ v
 unfolding word_after
 word_after_miss v misses_none = refl
 word_after_miss {card = card} {offset = offset} v (misses_more {w = w} other rest) =
     rw (written_miss w card offset v other) (word_after_miss v rest)
 
-pub misses_append : {us ws : List Write} {card offset : ℕ} → Misses card offset us → Misses card offset ws
+pub misses_append : {card offset : ℕ} {us ws : List Write} → Misses card offset us → Misses card offset ws
     → Misses card offset (us ++ ws)
 misses_append misses_none b = b
 misses_append (misses_more other rest) b = misses_more other (misses_append rest b)
 
-pub misses_drop : {ws : List Write} {card offset : ℕ} (s : ℕ) → Misses card offset ws → Misses card offset (drop s ws)
+pub misses_drop : {card offset : ℕ} {ws : List Write} (s : ℕ) → Misses card offset ws → Misses card offset (drop s ws)
 misses_drop zero misses = misses
 misses_drop (suc s) misses_none = misses_none
 misses_drop (suc s) (misses_more other rest) = misses_drop s rest
 
-pub misses_at : {ws : List Write} {card offset : ℕ} (s : ℕ) → s < length ws → Misses card offset ws
+pub misses_at : {card offset : ℕ} {ws : List Write} (s : ℕ) → s < length ws → Misses card offset ws
     → (get_or ws s no_write).card ≡ card → NotIn (written_region (get_or ws s no_write)) offset
 misses_at s within misses_none = absurd (omega arith)
 misses_at zero within (misses_more other rest) = other

@@ -1,0 +1,6 @@
+-- Rests on the steps made, as the card's area has them.
+use borrow.Author.Rules.{rules}
+use Rattle.conflict.proofs.motion.counts.Goals as goal
+
+pub returns : goal.returns
+returns c = rw c.steps_made-steps.ensures

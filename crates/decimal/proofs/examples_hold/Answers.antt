@@ -1,0 +1,6 @@
+-- `decimal::examples_hold` meets its contract: each example is computed, `examples_hold` of proofs/Examples.antt.
+use Rattle.decimal.proofs.Examples.{examples_hold}
+use Rattle.decimal.proofs.examples_hold.Goals as goal
+
+pub returns : goal.returns
+returns c = examples_hold

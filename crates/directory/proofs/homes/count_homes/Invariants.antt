@@ -1,0 +1,14 @@
+-- Rests on `CountedBelow`: the counts are those of the pages below this one.
+use Prim.Native.Nat.{◌-◌}
+use native.Mathlib.Omega.{arith}
+use borrow.Author.Rules.{rules}
+use lib.ListN.{get_or}
+use Rattle.directory.proofs.PageCounts.{CountedBelow, counted_below_none, counted_below_few, counted_below_more}
+use Rattle.directory.proofs.PageCounts.{counted_below_all}
+use Rattle.directory.proofs.homes.count_homes.Given as goal
+
+abbrev pub invariant-loop-page : goal.invariant-loop-page
+invariant-loop-page l = CountedBelow l.primary l.secondary l.pages l.page l.counts
+
+abbrev pub decreases-loop-page : goal.decreases-loop-page
+decreases-loop-page l = l.pages - l.page

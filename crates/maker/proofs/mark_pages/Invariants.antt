@@ -1,0 +1,19 @@
+-- `maker::mark_pages` meets its contract. The loop's invariant: the marks of the pages before `page` are stored.
+use Prim.Native.Nat.{ℕ, ◌+◌, ◌-◌, ◌*◌, ◌/◌, ◌≤◌, ◌<◌}
+use native.Mathlib.Nat.{zero-add}
+use mathlib.Core.Path.{◌≡◌, refl, sym, ap, ◌∙◌}
+use native.Mathlib.Omega.{arith}
+use borrow.Author.Rules.{rules}
+use lib.ListN.{length, take, length-set, length-take, length-drop}
+use lib.Seq.{sets, take_all}
+use Rattle.laws.proofs.Lists.{sets_whole, sets-take_more}
+use Rattle.diff.specs.Marks.{change_marks}
+use Rattle.diff.proofs.Marks.{length_changes, changes_at}
+use Rattle.maker.proofs.mark_pages.Given as goal
+
+abbrev pub invariant-loop-page : goal.invariant-loop-page
+invariant-loop-page l = (l.page ≤ length l.marks) × (length l.marks ≡ length l.initial.marks)
+    × (l.marks ≡ sets l.initial.marks 0 (take l.page (change_marks l.working l.twins)))
+
+abbrev pub decreases-loop-page : goal.decreases-loop-page
+decreases-loop-page l = length l.marks - l.page

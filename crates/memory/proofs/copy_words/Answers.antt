@@ -1,0 +1,27 @@
+-- Rests on `sets-take_more`, the law of a turn, and on `sets_whole` at the end.
+use Prim.Native.Nat.{◌-◌, ◌≤◌}
+use mathlib.Core.Path.{◌≡◌, refl, ◌∙◌}
+use native.Mathlib.Nat.{zero-add}
+use native.Mathlib.Omega.{arith}
+use lib.ListN.{length, take, length-set}
+use lib.Seq.{sets, take_all}
+use borrow.Author.Rules.{rules}
+use Rattle.laws.proofs.Lists.{sets-take_more, sets_whole}
+use Rattle.memory.proofs.copy_words.Goals as goal
+
+pub loop-i-init : goal.loop-i-init
+loop-i-init c = (search rules, refl, refl)
+
+pub loop-i-preserved : goal.loop-i-preserved
+loop-i-preserved c =
+    let a = c.args in
+    let l = c.loop-i in
+    let stored = rw zero-add at (sets-take_more a.from.now a.to.now 0 l.i (omega arith)) in
+    (omega arith, simp length-set l.invariant.1, rw l.invariant.2 stored)
+
+pub returns : goal.returns
+returns c =
+    let a = c.args in
+    let l = c.loop-i in
+    let all = take_all l.i a.from.now (omega arith) in
+    (rw all at l.invariant.2) ∙ sets_whole a.from.now a.to.now c.requires

@@ -1,0 +1,19 @@
+-- `reader::nth_price` meets its contract. The loop's invariant: the price that is asked for is the one numbered
+-- `left` of those that are left.
+use Prim.Native.Nat.{◌-◌}
+use mathlib.Core.Path.{◌≡◌, refl, sym, ◌∙◌}
+use native.Mathlib.Omega.{arith}
+use lib.ListN.{length}
+use borrow.Author.Rules.{rules}
+use Rattle.diff.specs.Prices.{prices_of}
+use Rattle.reader.specs.Found.{nth_price}
+use Rattle.reader.proofs.Walking.{Reached, prices_left, left_first, run_reached, run_fewer}
+use Rattle.reader.proofs.Runs.{nth_passed, nth_here, nth_end}
+use Rattle.reader.proofs.nth_price.Given as goal
+
+abbrev pub invariant-loop-at : goal.invariant-loop-at
+invariant-loop-at l = Reached l.pages (length l.list) l.at
+    × (nth_price (prices_left l.pages l.list l.at) l.left ≡ nth_price (prices_of l.pages l.list) l.n)
+
+abbrev pub decreases-loop-at : goal.decreases-loop-at
+decreases-loop-at l = length l.list - l.at.index

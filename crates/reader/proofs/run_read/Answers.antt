@@ -1,0 +1,7 @@
+-- Rests on what is due less itself: nothing.
+use native.Mathlib.Nat.{sub_self}
+use borrow.Author.Rules.{rules}
+use Rattle.reader.proofs.run_read.Goals as goal
+
+pub returns : goal.returns
+returns c = rw (sub_self c.args.s.due)

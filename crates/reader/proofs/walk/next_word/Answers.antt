@@ -1,0 +1,16 @@
+-- Rests on what the word does to the reading, each case by itself.
+use borrow.Author.Rules.{rules}
+use Rattle.reader.specs.Walking.{past_word}
+use Rattle.reader.proofs.walk.next_word.Goals as goal
+
+pub returns-in-Next : goal.returns-in-Next
+unfolding past_word
+returns-in-Next c = rw (← c.read_word.ensures, c.in-Next.is)
+
+pub returns-in-End : goal.returns-in-End
+unfolding past_word
+returns-in-End c = rw (← c.read_word.ensures, c.in-End.is)
+
+pub returns-in-Fault : goal.returns-in-Fault
+unfolding past_word
+returns-in-Fault c = rw (← c.read_word.ensures, c.in-Fault.is)

@@ -1,0 +1,8 @@
+-- Rests on what `load_number` and `write_number` ensure.
+use borrow.Author.Rules.{rules}
+use Rattle.area.specs.Releases.{open_release}
+use Rattle.release.proofs.step_number.Goals as goal
+
+pub returns : goal.returns
+unfolding open_release
+returns c = rw c.load_number-number.ensures at c.write_number.ensures

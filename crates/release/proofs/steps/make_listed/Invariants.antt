@@ -1,0 +1,14 @@
+-- Rests on `StepsMade`: what is left of the steps gives what all of them give; the list stays, and so does its table.
+use native.Mathlib.Omega.{arith}
+use borrow.Author.Rules.{rules}
+use Rattle.directory.specs.Directory.{directory_by}
+use Rattle.release.proofs.Callers.{homes_kept, card_kept}
+use Rattle.release.proofs.Prices.{listed_kept}
+use Rattle.release.proofs.Left.{StepsMade, counted_left, some_left, steps_none, steps-one, steps_run, steps_all}
+use Rattle.release.proofs.steps.make_listed.Given as goal
+
+abbrev pub invariant-loop-left : goal.invariant-loop-left
+invariant-loop-left l = StepsMade (directory_by l.header l.primary l.secondary) l.backup l.card l.k l.initial.memory l.initial.left l.memory l.left
+
+abbrev pub decreases-loop-left : goal.decreases-loop-left
+decreases-loop-left l = l.left
