@@ -1,5 +1,7 @@
 // Several calls in one. Each answers and leaves what the single calls, made one after the other,
 // would; inside, the rack is checked once.
+#![tactic(auto)]
+
 ghost use Rattle.laws.specs.Prelude.{◌≡◌, ℕ, List, false, not, ◌*◌, ◌<◌, length, get_or};
 ghost use Rattle.std.specs.Prelude.{min};
 ghost use Rattle.laws.specs.Search.{in_turn};

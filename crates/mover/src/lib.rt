@@ -1,6 +1,8 @@
 // The mover (document 02, request 5): takes a rack's memory from document 01's form, in which a number
 // is one word, to the form of two words, and back. Like the calls of the rack it answers on any memory
 // and directory, and a refusal changes no word of what was lent.
+#![tactic(auto)]
+
 ghost use Rattle.laws.specs.Prelude.{◌≡◌, length};
 ghost use Rattle.answer.specs.Outcome.{answer_of};
 ghost use Rattle.laws.specs.Examples.{AllHold};

@@ -1,6 +1,8 @@
 // The calls of the rack (document 01). Each takes the lent memory and the directory, and answers
 // on any of them: it refuses by number and place, and a refusal changes no word of what was lent.
 // Those that end in `_lent` take the directory's header, and its 64 homes of each kind lent.
+#![tactic(auto)]
+
 ghost use Rattle.laws.specs.Prelude.{◌≡◌, ◌<◌, length};
 ghost use Rattle.answer.specs.Outcome.{answer_of};
 ghost use Rattle.directory.specs.Directory.{next_live_of, header_of, directory_by, FullHomes};

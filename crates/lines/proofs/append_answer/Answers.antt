@@ -11,7 +11,7 @@ pub returns : goal.returns
 returns c =
     let answer = c.put_answer-start in
     let start = c.put_answer-start.result in
-    let text = c.put_answer-start.new.0 in
+    let text = c.put_answer-start.new.text in
     let size : length text ≡ 80 = search rules in
     let left : length (drop start text) ≡ 80 - start = length-drop start text ∙ ap (λ n. n - start) size in
     let all = take_all (80 - start) (drop start text) (omega arith) in

@@ -27,7 +27,7 @@ returns-in-70 c = simp c.in-70.is c.fetch_form.ensures
 pub returns-in_default : goal.returns-in_default
 unfolding form_of
 returns-in_default c =
-    let rest = c.in_default.rest in
+    let rest = c.in_default.in_default-own.rest in
     simp (
       ne_eqb _ _ rest.0.0.0.0.1,
       ne_eqb _ _ rest.0.0.0.1,

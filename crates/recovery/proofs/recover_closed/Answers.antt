@@ -45,4 +45,4 @@ returns c =
     let says = rw (c.area_size-size.ensures, c.next_live-holder.ensures) at c.load_record-number.ensures in
     let forward = rw (c.area_size-size.ensures, c.next_live-holder.ensures) at c.under_way-forward.ensures in
     let pages = rw (forward, c.header-header.ensures) at c.restore_pages.ensures in
-    let homes = rw pages at c.move_homes-moved.ensures.memory in record { directory = rw c.move_homes-moved.ensures.homes at c.running-recovered.ensures; number = says.0; desk = says.1; memory = rw (homes, says.0, says.1) at c.write_records.ensures }
+    let homes = rw pages at c.move_homes-moved.ensures.memory in record { directory = rw c.move_homes-moved.ensures.homes at c.running-recovered.ensures; number = says.number; desk = says.desk; memory = rw (homes, says.number, says.desk) at c.write_records.ensures }

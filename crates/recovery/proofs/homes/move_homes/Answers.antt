@@ -13,6 +13,7 @@ use Rattle.recovery.proofs.homes.Cards.{kept_in, homes_cover}
 use Rattle.recovery.proofs.homes.Moves.{Moves, moves_none, moves_so_far, chosen_home, new_below, room}
 use Rattle.recovery.proofs.homes.Moves.{moves_more, moves_same}
 use Rattle.recovery.proofs.homes.move_homes.Goals as goal
+use Rattle.recovery.proofs.homes.move_homes.Goals.{then-lost_home, else-lost_home}
 
 pub loop-page-init : goal.loop-page-init
 loop-page-init c = moves_none c.requires.rack_in.eight c.count_pages-counts.ensures
@@ -24,7 +25,7 @@ even_home-new-requires c =
     let a = c.args in
     let enough = homes_cover a.directory a.failed c.loop-page.page pre.homes_of in
     let so_far = moves_so_far far c.loop-page-test.true enough in
-    (rw so_far.cards pre.rack_in.eight, far.right)
+    record { cards_bound = rw so_far.cards pre.rack_in.eight; counts_right = far.right }
 
 pub copy_page-requires : goal.copy_page-requires
 unfolding kept_home
@@ -61,16 +62,17 @@ loop-page-preserved c =
     let homes = c.requires.homes_of in
     let enough = homes_cover c.args.directory c.args.failed c.loop-page.page homes in
     let sized = c.area_size-size.ensures in
-    ⊎_elim
-    (λ w.
-    let keeps = w.1.ensures in
-    let chosen = chosen_home far below enough keeps w.2.ensures in
-    rw (w.11, w.12, w.13)
-    (moves_more far below enough c.requires.other_live c.requires.failed_in.1 (sym said ∙ w.0.taken)
-    c.requires.rack_in.eight w.5.given (rw (sized, chosen, keeps) at w.4.ensures)
-    (rw (chosen, keeps) at w.7.ensures) (rw chosen at w.9.ensures)))
-    (λ w. rw (w.1, w.2, w.3) (moves_same far below enough (sym said ∙ w.0.left)))
-    c.if-lost_home.branch-raw
+    elim c.if-lost_home.branch [
+      | then-lost_home w ↦
+          let keeps = w.kept_home-kept.ensures in
+          let chosen = chosen_home far below enough keeps w.even_home-new.ensures in
+          rw (w.memory-is, w.counts-is, w.moved-is)
+          (moves_more far below enough c.requires.other_live c.requires.failed_in.1 (sym said ∙ w.if-lost_home.true)
+          c.requires.rack_in.eight w.copy_page.auto.memory (rw (sized, chosen, keeps) at w.copy_page.ensures)
+          (rw (chosen, keeps) at w.move_home-moved.ensures) (rw chosen at w.count_home.ensures))
+      | else-lost_home w ↦
+          rw (w.memory-is, w.counts-is, w.moved-is) (moves_same far below enough (sym said ∙ w.if-lost_home.false))
+    ]
 
 pub returns : goal.returns
 unfolding copy_to_new_homes

@@ -16,6 +16,3 @@ use Rattle.recovery.proofs.homes.move_homes.Given as goal
 
 abbrev pub invariant-loop-page : goal.invariant-loop-page
 invariant-loop-page l = Moves l.directory l.failed l.initial.memory l.page l.memory l.counts l.moved
-
-abbrev pub decreases-loop-page : goal.decreases-loop-page
-decreases-loop-page l = l.page_end - l.page

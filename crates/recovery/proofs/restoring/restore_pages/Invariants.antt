@@ -9,7 +9,7 @@ use Rattle.recovery.proofs.Turns.{Turned, turn_none, turn_more, turn_all}
 use Rattle.recovery.proofs.restoring.restore_pages.Given as goal
 
 abbrev pub invariant-loop-page : goal.invariant-loop-page
-invariant-loop-page l = Turned (restore_page (directory_by l.header l.primary l.secondary) l.forward) l.page_end l.initial.memory l.page l.memory
+invariant-loop-page l = Turned (restore_page (directory_by l.header l.primary l.secondary) l.forward) l.page-end l.initial.memory l.page l.memory
 
 abbrev pub decreases-loop-page : goal.decreases-loop-page
-decreases-loop-page l = l.page_end - l.page
+decreases-loop-page l = l.page-end - l.page

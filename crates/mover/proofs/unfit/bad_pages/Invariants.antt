@@ -1,0 +1,15 @@
+-- Rests on `Passed`: the search from here on finds what the whole search finds.
+use Prim.Native.Nat.{◌-◌}
+use mathlib.Core.Path.{sym, ◌∙◌}
+use native.Mathlib.Omega.{arith}
+use borrow.Author.Rules.{rules}
+use Rattle.laws.proofs.Search.{Passed, passed_none, passed_more, some_found, none_found}
+use Rattle.directory.specs.Directory.{directory_by}
+use Rattle.protocol.specs.Checks.{bad_page}
+use Rattle.mover.proofs.unfit.bad_pages.Given as goal
+
+abbrev pub invariant-loop-page : goal.invariant-loop-page
+invariant-loop-page l = Passed (bad_page (directory_by l.header l.primary l.secondary)) l.pages l.page
+
+abbrev pub decreases-loop-page : goal.decreases-loop-page
+decreases-loop-page l = l.pages - l.page

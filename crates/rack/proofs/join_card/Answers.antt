@@ -1,0 +1,33 @@
+-- Rests on its checks: an accepted join finds a dead card, and no release open.
+use mathlib.Core.Path.{◌≡◌, refl}
+use borrow.Author.Rules.{rules, length_unmapped}
+use lib.ListN.{length}
+use Rattle.recovery.proofs.Kept.{some_live}
+use Rattle.rack.proofs.ValidRack.{valid_rack, rack_in}
+use Rattle.rack.proofs.Results.{join_facts, join-refused, join-accepted}
+use Rattle.rack.proofs.join_card.Goals as goal
+
+pub returns-then-first-ne0 : goal.returns-then-first-ne0
+returns-then-first-ne0 c =
+    let a = c.args in
+    let reached = rw c.header-header.ensures at c.join-first.ensures in
+    rw (join-refused a.directory a.memory.now a.card reached c.if-first-ne0.true)
+    record { answer = c.answer_of-answer.ensures; directory = refl; memory = refl }
+
+pub join_memory-requires : goal.join_memory-requires
+join_memory-requires c =
+    let a = c.args in
+    let d = c.args.directory in
+    let arrays = c.well_formed.1.0.1.1.1.1 in
+    let marks : length d.live ≡ 8 = search rules in
+    let reached = rw c.header-header.ensures at c.join-first.ensures in
+    let passed = join_facts d a.memory.now a.card reached c.if-first-ne0.false in
+    let fit = valid_rack passed.runs.fits in
+    record { rack_in = rack_in d a.memory.now fit marks; some_live = some_live fit.beside; joining_lt_cards = passed.below }
+
+pub returns : goal.returns
+returns c =
+    let a = c.args in
+    let reached = rw c.header-header.ensures at c.join-first.ensures in
+    rw (join-accepted a.directory a.memory.now a.card reached c.if-first-ne0.false)
+    record { answer = c.answer_of-answer.ensures; directory = c.mark_live-joined.ensures; memory = c.join_memory.ensures }
