@@ -1,5 +1,7 @@
 // The rack's calls for programs in C and Rust: the functions of include/bandsawpink.h. Each does
 // what the call that it names does, on any argument; C hands in a slice as a pointer and a length.
+#![tactic(auto)]
+
 ghost use Rattle.laws.specs.Prelude.{◌≡◌, cond, eqb, length};
 ghost use Rattle.laws.specs.Examples.{AllHold};
 ghost use Rattle.area.specs.Prelude.{release_of};

@@ -1,4 +1,6 @@
 // The commands of shelfrun (document 01, "Numbers to hold it against"), executed on a rack.
+#![tactic(auto)]
+
 ghost use Rattle.laws.specs.Prelude.{◌≡◌, get_or};
 ghost use Rattle.laws.specs.Examples.{AllHold};
 ghost use Rattle.protocol.specs.Join.{join};

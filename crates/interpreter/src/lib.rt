@@ -1,5 +1,7 @@
 // The interpreter of shelfrun (document 01, "Numbers to hold it against"): the lines of an input
 // answered, one part of the input after the other.
+#![tactic(auto)]
+
 ghost use Rattle.laws.specs.Prelude.{◌≡◌, ◌+◌, ◌-◌, ◌≤◌, ◌<◌, length, take, drop};
 ghost use Rattle.std.proofs.lemmas.List.Edits.{sets};
 ghost use Rattle.protocol.specs.Formatting.{formatting};

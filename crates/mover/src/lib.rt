@@ -16,7 +16,7 @@ ghost use Rattle.mover.specs.Examples.{examples};
 mod fields;
 mod forms;
 mod high;
-mod refusals;
+mod move_checks;
 mod unfit;
 
 use answer::Outcome;
@@ -34,7 +34,7 @@ pub fn move_in(old: &[u32], directory: Directory, new: &mut [u32]) -> Reply
         ≡ (move_in directory old.now new.old).memory }
 {
     let header = directory.header();
-    let first = refusals::move_in(old, new, header, &directory.primary, &directory.secondary);
+    let first = move_checks::move_in(old, new, header, &directory.primary, &directory.secondary);
     let to_new = Widths {
         from: forms::OLD,
         to: forms::NEW,
@@ -53,7 +53,7 @@ pub fn move_back(new: &[u32], directory: Directory, old: &mut [u32]) -> Reply
         ≡ (move_back directory new.now old.old).memory }
 {
     let header = directory.header();
-    let first = refusals::move_back(new, old, header, &directory.primary, &directory.secondary);
+    let first = move_checks::move_back(new, old, header, &directory.primary, &directory.secondary);
     let to_old = Widths {
         from: forms::NEW,
         to: forms::OLD,

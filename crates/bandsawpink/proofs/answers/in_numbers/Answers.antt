@@ -1,0 +1,6 @@
+-- Rests on the answer's outcome.
+use borrow.Author.Rules.{rules}
+use Rattle.bandsawpink.proofs.answers.in_numbers.Goals as goal
+
+pub returns : goal.returns
+returns c = rw c.outcome_of-o.ensures

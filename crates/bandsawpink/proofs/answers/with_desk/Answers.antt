@@ -1,0 +1,6 @@
+-- Rests on the answer in numbers.
+use borrow.Author.Rules.{rules}
+use Rattle.bandsawpink.proofs.answers.with_desk.Goals as goal
+
+pub returns : goal.returns
+returns c = rw c.in_numbers-numbers.ensures

@@ -1,0 +1,12 @@
+-- Rests on its test.
+use mathlib.Core.Path.{refl}
+use borrow.Author.Tests.{eq-eqb, ne_eqb}
+use borrow.Author.Rules.{rules}
+use Rattle.bandsawpink.proofs.hand_back.Goals as goal
+
+pub returns-then-number-eq0 : goal.returns-then-number-eq0
+returns-then-number-eq0 c =
+    rw (eq-eqb _ _ c.if-number-eq0.true) c.write_directory.ensures
+
+pub returns-else-number-eq0 : goal.returns-else-number-eq0
+returns-else-number-eq0 c = rw (ne_eqb _ _ c.if-number-eq0.false) refl

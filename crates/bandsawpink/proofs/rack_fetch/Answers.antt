@@ -1,0 +1,13 @@
+-- Rests on the call of the rack: the words that it is lent are the directory.
+use mathlib.Core.Path.{◌∙◌}
+use borrow.Author.Rules.{rules}
+use Rattle.bandsawpink.proofs.Exported.{answer_exported}
+use Rattle.bandsawpink.proofs.rack_fetch.Goals as goal
+
+pub returns : goal.returns
+returns c =
+    let fetched =
+    rw (c.header_in-header.ensures, c.primary_in-primary.ensures.result_value, c.secondary_in-secondary.ensures.result_value) at
+    c.fetch_lent-answer.ensures
+    in
+    record { answer = c.in_numbers.ensures ∙ answer_exported _ fetched.answer; buffer = fetched.buffer }

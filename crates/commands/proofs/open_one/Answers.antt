@@ -1,0 +1,17 @@
+-- Rests on the call of the rack.
+use mathlib.Core.Path.{◌∙◌}
+use borrow.Author.Rules.{rules}
+use Rattle.answer.proofs.RoundTrip.{answer_outcome}
+use Rattle.memory.specs.Words.{zeros}
+use Rattle.commands.specs.Execute.{open_one}
+use Rattle.commands.proofs.open_one.Goals as goal
+
+pub returns : goal.returns
+unfolding open_one zeros
+returns c =
+    let opened = c.open_release-reply.ensures in
+    record {
+      outcome = c.outcome_of-outcome.ensures ∙ answer_outcome _ opened.answer;
+      directory = opened.directory;
+      memory = opened.memory;
+    }

@@ -1,0 +1,16 @@
+-- Rests on `Passed`: the search from here on finds what the whole search finds.
+use Prim.Native.Nat.{◌-◌, ◌<◌}
+use mathlib.Core.Path.{◌≡◌, sym, ◌∙◌}
+use native.Mathlib.Omega.{arith}
+use lib.ListN.{length}
+use borrow.Author.Rules.{rules}
+use Rattle.laws.proofs.Search.{Passed, passed_none, passed_more, some_found, none_found}
+use Rattle.memory.proofs.Index.{area_in}
+use Rattle.mover.specs.Move.{open_at}
+use Rattle.mover.proofs.move_checks.any_open.Given as goal
+
+abbrev pub invariant-loop-card : goal.invariant-loop-card
+invariant-loop-card l = Passed (open_at l.at l.live l.memory) l.end l.card
+
+abbrev pub decreases-loop-card : goal.decreases-loop-card
+decreases-loop-card l = l.end - l.card
