@@ -1,15 +1,21 @@
 // shelfrun (document 01, "Numbers to hold it against"): formats a rack of 3 cards and 4 pages, and
 // answers the commands that it reads from standard input, line by line.
-ghost use Rattle.laws.specs.Prelude.{◌≡◌, ◌+◌, ◌≤◌, ◌<◌, length, take};
+#![tactic(auto)]
+
+ghost use Rattle.laws.specs.Prelude.{◌≡◌, ◌+◌, ◌≤◌, ◌<◌, ℕ, length, take};
 ghost use Rattle.std.proofs.lemmas.List.Edits.{sets};
+ghost use Rattle.std.specs.Prelude.{IfOk, OnErr};
+ghost use Rattle.interpreter.specs.declared.Session.{Session};
 ghost use Rattle.interpreter.specs.Transcript.{state_of, state_after, printed};
 
 use interpreter::{Progress, Session};
-use libc::{STDIN_FILENO, STDOUT_FILENO};
+use std::io;
+use std::io::{Read, Write};
 
-// Answers as much of the input as the output has room for, and writes the answers.
+// Answers as much of the input as the output has room for.
 fn answer_some(memory: &mut [u32], session: Session, input: &[u8], output: &mut [u8]) -> Progress
     ensures read { result.read ≤ length input.now }
+    ensures room { result.written ≤ length output.old }
     ensures full { result.read < length input.now
         → length output.old < result.written + 80 }
     ensures state { state_of result.session memory.new
@@ -21,18 +27,23 @@ fn answer_some(memory: &mut [u32], session: Session, input: &[u8], output: &mut 
         ≡ sets output.old 0 (printed (state_of session memory.old)
         (take result.read input.now)) }
 {
-    let done = interpreter::respond(memory, session, input, output);
-    let written = done.written;
-    io::write_all(STDOUT_FILENO, &output[..written]);
-    done
+    interpreter::respond(memory, session, input, output)
 }
 
-// Answers a part of the input, an output at a time, and says where the reading stands after it.
-fn answer_part(memory: &mut [u32], session: Session, input: &[u8]) -> Session
-    ensures { state_of result memory.new
-        ≡ state_after (state_of session memory.old) input.now }
+// Answers a part of the input, writes the answers, an output at a time, and says where the reading
+// stands after it. Where a write fails, the memory is as some first bytes of the part leave it.
+fn answer_part<W: Write>(
+    to: &mut W,
+    memory: &mut [u32],
+    session: Session,
+    input: &[u8],
+) -> io::Result<Session>
+    ensures answered { IfOk result (λ last. state_of last memory.new
+        ≡ state_after (state_of session memory.old) input.now) }
+    ensures failed { OnErr result ((n : ℕ) × ((last : Session) × (state_of last memory.new
+        ≡ state_after (state_of session memory.old) (take n input.now)))) }
 {
-    let mut output = io::large_buffer();
+    let mut output = [0u8; 65536];
     let mut session = session;
     let mut at: usize = 0;
     while at < input.len() {
@@ -40,34 +51,40 @@ fn answer_part(memory: &mut [u32], session: Session, input: &[u8]) -> Session
         session = done.session;
         let read = done.read;
         at += read;
+        let written = done.written;
+        to.write_all(&output[..written])?;
     }
-    session
+    Ok(session)
 }
 
 // Answers the input up to its end. A proved loop has to end, and nothing says that an input does:
-// so it counts its turns down, from a number that no run uses up.
-fn answer_input(memory: &mut [u32], session: Session) -> Session {
-    let mut input = io::large_buffer();
+// so its turns are counted, up to a number that no run reaches.
+fn answer_input<R: Read, W: Write>(
+    from: &mut R,
+    to: &mut W,
+    memory: &mut [u32],
+    session: Session,
+) -> io::Result<Session> {
+    let mut input = [0u8; 65536];
     let mut session = session;
-    let mut turns = u64::MAX;
-    while 0 < turns {
-        let got = libc::read(STDIN_FILENO, &mut input);
-        let n = io::count(got, &input);
+    for _ in 0..u64::MAX {
+        let n = from.read(&mut input)?;
         if n == 0 {
             break;
         }
-        session = answer_part(memory, session, &input[..n]);
-        turns -= 1;
+        session = answer_part(to, memory, session, &input[..n])?;
     }
-    session
+    Ok(session)
 }
 
-fn main() {
+fn main(rt: HostRuntime) -> io::Result<()> {
     let mut memory = [0u32; 2850];
     let session = interpreter::start(&mut memory);
-    io::write_all(STDOUT_FILENO, &interpreter::first_line());
-    let last = answer_input(&mut memory, session);
+    let mut to = io::writer(&rt);
+    to.write_all(&interpreter::first_line())?;
+    let mut from = rt.reader();
+    let last = answer_input(&mut from, &mut to, &mut memory, session)?;
     let mut answer = [0u8; 80];
     let written = interpreter::finish(&mut memory, last, &mut answer);
-    io::write_all(STDOUT_FILENO, &answer[..written]);
+    to.write_all(&answer[..written])
 }
