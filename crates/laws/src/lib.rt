@@ -1,1 +1,2 @@
 // Laws on lists and tests that the proofs of several crates cite. There is no code here.
+#![tactic(auto)]

@@ -1,5 +1,4 @@
 -- Rests on the match: each case has the outcome that the definition lists.
-use borrow.Author.Rules.{rules}
 use Rattle.answer.proofs.outcome_of.Goals as goal
 
 pub returns-in-Given : goal.returns-in-Given

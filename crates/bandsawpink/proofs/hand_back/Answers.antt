@@ -1,7 +1,6 @@
 -- Rests on its test.
 use mathlib.Core.Path.{refl}
 use borrow.Author.Tests.{eq-eqb, ne_eqb}
-use borrow.Author.Rules.{rules}
 use Rattle.bandsawpink.proofs.hand_back.Goals as goal
 
 pub returns-then-number-eq0 : goal.returns-then-number-eq0

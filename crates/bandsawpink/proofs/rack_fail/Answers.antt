@@ -1,6 +1,5 @@
 -- Rests on the call of the rack.
 use mathlib.Core.Path.{◌∙◌}
-use borrow.Author.Rules.{rules}
 use Rattle.bandsawpink.proofs.Exported.{answer_exported}
 use Rattle.bandsawpink.proofs.rack_fail.Goals as goal
 

@@ -1,6 +1,5 @@
 -- Rests on the call of the rack: the words that it is lent are the directory.
 use mathlib.Core.Path.{◌∙◌}
-use borrow.Author.Rules.{rules}
 use Rattle.bandsawpink.proofs.Exported.{answer_exported}
 use Rattle.bandsawpink.proofs.rack_fetch.Goals as goal
 

@@ -1,6 +1,5 @@
 -- Rests on the batched call: the words that it is lent are the directory.
 use mathlib.Core.Path.{◌∙◌, ap}
-use borrow.Author.Rules.{rules}
 use Rattle.bandsawpink.proofs.Exported.{pages_exported}
 use Rattle.bandsawpink.proofs.rack_fetch_all.Goals as goal
 
@@ -11,4 +10,7 @@ returns c =
     c.fetch_all_lent-fetched.ensures
     in
     let pages = fetched.pages in
-    record { answer = c.with_shown.ensures ∙ pages_exported _ fetched.answer (ap (λ p. p.shown) pages); buffer = ap (λ p. p.words) pages }
+    record {
+      answer = c.with_shown.ensures ∙ pages_exported _ fetched.answer (ap (λ p. p.shown) pages);
+      buffer = ap (λ p. p.words) pages;
+    }

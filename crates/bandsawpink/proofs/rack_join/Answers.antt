@@ -1,6 +1,5 @@
 -- Rests on the call of the rack.
 use mathlib.Core.Path.{◌∙◌}
-use borrow.Author.Rules.{rules}
 use Rattle.bandsawpink.proofs.Exported.{answer_exported}
 use Rattle.bandsawpink.proofs.rack_join.Goals as goal
 
@@ -8,4 +7,8 @@ pub returns : goal.returns
 returns c =
     let joined = rw c.directory_in-taken.ensures at c.join_card-reply.ensures in
     let answers = c.in_numbers-answer.ensures ∙ answer_exported _ joined.answer in
-    record { answer = answers; directory = c.hand_back.ensures ∙ rw (answers, joined.directory); memory = joined.memory }
+    record {
+      answer = answers;
+      directory = c.hand_back.ensures ∙ rw (answers, joined.directory);
+      memory = joined.memory;
+    }

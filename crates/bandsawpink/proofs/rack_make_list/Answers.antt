@@ -1,6 +1,5 @@
 -- Rests on the list maker.
 use mathlib.Core.Path.{◌∙◌}
-use borrow.Author.Rules.{rules}
 use Rattle.bandsawpink.proofs.Exported.{answer_exported}
 use Rattle.bandsawpink.proofs.rack_make_list.Goals as goal
 

@@ -1,6 +1,5 @@
 -- Rests on the marking of what differs.
 use mathlib.Core.Path.{◌∙◌}
-use borrow.Author.Rules.{rules}
 use Rattle.bandsawpink.proofs.Exported.{answer_exported}
 use Rattle.bandsawpink.proofs.rack_mark_changes.Goals as goal
 

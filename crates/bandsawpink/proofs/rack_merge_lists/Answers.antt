@@ -1,6 +1,5 @@
 -- Rests on the merging of two lists.
 use mathlib.Core.Path.{◌∙◌}
-use borrow.Author.Rules.{rules}
 use Rattle.bandsawpink.proofs.Exported.{answer_exported}
 use Rattle.bandsawpink.proofs.rack_merge_lists.Goals as goal
 

@@ -1,6 +1,5 @@
 -- Rests on the call of the mover.
 use mathlib.Core.Path.{◌∙◌}
-use borrow.Author.Rules.{rules}
 use Rattle.mover.specs.Move.{move_back}
 use Rattle.bandsawpink.specs.Words.{directory_in}
 use Rattle.bandsawpink.proofs.Exported.{answer_exported}

@@ -1,6 +1,5 @@
 -- Rests on the call of the rack.
 use mathlib.Core.Path.{◌∙◌}
-use borrow.Author.Rules.{rules}
 use Rattle.area.specs.Releases.{release_of}
 use Rattle.protocol.specs.Opening.{opening}
 use Rattle.bandsawpink.specs.Words.{directory_in}

@@ -1,6 +1,5 @@
 -- Rests on the call of the rack.
 use mathlib.Core.Path.{◌∙◌}
-use borrow.Author.Rules.{rules}
 use Rattle.bandsawpink.proofs.Exported.{desk_exported}
 use Rattle.bandsawpink.proofs.rack_recover.Goals as goal
 
@@ -8,4 +7,8 @@ pub returns : goal.returns
 returns c =
     let recovered = rw c.directory_in-taken.ensures at c.recover_card-reply.ensures in
     let answers = c.with_desk-answer.ensures ∙ desk_exported _ recovered.answer recovered.desk in
-    record { answer = answers; directory = c.hand_back.ensures ∙ rw (answers, recovered.directory); memory = recovered.memory }
+    record {
+      answer = answers;
+      directory = c.hand_back.ensures ∙ rw (answers, recovered.directory);
+      memory = recovered.memory;
+    }

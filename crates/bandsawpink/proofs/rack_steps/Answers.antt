@@ -1,6 +1,5 @@
 -- Rests on the batched call.
 use mathlib.Core.Path.{◌∙◌}
-use borrow.Author.Rules.{rules}
 use Rattle.bandsawpink.proofs.Exported.{steps_exported}
 use Rattle.bandsawpink.proofs.rack_steps.Goals as goal
 

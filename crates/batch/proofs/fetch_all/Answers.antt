@@ -1,6 +1,5 @@
 -- Rests on `fetch_all_lent`; a fetch of all pages keeps the directory.
 use mathlib.Core.Path.{sym}
-use borrow.Author.Rules.{rules}
 use Rattle.batch.proofs.Fetching.{fetch_all_keeps}
 use Rattle.batch.proofs.fetch_all.Goals as goal
 
@@ -8,4 +7,8 @@ pub returns : goal.returns
 returns c =
     let a = c.args in
     let done = rw c.header-header.ensures at c.fetch_all_lent-fetched.ensures in
-    record { answer = done.answer; directory = sym (fetch_all_keeps a.directory a.memory.now a.buffer.now); pages = done.pages }
+    record {
+      answer = done.answer;
+      directory = sym (fetch_all_keeps a.directory a.memory.now a.buffer.now);
+      pages = done.pages;
+    }

@@ -28,7 +28,12 @@ fetch_pages-requires c =
     let d = directory_by a.header a.primary.now a.secondary.now in
     let passed = all_facts d a.memory.now a.buffer.now c.fetch_refusal-first.ensures c.if-first-ne0.false in
     let fit = valid_rack passed.runs.fits in
-    let few = fit.within.pages_most in record { memory_of = memory_of fit.within; moving_len = (search rules, record { long = omega (arith, c.requires.0); below = fit.primary_below }); buffer_len = (passed.room_is, refl) }
+    let few = fit.within.pages_most in
+    record {
+      memory_of = memory_of fit.within;
+      moving_len = (search rules, record { long = omega (arith, c.requires.0); below = fit.primary_below });
+      buffer_len = (passed.room_is, refl);
+    }
 
 pub returns : goal.returns
 returns c =

@@ -1,5 +1,4 @@
 -- Rests on its test, and on `sets_all_part`: the page's part of the buffer is lent, and all its words are new.
-use borrow.Author.Rules.{rules}
 use Prim.Native.Nat.{◌*◌}
 use native.Mathlib.Omega.{arith}
 use lib.ListN.{get_or}
@@ -18,7 +17,11 @@ load_committed-requires c =
     let a = c.args in
     let pre = c.requires in
     let long = length_part a.buffer.now (page_size * a.page) page_size (omega arith) in
-    rw c.area_size-size.ensures record { area_in = area_in _ pre.page_bound.0 pre.memory_of.2; page_bound = (omega arith, omega arith); buffer_len = omega arith }
+    rw c.area_size-size.ensures record {
+      area_in = area_in _ pre.page_bound.0 pre.memory_of.2;
+      page_bound = (omega arith, omega arith);
+      buffer_len = omega arith;
+    }
 
 pub returns : goal.returns
 unfolding committed_page
@@ -31,4 +34,8 @@ returns c =
     let area = area_in size pre.page_bound.0 pre.memory_of.2 in
     let run =
     length-load_run size a.memory.now (get_or a.primary.now a.page 0) (committed a.page) page_size area
-    (omega arith) in record { shown = rw still; buffer = λ secondary. rw still (sets_all_part a.buffer.now (page_size * a.page) page_size _ words run (omega arith)) }
+    (omega arith) in
+    record {
+      shown = rw still;
+      buffer = λ secondary. rw still (sets_all_part a.buffer.now (page_size * a.page) page_size _ words run (omega arith));
+    }

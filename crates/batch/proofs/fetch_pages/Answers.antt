@@ -1,15 +1,8 @@
 -- The loop's invariant: the pages passed are fetched.
-use Prim.Native.Nat.{ℕ, ◌-◌, ◌≤◌}
-use mathlib.Core.List.{List}
 use mathlib.Core.Path.{◌≡◌, refl, sym, ◌∙◌}
 use native.Mathlib.Omega.{arith}
-use borrow.Author.Rules.{rules}
-use lib.ListN.{length, length-set}
-use Rattle.laws.specs.Search.{in_turn}
+use lib.ListN.{length-set}
 use Rattle.laws.proofs.Search.{in_turn_none, in_turn_more}
-use Rattle.directory.specs.Directory.{directory_by}
-use Rattle.batch.specs.FetchAll.{fetched_pages}
-use Rattle.batch.specs.Showing.{show_next}
 use Rattle.batch.proofs.fetch_pages.Goals as goal
 
 pub loop-page-init : goal.loop-page-init
@@ -22,7 +15,11 @@ fetch_next-seen-requires c =
     let pre = c.requires in
     let homes = c.requires.moving_len.1 in
     let long = c.requires.moving_len.1.long in
-    record { memory_of = pre.memory_of; moving_len = (pre.moving_len.0, below, omega arith); page_bound = (homes.below _ below, inv.1 ∙ pre.buffer_len.0) }
+    record {
+      memory_of = pre.memory_of;
+      moving_len = (pre.moving_len.0, below, omega arith);
+      page_bound = (homes.below _ below, inv.1 ∙ pre.buffer_len.0);
+    }
 
 pub loop-page-preserved : goal.loop-page-preserved
 loop-page-preserved c =

@@ -1,12 +1,9 @@
 -- The loop's invariant: the pages passed are fetched.
 use Prim.Native.Nat.{ℕ, ◌-◌, ◌≤◌}
 use mathlib.Core.List.{List}
-use mathlib.Core.Path.{◌≡◌, refl, sym, ◌∙◌}
-use native.Mathlib.Omega.{arith}
-use borrow.Author.Rules.{rules}
-use lib.ListN.{length, length-set}
+use mathlib.Core.Path.{◌≡◌}
+use lib.ListN.{length}
 use Rattle.laws.specs.Search.{in_turn}
-use Rattle.laws.proofs.Search.{in_turn_none, in_turn_more}
 use Rattle.directory.specs.Directory.{directory_by}
 use Rattle.batch.specs.FetchAll.{fetched_pages}
 use Rattle.batch.specs.Showing.{show_next}

@@ -1,6 +1,5 @@
 -- Rests on the order of checks: those of a running rack, then the length of the buffer.
 use mathlib.Core.Path.{refl, sym, ◌∙◌}
-use borrow.Author.Rules.{rules}
 use Rattle.checks.proofs.Order.{refused-first, passed_first}
 use Rattle.batch.proofs.fetch_refusal.Goals as goal
 

@@ -2,7 +2,7 @@
 use Prim.Native.Nat.{ℕ, ◌<◌}
 use mathlib.Core.Path.{◌≡◌, refl}
 use native.Mathlib.Omega.{arith}
-use borrow.Author.Rules.{rules, length_unmapped}
+use borrow.Author.Rules.{rules}
 use lib.ListN.{length}
 use Rattle.protocol.specs.Release.{size_of}
 use Rattle.release.specs.Stepping.{CardIn}
@@ -15,7 +15,12 @@ use Rattle.batch.proofs.steps.Goals as goal
 
 pub returns-then-count-eq0 : goal.returns-then-count-eq0
 unfolding steps_from
-returns-then-count-eq0 c = rw c.if-count-eq0.true record { made = refl; answer = refl; directory = refl; memory = refl }
+returns-then-count-eq0 c = rw c.if-count-eq0.true record {
+  made = refl;
+  answer = refl;
+  directory = refl;
+  memory = refl;
+}
 
 pub returns-then-first-ne0 : goal.returns-then-first-ne0
 returns-then-first-ne0 c =
@@ -39,7 +44,13 @@ make_steps-made-requires c =
     let fit = valid_rack passed.runs.fits in
     let card-at : (x : ℕ) → x < d.cards → CardIn d.live (length m) (size_of d) x
     = λ x. card_in d.live (size_of d) marks fit.within.cards_most fit.within.whole
-    in record { homes_in = homes_in d m fit marks primaries secondaries; card_in = card-at _ passed.below; card_in_2 = card-at _ (fit.next_below a.card); good_release = fit.good a.card passed.below passed.is_open }
+    in
+    record {
+      homes_in = homes_in d m fit marks primaries secondaries;
+      card_in = card-at _ passed.below;
+      card_in_2 = card-at _ (fit.next_below a.card);
+      good_release = fit.good a.card passed.below passed.is_open;
+    }
 
 pub returns : goal.returns
 returns c =
@@ -50,4 +61,9 @@ returns c =
     let passed = step_facts d m a.card reached c.if-first-ne0.false in
     let some : 0 < a.count = omega (arith, c.if-count-eq0.false) in
     let made = c.make_steps-made.ensures in
-    rw (all_made d a.card m a.count passed some made.made) record { made = refl; answer = c.answer_to-answer.ensures; directory = refl; memory = made.memory }
+    rw (all_made d a.card m a.count passed some made.made) record {
+      made = refl;
+      answer = c.answer_to-answer.ensures;
+      directory = refl;
+      memory = made.memory;
+    }

@@ -1,5 +1,4 @@
 -- Rests on the arm's equation.
-use borrow.Author.Rules.{rules}
 use Rattle.protocol.specs.Checks.{awaits_recovery}
 use Rattle.checks.proofs.awaits_recovery.Goals as goal
 

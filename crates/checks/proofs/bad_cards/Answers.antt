@@ -1,12 +1,11 @@
 -- Rests on `Passed`: the search from here on finds what the whole search finds.
-use Prim.Native.Nat.{◌-◌, ◌<◌}
+use Prim.Native.Nat.{◌<◌}
 use mathlib.Core.Path.{◌≡◌, sym, ◌∙◌}
 use native.Mathlib.Omega.{arith}
 use borrow.Author.Rules.{rules}
 use lib.ListN.{length}
-use Rattle.laws.proofs.Search.{Passed, passed_none, passed_more, some_found, none_found}
+use Rattle.laws.proofs.Search.{passed_none, passed_more, some_found, none_found}
 use Rattle.memory.proofs.Index.{area_in}
-use Rattle.protocol.specs.Checks.{bad_card}
 use Rattle.checks.proofs.bad_cards.Goals as goal
 
 pub bad_card-requires : goal.bad_card-requires

@@ -1,7 +1,6 @@
 -- Rests on its tests, which are the definition's in the same order.
 use mathlib.Core.Path.{sym, ap, ◌∙◌}
 use mathlib.Core.Bool.{not}
-use borrow.Author.Rules.{rules}
 use borrow.Author.Tests.{le-leb, lt-leb}
 use Rattle.protocol.specs.Checks.{bad_home}
 use Rattle.checks.proofs.bad_home.Goals as goal

@@ -1,7 +1,6 @@
 -- Rests on `all_live`: where all cards are live, the numbers of the homes tell.
 use mathlib.Core.Path.{◌≡◌, ◌∙◌}
 use native.Mathlib.Omega.{arith}
-use borrow.Author.Rules.{rules}
 use Rattle.laws.specs.Search.{count_below}
 use Rattle.laws.proofs.Search.{some_count}
 use Rattle.directory.specs.Directory.{live_at, directory_by}

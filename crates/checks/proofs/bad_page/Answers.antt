@@ -1,6 +1,5 @@
 -- Rests on its tests, which are the definition's in the same order.
 use mathlib.Core.Path.{sym, ◌∙◌}
-use borrow.Author.Rules.{rules}
 use borrow.Author.Tests.{eq-eqb, ne_eqb}
 use Rattle.protocol.specs.Checks.{bad_page}
 use Rattle.checks.proofs.bad_page.Goals as goal

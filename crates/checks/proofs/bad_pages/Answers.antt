@@ -1,11 +1,7 @@
 -- Rests on `Passed`: the search from here on finds what the whole search finds.
-use Prim.Native.Nat.{◌-◌}
 use mathlib.Core.Path.{sym, ◌∙◌}
 use native.Mathlib.Omega.{arith}
-use borrow.Author.Rules.{rules}
-use Rattle.laws.proofs.Search.{Passed, passed_none, passed_more, some_found, none_found}
-use Rattle.directory.specs.Directory.{directory_by}
-use Rattle.protocol.specs.Checks.{bad_page}
+use Rattle.laws.proofs.Search.{passed_none, passed_more, some_found, none_found}
 use Rattle.checks.proofs.bad_pages.Goals as goal
 
 pub returns-then-bad_page : goal.returns-then-bad_page

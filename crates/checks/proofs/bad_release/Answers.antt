@@ -1,5 +1,4 @@
 -- Rests on the arm's equation: the verdict is the case that the definition names.
-use borrow.Author.Rules.{rules}
 use Rattle.protocol.specs.Checks.{bad_release}
 use Rattle.checks.proofs.bad_release.Goals as goal
 

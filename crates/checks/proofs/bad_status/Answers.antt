@@ -1,5 +1,4 @@
 -- Rests on the arm's equation, and on the tests that the definition makes of the awaited card.
-use borrow.Author.Rules.{rules}
 use borrow.Author.Tests.{le-leb, lt-leb}
 use Rattle.protocol.specs.Checks.{bad_status}
 use Rattle.checks.proofs.bad_status.Goals as goal

@@ -1,6 +1,5 @@
 -- Rests on the order of checks: those of a running rack, then the number of cards.
 use mathlib.Core.Path.{refl, sym, ◌∙◌}
-use borrow.Author.Rules.{rules}
 use Rattle.checks.proofs.Order.{refused-first, passed_first}
 use Rattle.checks.proofs.card_refusal.Goals as goal
 

@@ -1,9 +1,6 @@
 -- Rests on `Counted`: the cards below this one are counted.
-use Prim.Native.Nat.{◌-◌}
 use native.Mathlib.Omega.{arith}
-use borrow.Author.Rules.{rules}
-use Rattle.laws.proofs.Search.{Counted, counted_none, counted_few, counted_hit, counted_miss, counted_all}
-use Rattle.directory.specs.Live.{live_at}
+use Rattle.laws.proofs.Search.{counted_none, counted_few, counted_hit, counted_miss, counted_all}
 use Rattle.checks.proofs.count_live.Goals as goal
 
 pub overflow_add-count : goal.overflow_add-count

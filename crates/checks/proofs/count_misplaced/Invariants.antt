@@ -1,9 +1,6 @@
 -- Rests on `Counted`: the pages below this one are counted.
 use Prim.Native.Nat.{◌-◌}
-use mathlib.Core.Path.{sym, ◌∙◌}
-use native.Mathlib.Omega.{arith}
-use borrow.Author.Rules.{rules}
-use Rattle.laws.proofs.Search.{Counted, counted_none, counted_few, counted_hit, counted_miss, counted_all}
+use Rattle.laws.proofs.Search.{Counted}
 use Rattle.checks.specs.Homes.{misplaced_page}
 use Rattle.checks.proofs.count_misplaced.Given as goal
 

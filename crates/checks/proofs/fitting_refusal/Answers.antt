@@ -1,6 +1,5 @@
 -- Rests on the order of checks; a rack that passes the first is within its limits.
 use mathlib.Core.Path.{sym, ◌∙◌}
-use borrow.Author.Rules.{rules}
 use Rattle.protocol.proofs.checks.Limits.{within_limits}
 use Rattle.checks.proofs.Order.{first_refuses, first_passes}
 use Rattle.checks.proofs.Passing.{memory_of}

@@ -1,6 +1,5 @@
 -- Rests on the law of a check that refuses, and of one that is the last and passes.
 use mathlib.Core.Path.{sym, ◌∙◌}
-use borrow.Author.Rules.{rules}
 use Rattle.checks.proofs.Order.{first_refuses, last_passes}
 use Rattle.checks.proofs.last_check.Goals as goal
 

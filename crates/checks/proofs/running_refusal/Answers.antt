@@ -1,6 +1,5 @@
 -- Rests on the order of checks: those of a rack that fits, then its status.
 use mathlib.Core.Path.{refl, sym, ◌∙◌}
-use borrow.Author.Rules.{rules}
 use Rattle.checks.proofs.Order.{refused-first, passed_first}
 use Rattle.checks.proofs.running_refusal.Goals as goal
 

@@ -1,6 +1,5 @@
 -- Rests on its tests, which are the definition's in the same order.
 use mathlib.Core.Path.{sym, ◌∙◌}
-use borrow.Author.Rules.{rules}
 use borrow.Author.Tests.{lt-ltb, le-ltb}
 use Rattle.protocol.specs.Checks.{few_live, unfit_rack}
 use Rattle.checks.proofs.unfit_rack.Goals as goal

@@ -1,6 +1,5 @@
 -- Rests on the callees, by the command.
 use mathlib.Core.Path.{refl}
-use borrow.Author.Rules.{rules}
 use Rattle.commands.specs.Execute.{execute, fetch_word}
 use Rattle.commands.proofs.execute.Goals as goal
 

@@ -1,6 +1,5 @@
 -- Rests on the batched call: its refusal, and the steps made as the value.
 use mathlib.Core.Path.{◌∙◌}
-use borrow.Author.Rules.{rules}
 use Rattle.answer.proofs.RoundTrip.{answer_outcome}
 use Rattle.batch.specs.Steps.{steps}
 use Rattle.commands.specs.Execute.{make_steps}

@@ -1,6 +1,5 @@
 -- Rests on the call of the rack.
 use mathlib.Core.Path.{◌∙◌}
-use borrow.Author.Rules.{rules}
 use Rattle.answer.proofs.RoundTrip.{answer_outcome}
 use Rattle.memory.specs.Words.{zeros}
 use Rattle.commands.specs.Execute.{open_one}

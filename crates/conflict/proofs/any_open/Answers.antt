@@ -1,6 +1,5 @@
 -- Rests on `others_are_all`: every card is another than one that there is not.
 use mathlib.Core.Path.{◌∙◌}
-use borrow.Author.Rules.{rules}
 use Rattle.conflict.proofs.Others.{others_are_all}
 use Rattle.conflict.proofs.any_open.Goals as goal
 

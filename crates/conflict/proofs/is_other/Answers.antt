@@ -1,5 +1,4 @@
 -- Rests on the comparison of the two cards and on `is_open`.
-use borrow.Author.Rules.{rules}
 use borrow.Author.Tests.{eq-eqb, ne_eqb}
 use Rattle.conflict.specs.Others.{is_other}
 use Rattle.conflict.proofs.is_other.Goals as goal

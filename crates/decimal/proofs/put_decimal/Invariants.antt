@@ -1,10 +1,8 @@
 -- Rests on the laws of `Digits`. The loop's invariant: the digits still to come, before the text, give the whole.
 use Prim.Native.Nat.{◌+◌, ◌≤◌}
-use mathlib.Core.Path.{◌≡◌, sym, ap, ◌∙◌}
-use borrow.Author.Rules.{rules}
+use mathlib.Core.Path.{◌≡◌}
 use lib.ListN.{length, drop}
 use Rattle.decimal.specs.Decimal.{digits_before, decimal_before}
-use Rattle.decimal.proofs.Digits.{digits_none, digits_last, digits_more}
 use Rattle.decimal.proofs.put_decimal.Given as goal
 
 abbrev pub invariant-loop-left : goal.invariant-loop-left

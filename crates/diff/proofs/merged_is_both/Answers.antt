@@ -3,4 +3,10 @@ use Rattle.diff.proofs.Merges.{merged_is_both, answers_merges, merges_either_way
 use Rattle.diff.proofs.merged_is_both.Goals as goal
 
 pub returns : goal.returns
-returns c = record { merged = merged_is_both; answered = answers_merges; three = merges_either_way; empty = empty_changes_nothing }
+returns c =
+    record {
+      merged = merged_is_both;
+      answered = answers_merges;
+      three = merges_either_way;
+      empty = empty_changes_nothing;
+    }

@@ -1,9 +1,6 @@
 -- Rests on `Filled`: up to the page reached both arrays are their tables'.
-use Prim.Native.Nat.{◌-◌}
 use native.Mathlib.Omega.{arith}
-use borrow.Author.Rules.{rules}
-use Rattle.directory.specs.Directory.{formatted_primary, formatted_secondary}
-use Rattle.directory.proofs.Table.{Filled, fill_none, fill_more, fill_all}
+use Rattle.directory.proofs.Table.{fill_none, fill_more, fill_all}
 use Rattle.directory.proofs.fill_homes.Goals as goal
 
 pub loop-page-init : goal.loop-page-init
@@ -19,4 +16,8 @@ loop-page-preserved c =
 pub returns : goal.returns
 returns c =
     let inv = c.loop-page.invariant in
-    let lengths = c.requires.primary_len in record { primary = fill_all 64 inv.0 lengths.0 c.loop-page-test.false; secondary = fill_all 64 inv.1 lengths.1 c.loop-page-test.false }
+    let lengths = c.requires.primary_len in
+    record {
+      primary = fill_all 64 inv.0 lengths.0 c.loop-page-test.false;
+      secondary = fill_all 64 inv.1 lengths.1 c.loop-page-test.false;
+    }

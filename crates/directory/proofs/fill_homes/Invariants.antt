@@ -1,9 +1,7 @@
 -- Rests on `Filled`: up to the page reached both arrays are their tables'.
 use Prim.Native.Nat.{◌-◌}
-use native.Mathlib.Omega.{arith}
-use borrow.Author.Rules.{rules}
 use Rattle.directory.specs.Directory.{formatted_primary, formatted_secondary}
-use Rattle.directory.proofs.Table.{Filled, fill_none, fill_more, fill_all}
+use Rattle.directory.proofs.Table.{Filled}
 use Rattle.directory.proofs.fill_homes.Given as goal
 
 abbrev pub invariant-loop-page : goal.invariant-loop-page

@@ -1,9 +1,6 @@
 -- Rests on the laws of a turn: the search from here on finds what the whole search finds.
-use Prim.Native.Nat.{◌-◌, ◌≤◌}
 use mathlib.Core.Path.{◌≡◌, refl, sym, ◌∙◌}
 use native.Mathlib.Omega.{arith}
-use borrow.Author.Rules.{rules}
-use Rattle.directory.specs.Live.{first_live}
 use Rattle.directory.proofs.Live.{first_live_past_marks}
 use Rattle.laws.proofs.Search.{lowest_end, lowest_hit, lowest_skip}
 use Rattle.directory.proofs.first_live.Goals as goal

@@ -1,12 +1,9 @@
 -- Rests on `Filled`: up to the card reached the marks are the table's.
 use Prim.Native.Nat.{◌-◌}
-use mathlib.Core.Path.{refl}
 use mathlib.Core.Bool.{false}
-use native.Mathlib.Omega.{arith}
 use lib.Dec.{ltb}
 use lib.ListN.{replicate}
-use borrow.Author.Rules.{rules}
-use Rattle.directory.proofs.Table.{Filled, fill_none, fill_more, fill_all}
+use Rattle.directory.proofs.Table.{Filled}
 use Rattle.directory.proofs.formatted_marks.Given as goal
 
 abbrev pub invariant-loop-card : goal.invariant-loop-card

@@ -1,6 +1,5 @@
 -- Rests on the test, which is the definition's.
 use borrow.Author.Tests.{lt-ltb, le-ltb}
-use borrow.Author.Rules.{rules}
 use Rattle.directory.proofs.formatted_primary.Goals as goal
 
 pub returns-then-page-pages : goal.returns-then-page-pages

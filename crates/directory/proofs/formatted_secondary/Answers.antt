@@ -1,6 +1,5 @@
 -- Rests on what `next_live_after` ensures of the formatted marks.
 use borrow.Author.Tests.{lt-ltb, le-ltb}
-use borrow.Author.Rules.{rules}
 use Rattle.directory.proofs.formatted_secondary.Goals as goal
 
 pub returns-then-page-pages : goal.returns-then-page-pages

@@ -3,7 +3,6 @@ use Prim.Native.Nat.{◌+◌, ◌≤◌}
 use mathlib.Core.Path.{sym, ◌∙◌}
 use mathlib.Core.Logic.{⊎_elim}
 use native.Mathlib.Omega.{arith}
-use borrow.Author.Rules.{rules}
 use Rattle.directory.specs.Live.{live_at, first_live}
 use Rattle.directory.proofs.Live.{next_live_up, next_live_round}
 use Rattle.laws.proofs.Search.{lowest_end}

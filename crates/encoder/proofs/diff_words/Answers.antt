@@ -1,13 +1,9 @@
 -- `encoder::diff_words` meets its contract. The loop's invariant: with the words of the pages from `page` on, the count is
 -- that of the whole diff.
-use Prim.Native.Nat.{ℕ, ◌+◌, ◌-◌, ◌*◌, ◌≤◌}
-use mathlib.Core.Path.{◌≡◌, ap}
-use mathlib.Core.List.{List}
+use mathlib.Core.Path.{ap}
 use native.Mathlib.Omega.{arith}
-use borrow.Author.Rules.{rules}
 use lib.ListN.{length}
-use Rattle.diff.specs.Making.{made_diff}
-use Rattle.encoder.proofs.Pages.{body_on, prices_of_page, body_on_none, length-next, length-made}
+use Rattle.encoder.proofs.Pages.{prices_of_page, body_on_none, length-next, length-made}
 use Rattle.encoder.proofs.diff_words.Goals as goal
 
 pub loop-page-init : goal.loop-page-init

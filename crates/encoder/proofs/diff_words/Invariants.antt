@@ -1,13 +1,11 @@
 -- `encoder::diff_words` meets its contract. The loop's invariant: with the words of the pages from `page` on, the count is
 -- that of the whole diff.
 use Prim.Native.Nat.{ℕ, ◌+◌, ◌-◌, ◌*◌, ◌≤◌}
-use mathlib.Core.Path.{◌≡◌, ap}
+use mathlib.Core.Path.{◌≡◌}
 use mathlib.Core.List.{List}
-use native.Mathlib.Omega.{arith}
-use borrow.Author.Rules.{rules}
 use lib.ListN.{length}
 use Rattle.diff.specs.Making.{made_diff}
-use Rattle.encoder.proofs.Pages.{body_on, prices_of_page, body_on_none, length-next, length-made}
+use Rattle.encoder.proofs.Pages.{body_on}
 use Rattle.encoder.proofs.diff_words.Given as goal
 
 abbrev pub invariant-loop-page : goal.invariant-loop-page

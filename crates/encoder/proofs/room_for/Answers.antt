@@ -1,6 +1,5 @@
 -- `encoder::room_for` meets its contract, refusal by refusal.
 use mathlib.Core.Path.{sym, ◌∙◌}
-use borrow.Author.Rules.{rules}
 use Rattle.diff.proofs.Room.{over_limit, no_room, has_room}
 use Rattle.encoder.proofs.room_for.Goals as goal
 

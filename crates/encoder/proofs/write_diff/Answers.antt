@@ -1,16 +1,14 @@
 -- `encoder::write_diff` meets its contract. The loop's invariant: the words of the pages from `page` on, stored from here
 -- on, give the list with the words of all pages; while some of them are left, there is a page.
-use Prim.Native.Nat.{ℕ, ◌+◌, ◌-◌, ◌*◌, ◌≤◌, ◌<◌}
+use Prim.Native.Nat.{ℕ, ◌+◌, ◌-◌, ◌*◌, ◌<◌}
 use mathlib.Core.Path.{◌≡◌, refl, ◌∙◌}
 use mathlib.Core.List.{List}
 use native.Mathlib.Omega.{arith}
 use borrow.Author.Rules.{rules}
 use lib.ListN.{length, length-set, length-take, length-drop}
-use lib.Seq.{sets}
 use Rattle.laws.proofs.Lists.{sets-append}
 use Rattle.diff.proofs.Derivation.{no_words}
 use Rattle.encoder.proofs.Pages.{body_on, page_left, body_on_next, length-next, length-made, end_stored}
-use Rattle.encoder.proofs.page.write_page.Reads as write-page-reads
 use Rattle.encoder.proofs.write_diff.Goals as goal
 
 -- the words lent to a page are its prices
@@ -30,7 +28,12 @@ write_page-at-requires c =
     let within = left c.args.prices.now c.args.marks.now c.loop-at.page _ _ c.loop-at.invariant.2 c.loop-at-test.true in
     let at = c.loop-at in
     let parts = length-next c.args.prices.now c.args.marks.now at.page within in
-    let room = c.requires.words_bound.1 in record { page_bound = omega (arith, within, c.requires.marks_len_bound); prices_len = simp (length-take, length-drop) (omega (arith, within, c.requires.prices_len)); prices_in_bounds = rw (lent (32 * at.page)) (omega (arith, parts, at.invariant.1, at.invariant.2, room)) }
+    let room = c.requires.words_bound.1 in
+    record {
+      page_bound = omega (arith, within, c.requires.marks_len_bound);
+      prices_len = simp (length-take, length-drop) (omega (arith, within, c.requires.prices_len));
+      prices_in_bounds = rw (lent (32 * at.page)) (omega (arith, parts, at.invariant.1, at.invariant.2, room));
+    }
 
 pub loop-at-preserved : goal.loop-at-preserved
 loop-at-preserved c =

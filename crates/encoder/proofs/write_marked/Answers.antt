@@ -2,7 +2,6 @@
 use Prim.Native.Nat.{ℕ}
 use mathlib.Core.Path.{sym, ap, ◌∙◌}
 use native.Mathlib.Omega.{arith}
-use borrow.Author.Rules.{rules}
 use lib.ListN.{length}
 use Rattle.answer.specs.Outcome.{answer_of, given, wrong_buffer}
 use Rattle.diff.specs.Making.{made_diff}
@@ -16,9 +15,12 @@ returns-then-room-ne0 c =
     let buffer = c.args.buffer.now in
     let words = c.diff_words-words.ensures c.args.prices.now c.requires.prices_len in
     let room = c.room_for-room.ensures
-    ∙ ap (λ (n : ℕ). room_for wrong_buffer n (length buffer)) words in record { answer = c.answer_of.ensures ∙ ap answer_of room; written = sym
+    ∙ ap (λ (n : ℕ). room_for wrong_buffer n (length buffer)) words in record {
+      answer = c.answer_of.ensures ∙ ap answer_of room;
+      written = sym
           (written_none (room_for wrong_buffer (length made) (length buffer)) made buffer
-          (λ none. c.if-room-ne0.true (ap (λ o. o.number) room ∙ none))) }
+          (λ none. c.if-room-ne0.true (ap (λ o. o.number) room ∙ none)));
+    }
 
 pub write_diff-requires : goal.write_diff-requires
 write_diff-requires c =
@@ -28,7 +30,12 @@ write_diff-requires c =
     let accepted = sym (ap (λ o. o.number) room) ∙ c.if-room-ne0.false in
     let few = within_limit wrong_buffer size (length c.args.buffer.now) (omega arith) accepted in
     let fits = within_room wrong_buffer size (length c.args.buffer.now) (omega arith) accepted in
-    record { marks_len_bound = c.requires.marks_len_bound; prices_len = c.requires.prices_len; words_value = words; words_bound = (few, fits) }
+    record {
+      marks_len_bound = c.requires.marks_len_bound;
+      prices_len = c.requires.prices_len;
+      words_value = words;
+      words_bound = (few, fits);
+    }
 
 pub returns : goal.returns
 returns c =
@@ -39,5 +46,8 @@ returns c =
     ∙ ap (λ (n : ℕ). room_for wrong_buffer n (length buffer)) words in
     let accepted = sym (ap (λ o. o.number) room) ∙ c.if-room-ne0.false in
     let is = room_given wrong_buffer (length made) (length buffer) (omega arith) accepted in
-    let fits = within_room wrong_buffer (length made) (length buffer) (omega arith) accepted in record { answer = ap (λ (n : ℕ). answer_of (given n)) words ∙ ap answer_of (sym is); written = c.write_diff.ensures
-          ∙ sym (written_all (room_for wrong_buffer (length made) (length buffer)) made buffer accepted fits) }
+    let fits = within_room wrong_buffer (length made) (length buffer) (omega arith) accepted in record {
+      answer = ap (λ (n : ℕ). answer_of (given n)) words ∙ ap answer_of (sym is);
+      written = c.write_diff.ensures
+          ∙ sym (written_all (room_for wrong_buffer (length made) (length buffer)) made buffer accepted fits);
+    }

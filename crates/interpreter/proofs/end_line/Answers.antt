@@ -1,5 +1,5 @@
 -- Rests on the callees: the line's command is executed, and its outcome appended.
-use Rattle.std.proofs.Common.{◌∙◌, rules}
+use Rattle.std.proofs.Common.{◌∙◌}
 use Rattle.interpreter.specs.Transcript.{answered}
 use Rattle.interpreter.proofs.end_line.Goals as goal
 
@@ -10,4 +10,10 @@ returns c =
     let done = c.execute-shown.ensures in
     let letter = c.letter_of-letter.ensures in
     let appended = c.append_answer-end.ensures in
-    record { answer = appended.answer ∙ rw (letter, done.outcome, read); end = appended.end ∙ rw (letter, done.outcome, read); room = appended.room; session = rw (done.directory, c.wrapping_add_u64.ensures.value, c.fresh.ensures, read); memory = done.memory ∙ rw read }
+    record {
+      answer = appended.answer ∙ rw (letter, done.outcome, read);
+      end = appended.end ∙ rw (letter, done.outcome, read);
+      room = appended.room;
+      session = rw (done.directory, c.wrapping_add_u64.ensures.value, c.fresh.ensures, read);
+      memory = done.memory ∙ rw read;
+    }

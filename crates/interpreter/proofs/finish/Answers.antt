@@ -6,7 +6,12 @@ pub returns-then-has_begun : goal.returns-then-has_begun
 returns-then-has_begun c =
     let ended = c.end_line-ended.ensures in
     let begun = sym c.has_begun.ensures ∙ c.if-has_begun.true in
-    record { room = search rules; end = rw begun (ended.end ∙ zero-add _); answer = rw begun ended.answer; memory = rw begun ended.memory }
+    record {
+      room = search rules;
+      end = rw begun (ended.end ∙ zero-add _);
+      answer = rw begun ended.answer;
+      memory = rw begun ended.memory;
+    }
 
 pub returns : goal.returns
 returns c =

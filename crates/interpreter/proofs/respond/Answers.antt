@@ -1,7 +1,6 @@
 -- Rests on `process_line` and `more_read`. The loop's invariant: the bytes passed have been read and answered.
-use Rattle.std.proofs.Common.{◌≡◌, ◌-◌, ◌≤◌, length, arith, rules}
-use Rattle.interpreter.specs.Transcript.{state_of}
-use Rattle.interpreter.proofs.Parts.{Reached, none_read, more_read}
+use Rattle.std.proofs.Common.{arith, rules}
+use Rattle.interpreter.proofs.Parts.{none_read, more_read}
 use Rattle.interpreter.proofs.respond.Goals as goal
 
 pub loop-read-init : goal.loop-read-init
@@ -21,8 +20,22 @@ loop-read-preserved c =
 
 pub returns-after-loop-read : goal.returns-after-loop-read
 returns-after-loop-read c =
-    let done = c.loop-read.invariant in record { places = (done.0, search rules); full = λ some. absurd (omega arith); state = done.4.state; end = done.4.end; output = done.4.output }
+    let done = c.loop-read.invariant in
+    record {
+      places = (done.0, search rules);
+      full = λ some. absurd (omega arith);
+      state = done.4.state;
+      end = done.4.end;
+      output = done.4.output;
+    }
 
 pub returns-then-output-written-lt80 : goal.returns-then-output-written-lt80
 returns-then-output-written-lt80 c =
-    let done = c.loop-read.invariant in record { places = (done.0, search rules); full = λ some. search rules; state = done.4.state; end = done.4.end; output = done.4.output }
+    let done = c.loop-read.invariant in
+    record {
+      places = (done.0, search rules);
+      full = λ some. search rules;
+      state = done.4.state;
+      end = done.4.end;
+      output = done.4.output;
+    }

@@ -1,7 +1,7 @@
 -- Rests on `process_line` and `more_read`. The loop's invariant: the bytes passed have been read and answered.
-use Rattle.std.proofs.Common.{◌≡◌, ◌-◌, ◌≤◌, length, arith, rules}
+use Rattle.std.proofs.Common.{◌≡◌, ◌-◌, ◌≤◌, length}
 use Rattle.interpreter.specs.Transcript.{state_of}
-use Rattle.interpreter.proofs.Parts.{Reached, none_read, more_read}
+use Rattle.interpreter.proofs.Parts.{Reached}
 use Rattle.interpreter.proofs.respond.Given as goal
 
 abbrev pub invariant-loop-read : goal.invariant-loop-read

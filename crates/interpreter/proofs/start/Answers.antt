@@ -1,5 +1,4 @@
 -- Rests on the call of the rack.
-use Rattle.std.proofs.Common.{rules}
 use Rattle.interpreter.proofs.start.Goals as goal
 
 pub returns : goal.returns

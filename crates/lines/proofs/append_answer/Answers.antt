@@ -16,4 +16,8 @@ returns c =
     let left : length (drop start text) ≡ 80 - start = length-drop start text ∙ ap (λ n. n - start) size in
     let all = take_all (80 - start) (drop start text) (omega arith) in
     let long = sym (ap length answer.ensures.text_after) ∙ left in
-    record { room = search rules; end = rw long; answer = c.copy_bytes.ensures ∙ rw (all, answer.ensures.text_after) }
+    record {
+      room = search rules;
+      end = rw long;
+      answer = c.copy_bytes.ensures ∙ rw (all, answer.ensures.text_after);
+    }

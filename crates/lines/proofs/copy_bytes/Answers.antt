@@ -1,9 +1,7 @@
 -- Rests on `sets-take_more`. The loop's invariant: the bytes passed are stored.
-use Prim.Native.Nat.{◌≤◌, ◌-◌}
-use mathlib.Core.Path.{◌≡◌, ◌∙◌}
+use mathlib.Core.Path.{◌∙◌}
 use borrow.Author.Rules.{rules}
-use lib.ListN.{length, take}
-use lib.Seq.{sets, take_all}
+use lib.Seq.{take_all}
 use Rattle.laws.proofs.Lists.{sets-take_more}
 use Rattle.lines.proofs.copy_bytes.Goals as goal
 

@@ -1,10 +1,8 @@
 -- Rests on `sets-take_more`. The loop's invariant: the bytes passed are stored.
 use Prim.Native.Nat.{◌≤◌, ◌-◌}
-use mathlib.Core.Path.{◌≡◌, ◌∙◌}
-use borrow.Author.Rules.{rules}
+use mathlib.Core.Path.{◌≡◌}
 use lib.ListN.{length, take}
-use lib.Seq.{sets, take_all}
-use Rattle.laws.proofs.Lists.{sets-take_more}
+use lib.Seq.{sets}
 use Rattle.lines.proofs.copy_bytes.Given as goal
 
 abbrev pub invariant-loop-i : goal.invariant-loop-i

@@ -2,7 +2,6 @@
 use mathlib.Core.Path.{sym, ◌∙◌}
 use native.Mathlib.Omega.{arith}
 use borrow.Author.Tests.{eq-eqb, ne_eqb}
-use borrow.Author.Rules.{rules}
 use Rattle.lines.specs.Command.{fetch_form}
 use Rattle.lines.proofs.Forms.{label_small}
 use Rattle.lines.proofs.fetch_form.Goals as goal

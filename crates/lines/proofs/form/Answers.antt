@@ -1,6 +1,5 @@
 -- Rests on the callees, by the letter.
 use borrow.Author.Tests.{ne_eqb}
-use borrow.Author.Rules.{rules}
 use Rattle.lines.specs.Command.{form_of}
 use Rattle.lines.proofs.form.Goals as goal
 

@@ -10,7 +10,9 @@ pub returns : goal.returns
 unfolding answer_line
 returns c =
     let text = c.args.text.now in
-    let end : length text ≤ 80 = omega (arith, c.requires) in record { upper_bound = search rules; text_after = rw (
+    let end : length text ≤ 80 = omega (arith, c.requires) in record {
+      upper_bound = search rules;
+      text_after = rw (
         c.put_decimal.ensures.text_after,
         c.put_byte-first.ensures.text_after,
         c.put_byte-named.ensures.text_after,
@@ -20,4 +22,5 @@ returns c =
         c.put_decimal-shown.ensures.text_after,
         c.put_byte-feed.ensures.text_after,
         drop_of_length-le text {i = 80} end,
-      ) }
+      );
+    }

@@ -1,9 +1,5 @@
 -- Rests on the laws of `Parts`. The loop's invariant: what is left of the input, read from here, gives the whole.
-use Prim.Native.Nat.{◌-◌}
-use mathlib.Core.Path.{◌≡◌, sym, ◌∙◌}
-use borrow.Author.Rules.{rules}
-use lib.ListN.{length, drop}
-use Rattle.lines.specs.Command.{part_from}
+use mathlib.Core.Path.{sym, ◌∙◌}
 use Rattle.lines.proofs.Parts.{part_end, part_feed, part_turn}
 use Rattle.lines.proofs.read_part.Goals as goal
 

@@ -1,10 +1,8 @@
 -- Rests on the laws of `Parts`. The loop's invariant: what is left of the input, read from here, gives the whole.
 use Prim.Native.Nat.{◌-◌}
-use mathlib.Core.Path.{◌≡◌, sym, ◌∙◌}
-use borrow.Author.Rules.{rules}
+use mathlib.Core.Path.{◌≡◌}
 use lib.ListN.{length, drop}
 use Rattle.lines.specs.Command.{part_from}
-use Rattle.lines.proofs.Parts.{part_end, part_feed, part_turn}
 use Rattle.lines.proofs.read_part.Given as goal
 
 abbrev pub invariant-loop-at : goal.invariant-loop-at

@@ -1,6 +1,5 @@
 -- Rests on its test.
 use borrow.Author.Tests.{eq-eqb, ne_eqb}
-use borrow.Author.Rules.{rules}
 use Rattle.lines.specs.Command.{step_form}
 use Rattle.lines.proofs.step_form.Goals as goal
 

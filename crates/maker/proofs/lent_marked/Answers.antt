@@ -1,6 +1,5 @@
 -- `maker::lent_marked` meets its contract: the pages are whole, so that a quotient tells their number.
 use mathlib.Core.Path.{sym, ◌∙◌}
-use borrow.Author.Rules.{rules}
 use Rattle.diff.specs.Making.{lent_marked}
 use Rattle.diff.proofs.Making.{lent_pages_lem}
 use Rattle.maker.proofs.Lent.{one_each}

@@ -1,6 +1,5 @@
 -- `maker::make` meets its contract: the lengths are tested first, the rest is the writing of the list.
 use mathlib.Core.Path.{sym, ◌∙◌}
-use borrow.Author.Rules.{rules}
 use Rattle.diff.specs.Making.{make_diff}
 use Rattle.maker.proofs.Lent.{lent_words}
 use Rattle.maker.proofs.make.Goals as goal

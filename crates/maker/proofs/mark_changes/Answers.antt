@@ -1,6 +1,5 @@
 -- `maker::mark_changes` meets its contract: the lengths are tested before the first store.
 use mathlib.Core.Path.{sym, ◌∙◌}
-use borrow.Author.Rules.{rules}
 use Rattle.diff.specs.Making.{mark_changes}
 use Rattle.maker.proofs.Lent.{lent_words}
 use Rattle.maker.proofs.mark_changes.Goals as goal

@@ -1,10 +1,9 @@
 -- `maker::mark_pages` meets its contract. The loop's invariant: the marks of the pages before `page` are stored.
-use Prim.Native.Nat.{ℕ, ◌+◌, ◌-◌, ◌*◌, ◌/◌, ◌≤◌, ◌<◌}
+use Prim.Native.Nat.{ℕ, ◌+◌, ◌-◌, ◌*◌, ◌/◌, ◌<◌}
 use native.Mathlib.Nat.{zero-add}
 use mathlib.Core.Path.{◌≡◌, refl, sym, ap, ◌∙◌}
 use native.Mathlib.Omega.{arith}
-use borrow.Author.Rules.{rules}
-use lib.ListN.{length, take, length-set, length-take, length-drop}
+use lib.ListN.{length, length-set, length-take, length-drop}
 use lib.Seq.{sets, take_all}
 use Rattle.laws.proofs.Lists.{sets_whole, sets-take_more}
 use Rattle.diff.specs.Marks.{change_marks}

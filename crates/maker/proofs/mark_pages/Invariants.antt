@@ -1,14 +1,9 @@
 -- `maker::mark_pages` meets its contract. The loop's invariant: the marks of the pages before `page` are stored.
-use Prim.Native.Nat.{ℕ, ◌+◌, ◌-◌, ◌*◌, ◌/◌, ◌≤◌, ◌<◌}
-use native.Mathlib.Nat.{zero-add}
-use mathlib.Core.Path.{◌≡◌, refl, sym, ap, ◌∙◌}
-use native.Mathlib.Omega.{arith}
-use borrow.Author.Rules.{rules}
-use lib.ListN.{length, take, length-set, length-take, length-drop}
-use lib.Seq.{sets, take_all}
-use Rattle.laws.proofs.Lists.{sets_whole, sets-take_more}
+use Prim.Native.Nat.{◌-◌, ◌≤◌}
+use mathlib.Core.Path.{◌≡◌}
+use lib.ListN.{length, take}
+use lib.Seq.{sets}
 use Rattle.diff.specs.Marks.{change_marks}
-use Rattle.diff.proofs.Marks.{length_changes, changes_at}
 use Rattle.maker.proofs.mark_pages.Given as goal
 
 abbrev pub invariant-loop-page : goal.invariant-loop-page

@@ -1,7 +1,6 @@
 -- Rests on `sets_part`: the card's area is lent as a part, and the run is cleared in it.
 use Prim.Native.Nat.{◌*◌}
 use native.Mathlib.Omega.{arith}
-use borrow.Author.Rules.{rules}
 use Rattle.memory.specs.Words.{zeros, clear_run}
 use Rattle.memory.proofs.Parts.{sets_part}
 use Rattle.memory.proofs.Runs.{length-zeros, store_run_sets}

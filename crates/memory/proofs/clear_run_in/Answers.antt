@@ -1,5 +1,4 @@
 -- Rests on `sets_all_part`: the run is lent as a part, and all its words are new.
-use borrow.Author.Rules.{rules}
 use Rattle.memory.specs.Words.{zeros}
 use Rattle.memory.proofs.Parts.{length_part, sets_all_part}
 use Rattle.memory.proofs.Runs.{length-zeros}

@@ -1,5 +1,4 @@
 -- Rests on what `load_run` and `store_run` ensure: the words stored are those loaded.
-use borrow.Author.Rules.{rules}
 use Rattle.memory.specs.Words.{copy_run}
 use Rattle.memory.proofs.copy_run.Goals as goal
 

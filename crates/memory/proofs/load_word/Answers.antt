@@ -1,6 +1,5 @@
 -- Rests on computing: the index is the definition's.
 use mathlib.Core.Path.{refl}
-use borrow.Author.Rules.{rules}
 use Rattle.memory.specs.Words.{load}
 use Rattle.memory.proofs.load_word.Goals as goal
 

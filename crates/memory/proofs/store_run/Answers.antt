@@ -1,6 +1,5 @@
 -- Rests on `sets_part`: the card's area is lent as a part, and the run is stored in it.
 use Prim.Native.Nat.{◌*◌}
-use borrow.Author.Rules.{rules}
 use Rattle.memory.proofs.Parts.{sets_part}
 use Rattle.memory.proofs.Runs.{store_run_sets}
 use Rattle.memory.proofs.store_run.Goals as goal

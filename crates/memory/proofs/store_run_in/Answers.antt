@@ -1,7 +1,6 @@
 -- Rests on `sets_all_part`: the run is lent as a part, and all its words are new.
 use mathlib.Core.Path.{refl}
 use lib.ListN.{length}
-use borrow.Author.Rules.{rules}
 use Rattle.memory.proofs.Parts.{sets_all_part}
 use Rattle.memory.proofs.store_run_in.Goals as goal
 

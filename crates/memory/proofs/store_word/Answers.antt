@@ -1,6 +1,5 @@
 -- Rests on computing: the index is the definition's.
 use mathlib.Core.Path.{refl}
-use borrow.Author.Rules.{rules}
 use Rattle.memory.specs.Words.{store}
 use Rattle.memory.proofs.store_word.Goals as goal
 

@@ -1,6 +1,5 @@
 -- `merger::check_both` meets its contract: the second list is looked at where the first is allowed.
 use mathlib.Core.Path.{sym, ap, ◌∙◌}
-use borrow.Author.Rules.{rules}
 use Rattle.answer.proofs.InOrder.{first_passes, first_refuses}
 use Rattle.diff.specs.Reading.{check_diff}
 use Rattle.diff.specs.Merging.{merge_pages}

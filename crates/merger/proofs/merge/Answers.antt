@@ -24,7 +24,11 @@ returns-then-checked-ne0 c =
     let checked = c.check_both-checked.ensures in
     let comes = and_then (check_diff merge_pages first) (check_diff merge_pages second) in
     let refused : comes.number ≢ 0 = λ none. c.if-checked-ne0.true (ap (λ o. o.number) checked ∙ none) in
-    let faulty = merge_faulty first second (length buffer) refused in record { answer = rw faulty (c.answer_of.ensures ∙ ap answer_of checked); written = rw faulty (sym (written_none comes (merged_diff first second) buffer refused)) }
+    let faulty = merge_faulty first second (length buffer) refused in
+    record {
+      answer = rw faulty (c.answer_of.ensures ∙ ap answer_of checked);
+      written = rw faulty (sym (written_none comes (merged_diff first second) buffer refused));
+    }
 
 pub merge_pages-words-requires : goal.merge_pages-words-requires
 merge_pages-words-requires c =
@@ -42,9 +46,11 @@ returns-then-room-ne0 c =
     let checked = c.check_both-checked.ensures in
     let passed = sym (ap (λ o. o.number) checked) ∙ c.if-checked-ne0.false in
     let comes =
-    c.room_for-room.ensures ∙ merge_comes first second c.merge_pages-words.ensures refl passed (length buffer) in record { answer = c.answer_of-then-room-ne0.ensures ∙ ap answer_of comes; written = sym
-          (written_none (merge_diffs first second (length buffer)) (merged_diff first second) buffer
-          (λ none. c.if-room-ne0.true (ap (λ o. o.number) comes ∙ none))) }
+    c.room_for-room.ensures ∙ merge_comes first second c.merge_pages-words.ensures refl passed (length buffer) in
+    record {
+      answer = c.answer_of-then-room-ne0.ensures ∙ ap answer_of comes;
+      written = sym (written_none (merge_diffs first second (length buffer)) (merged_diff first second) buffer (λ none. c.if-room-ne0.true (ap (λ o. o.number) comes ∙ none)));
+    }
 
 pub slice_bounds-store_run_in-end : goal.slice_bounds-store_run_in-end
 slice_bounds-store_run_in-end c =
@@ -74,7 +80,10 @@ returns c =
     let accepted = sym (ap (λ o. o.number) c.room_for-room.ensures) ∙ c.if-room-ne0.false in
     let front = made_front made refl (within_limit list_too_long words most (omega arith) accepted) in
     let fits = within_room list_too_long words most (omega arith) accepted in
-    let all : words - 0 ≡ words = omega arith in record { answer = ap answer_of (sym (room_given list_too_long words most (omega arith) accepted) ∙ comes); written = (rw (all, front.1) at c.store_run_in.ensures)
+    let all : words - 0 ≡ words = omega arith in record {
+      answer = ap answer_of (sym (room_given list_too_long words most (omega arith) accepted) ∙ comes);
+      written = (rw (all, front.1) at c.store_run_in.ensures)
           ∙ sym
           (written_all (merge_diffs first second most) (merged_diff first second) args.buffer.now
-          (sym (ap (λ o. o.number) comes) ∙ accepted) (omega (arith, front.0))) }
+          (sym (ap (λ o. o.number) comes) ∙ accepted) (omega (arith, front.0)));
+    }

@@ -1,40 +1,45 @@
 -- `merger::merge_pages` meets its contract. The loop's invariant: what the pages before one bring stands in the list, and
 -- the rest of both diffs is ahead. The next word rises with each page.
-use Prim.Native.Nat.{◌-◌, ◌%◌}
-use mathlib.Core.Path.{◌≡◌, refl}
-use lib.ListN.{length}
+use Prim.Native.Nat.{◌%◌}
+use mathlib.Core.Path.{refl}
 use native.Mathlib.Omega.{arith}
 use borrow.Author.Rules.{rules}
 use Rattle.merger.proofs.Ahead.{ahead_first, ahead_inside}
-use Rattle.merger.proofs.Merging.{Merging, merging_first, next_page_on, page_of_first, page_of_second}
+use Rattle.merger.proofs.Merging.{merging_first, next_page_on, page_of_first, page_of_second}
 use Rattle.merger.proofs.Merging.{both_inside, next_rises, no_room, merging_next, merged-made}
 use Rattle.merger.proofs.merge_pages.Goals as goal
 
 pub next_word-next-requires : goal.next_word-next-requires
-next_word-next-requires c =
-    (
-      ahead_inside (ahead_first c.args.first.now c.requires.allowed.0),
-      ahead_inside (ahead_first c.args.second.now c.requires.allowed.1),
-    )
+next_word-next-requires c = (
+  ahead_inside (ahead_first c.args.first.now c.requires.allowed.0),
+  ahead_inside (ahead_first c.args.second.now c.requires.allowed.1),
+)
 
 pub loop-next-init : goal.loop-next-init
-loop-next-init c =
-    (
-      refl,
-      merging_first _ _ _ _ c.requires.allowed.0 c.requires.allowed.1 (omega (arith, c.requires.list_len)) c.next_word-next.ensures,
-    )
+loop-next-init c = (
+  refl,
+  merging_first _ _ _ _ c.requires.allowed.0 c.requires.allowed.1 (omega (arith, c.requires.list_len)) c.next_word-next.ensures,
+)
 
 pub apply_page-of_first-requires : goal.apply_page-of_first-requires
 apply_page-of_first-requires c =
     let merging = c.loop-next.invariant.1 in
     let more = c.loop-next-test.true in
-    record { page_bound = next_page_on merging more; prices_len = c.loop-next.invariant.0; by_index = (_, (_, page_of_first merging more)) }
+    record {
+      page_bound = next_page_on merging more;
+      prices_len = c.loop-next.invariant.0;
+      by_index = (_, (_, page_of_first merging more));
+    }
 
 pub apply_page-of_both-requires : goal.apply_page-of_both-requires
 apply_page-of_both-requires c =
     let merging = c.loop-next.invariant.1 in
     let more = c.loop-next-test.true in
-    record { page_bound = next_page_on merging more; prices_len = search rules; by_index = (_, (_, page_of_second merging more)) }
+    record {
+      page_bound = next_page_on merging more;
+      prices_len = search rules;
+      by_index = (_, (_, page_of_second merging more));
+    }
 
 pub returns-then-at-page_words-gt511 : goal.returns-then-at-page_words-gt511
 returns-then-at-page_words-gt511 c =
@@ -49,13 +54,17 @@ pub write_page-at-requires : goal.write_page-at-requires
 write_page-at-requires c =
     let merging = c.loop-next.invariant.1 in
     let prices = c.apply_page-of_both.new.prices in
-    let sized = c.page_words.ensures.counted in record { page_bound = next_page_on merging c.loop-next-test.true; prices_len = search rules; prices_in_bounds = omega (
-          arith,
-          sized (c.loop-next.next % 0x10000000) prices,
-          c.if-at-page_words-gt511.false,
-          merging.long,
-          c.requires.list_len,
-        ) }
+    let sized = c.page_words.ensures.counted in record {
+      page_bound = next_page_on merging c.loop-next-test.true;
+      prices_len = search rules;
+      prices_in_bounds = omega (
+        arith,
+        sized (c.loop-next.next % 0x10000000) prices,
+        c.if-at-page_words-gt511.false,
+        merging.long,
+        c.requires.list_len,
+      );
+    }
 
 pub next_word-next-requires-in-loop-next : goal.next_word-next-requires-in-loop-next
 next_word-next-requires-in-loop-next c =

@@ -1,13 +1,9 @@
 -- `merger::merge_pages` meets its contract. The loop's invariant: what the pages before one bring stands in the list, and
 -- the rest of both diffs is ahead. The next word rises with each page.
-use Prim.Native.Nat.{◌-◌, ◌%◌}
-use mathlib.Core.Path.{◌≡◌, refl}
+use Prim.Native.Nat.{◌-◌}
+use mathlib.Core.Path.{◌≡◌}
 use lib.ListN.{length}
-use native.Mathlib.Omega.{arith}
-use borrow.Author.Rules.{rules}
-use Rattle.merger.proofs.Ahead.{ahead_first, ahead_inside}
-use Rattle.merger.proofs.Merging.{Merging, merging_first, next_page_on, page_of_first, page_of_second}
-use Rattle.merger.proofs.Merging.{both_inside, next_rises, no_room, merging_next, merged-made}
+use Rattle.merger.proofs.Merging.{Merging}
 use Rattle.merger.proofs.merge_pages.Given as goal
 
 abbrev pub invariant-loop-next : goal.invariant-loop-next

@@ -6,4 +6,8 @@ use Rattle.protocol.proofs.demands.AnswersAsBefore.{answers_by_any_rule}
 use Rattle.protocol.proofs.calls_answer_as_before.Goals as goal
 
 pub returns : goal.returns
-returns c = record { answers_as_before = answers_by_any_rule next_home even_home next_names_live even_names_live; any_rule = answers_by_any_rule }
+returns c =
+    record {
+      answers_as_before = answers_by_any_rule next_home even_home next_names_live even_names_live;
+      any_rule = answers_by_any_rule;
+    }

@@ -6,4 +6,10 @@ use Rattle.protocol.proofs.Examples.Joins.{joins_hold}
 use Rattle.protocol.proofs.examples_hold.Goals as goal
 
 pub returns : goal.returns
-returns c = record { releases = releases_hold; refusals = refusals_hold; recoveries = recoveries_hold; joins = joins_hold }
+returns c =
+    record {
+      releases = releases_hold;
+      refusals = refusals_hold;
+      recoveries = recoveries_hold;
+      joins = joins_hold;
+    }

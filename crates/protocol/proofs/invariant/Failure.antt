@@ -7,7 +7,7 @@ use Rattle.directory.specs.declared.Directory.{Directory}
 use Rattle.directory.specs.Directory.{is_live, primary_of, secondary_of, next_live_of, backup_of}
 use Rattle.directory.proofs.Live.{next_live_kept}
 use Rattle.directory.proofs.Changes.{live_of_marked_dead, live_of_other}
-use Rattle.area.specs.Prelude.{load, record_stamp, record_done, tentative, committed, desk_size, load_number}
+use Rattle.area.specs.Prelude.{load, record_stamp, record_done, desk_size, load_number}
 use Rattle.protocol.specs.Release.{size_of, counts_at}
 use Rattle.protocol.specs.Failure.{failed_directory}
 use Rattle.protocol.specs.Recovery.{backup_before}

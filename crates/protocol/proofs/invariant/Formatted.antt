@@ -7,7 +7,7 @@ use Rattle.directory.specs.Directory.{next_live, is_live, primary_of, secondary_
 use Rattle.directory.specs.Directory.{formatted_primary, formatted_secondary, formatted_directory}
 use Rattle.directory.proofs.Live.{next_live_is_live, next_live_other}
 use Rattle.directory.proofs.Table.{table-length, table_read, read_past_end}
-use Rattle.area.specs.Prelude.{load, zeros, own_desk, desk_size, tentative, committed, own_stamp, record_stamp, record_done}
+use Rattle.area.specs.Prelude.{load, zeros, own_desk, desk_size, own_stamp, record_stamp, record_done}
 use Rattle.area.specs.Prelude.{own_release}
 use Rattle.area.proofs.Prelude.{length-zeros, get_or-zeros, load-zeros, load_run_zeros, number_zero}
 use Rattle.diff.proofs.Prices.{names_none}

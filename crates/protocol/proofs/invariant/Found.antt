@@ -3,7 +3,7 @@
 use Rattle.laws.proofs.Prelude.{ℕ, ◌≤◌, ◌<◌, ◌≡◌, refl, ◌∙◌, inl, inr, List, Bool, true, arith}
 use Rattle.directory.specs.declared.Directory.{Directory}
 use Rattle.directory.specs.Directory.{is_live, next_live_of, backup_of}
-use Rattle.area.specs.Prelude.{load, record_stamp, record_done, tentative, committed}
+use Rattle.area.specs.Prelude.{load, record_stamp, record_done}
 use Rattle.area.proofs.Prelude.{number_kept, In, record_region, stamp_in, done_in, desk_in}
 use Rattle.protocol.specs.Release.{size_of}
 use Rattle.protocol.specs.Recovery.{backup_before}

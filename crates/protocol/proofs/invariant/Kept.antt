@@ -2,7 +2,7 @@
 use Rattle.laws.proofs.Prelude.{ℕ, ◌+◌, ◌≤◌, ◌<◌, ◌≡◌, ◌∙◌, List, true, arith, length}
 use Rattle.directory.specs.declared.Directory.{Directory}
 use Rattle.directory.specs.Directory.{is_live}
-use Rattle.area.specs.Prelude.{load, page_at, tentative, committed, page_size}
+use Rattle.area.specs.Prelude.{load, page_at, page_size}
 use Rattle.area.proofs.Prelude.{SameOwn, own_kept, same_own_release, In, record_region}
 use Rattle.protocol.specs.Release.{size_of}
 use Rattle.protocol.specs.Book.{Book}

@@ -3,7 +3,7 @@ use Rattle.laws.proofs.Prelude.{ℕ, suc, ◌+◌, ◌*◌, ◌≤◌, ◌<◌, 
 use Rattle.laws.proofs.Prelude.{true, false, true≢false, arith, ℕ_discrete, length}
 use Rattle.directory.specs.declared.Directory.{Directory}
 use Rattle.directory.specs.Directory.{is_live}
-use Rattle.area.specs.Prelude.{AreaIn, load, page_at, tentative_half, committed_half, tentative, committed, desk_size}
+use Rattle.area.specs.Prelude.{AreaIn, load, page_at, tentative_half, committed_half, desk_size}
 use Rattle.area.specs.Prelude.{list_size, page_size, Release, own_release, steps_of}
 use Rattle.area.proofs.Prelude.{SameOwn, In, NotIn, open_region, record_region, list_region}
 use Rattle.diff.specs.Prices.{names, applied_at}

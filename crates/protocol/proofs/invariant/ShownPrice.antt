@@ -2,7 +2,7 @@
 use Rattle.laws.proofs.Prelude.{ℕ, zero, suc, ◌+◌, ◌*◌, ◌≤◌, ◌<◌, ◌≡◌, refl, sym, ◌∙◌, ◌⊎◌, inl, inr, List, Bool, true}
 use Rattle.laws.proofs.Prelude.{false, false≢true, arith, ℕ_discrete, dec_lt, length}
 use Rattle.directory.specs.declared.Directory.{Directory}
-use Rattle.area.specs.Prelude.{load, page_at, committed_half, page_size, Release, committed}
+use Rattle.area.specs.Prelude.{load, page_at, committed_half, page_size, Release}
 use Rattle.diff.specs.Prices.{names}
 use Rattle.diff.proofs.Prices.{names_none, applied_none}
 use Rattle.protocol.specs.Release.{size_of, counts_at}

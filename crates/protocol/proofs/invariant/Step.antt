@@ -3,7 +3,7 @@ use Rattle.laws.proofs.Prelude.{ℕ, suc, ◌+◌, ◌*◌, ◌≤◌, ◌<◌, 
 use Rattle.laws.proofs.Prelude.{false, false≢true, arith, ℕ_discrete, dec_lt, length}
 use Rattle.directory.specs.declared.Directory.{Directory}
 use Rattle.directory.specs.Directory.{is_live}
-use Rattle.area.specs.Prelude.{load, Release, own_release, tentative, committed, desk_size, records_start, pages_start}
+use Rattle.area.specs.Prelude.{load, Release, own_release, desk_size, records_start, pages_start}
 use Rattle.area.proofs.Prelude.{SameOwn, In, NotIn, record_region, list_region}
 use Rattle.diff.proofs.Prices.{names_none}
 use Rattle.protocol.specs.Release.{size_of, step_memory, close, counts_at, steps_in}

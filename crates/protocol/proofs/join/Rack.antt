@@ -6,7 +6,7 @@ use Rattle.directory.specs.declared.Directory.{Directory}
 use Rattle.directory.specs.Directory.{is_live, primary_of, secondary_of, next_live_of, backup_of, marked_live}
 use Rattle.directory.proofs.Live.{next_live_kept}
 use Rattle.directory.proofs.Changes.{live_of_marked_live, live_of_other}
-use Rattle.area.specs.Prelude.{load, own_release, tentative, committed, page_size}
+use Rattle.area.specs.Prelude.{load, own_release, page_size}
 use Rattle.area.proofs.Prelude.{SameOwn, own_words_kept}
 use Rattle.protocol.specs.Release.{size_of}
 use Rattle.protocol.specs.Join.{joined_memory}

@@ -5,8 +5,7 @@ use Rattle.laws.proofs.Prelude.{subst, arith, ℕ_discrete, length}
 use Rattle.directory.specs.declared.Directory.{Directory}
 use Rattle.directory.specs.Directory.{live_at, is_live, primary_of, next_live_of}
 use Rattle.directory.specs.NewHome.{HomeRule, Another, NamesLive}
-use Rattle.area.specs.Prelude.{load, record_stamp, record_done, pages_start, page_size, under_way, load_number, tentative}
-use Rattle.area.specs.Prelude.{committed}
+use Rattle.area.specs.Prelude.{load, record_stamp, record_done, pages_start, page_size, under_way, load_number}
 use Rattle.area.proofs.Prelude.{recorded_is, under_way_yes, under_way_no, In, record_region, stamp_in, done_in, desk_in}
 use Rattle.area.proofs.Prelude.{number_kept}
 use Rattle.protocol.specs.Release.{size_of}

@@ -4,7 +4,7 @@ use Rattle.directory.specs.declared.Directory.{Directory}
 use Rattle.directory.specs.declared.Status.TheVariants.{Running}
 use Rattle.directory.specs.Directory.{directory_of, is_live, primary_of, secondary_of, backup_of}
 use Rattle.directory.specs.NewHome.{HomeRule, NamesLive}
-use Rattle.area.specs.Prelude.{load, open_flag, tentative, committed}
+use Rattle.area.specs.Prelude.{load, open_flag}
 use Rattle.area.proofs.Prelude.{own_words_kept}
 use Rattle.diff.proofs.Prices.{names_none}
 use Rattle.protocol.specs.Release.{size_of}

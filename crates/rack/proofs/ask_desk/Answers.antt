@@ -13,7 +13,11 @@ load_desk-requires c =
     let reached = rw c.header-header.ensures at c.desk_question-first.ensures in
     let passed = desk_facts a.directory a.memory.now a.card reached c.if-first-eq0.true in
     let fit = valid_rack passed.0.fits in
-    record { memory_of = memory_of fit.within; card_lt_cards = (passed.1, fit.next_below a.card); desk_len = search rules }
+    record {
+      memory_of = memory_of fit.within;
+      card_lt_cards = (passed.1, fit.next_below a.card);
+      desk_len = search rules;
+    }
 
 pub returns-then-first-eq0 : goal.returns-then-first-eq0
 returns-then-first-eq0 c =

@@ -1,5 +1,4 @@
 -- Rests on the two cases of a status.
-use borrow.Author.Rules.{rules}
 use Rattle.protocol.specs.Recovery.{awaited_card}
 use Rattle.rack.proofs.awaited_card.Goals as goal
 

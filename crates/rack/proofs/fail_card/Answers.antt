@@ -1,6 +1,5 @@
 -- Rests on its checks: a refused failure leaves the directory, an accepted one marks the card dead.
 use mathlib.Core.Path.{refl}
-use borrow.Author.Rules.{rules}
 use Rattle.rack.proofs.Results.{failure-refused, failure-accepted}
 use Rattle.rack.proofs.fail_card.Goals as goal
 

@@ -1,7 +1,6 @@
 -- Rests on its checks: a refused fetch leaves the buffer, an accepted one finds its page and a primary that is a card.
 use mathlib.Core.Path.{refl}
 use native.Mathlib.Omega.{arith}
-use borrow.Author.Rules.{rules}
 use Rattle.memory.proofs.Index.{area_in}
 use Rattle.directory.specs.Directory.{directory_by}
 use Rattle.protocol.specs.Fetch.{committed_page}
@@ -51,7 +50,11 @@ load_committed-requires c =
     let fit = valid_rack passed.runs.fits in
     let primary = area_in _ (fit.primary_below a.page passed.page_below) fit.within.whole in
     let few = fit.within.pages_most in
-    rw c.area_size-size.ensures record { area_in = omega arith; page_bound = (omega arith, omega arith); buffer_len = passed.room_is }
+    rw c.area_size-size.ensures record {
+      area_in = omega arith;
+      page_bound = (omega arith, omega arith);
+      buffer_len = passed.room_is;
+    }
 
 pub returns : goal.returns
 unfolding committed_page

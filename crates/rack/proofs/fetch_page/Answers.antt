@@ -1,6 +1,5 @@
 -- Rests on `fetch_lent`; a fetch keeps the directory.
 use mathlib.Core.Path.{sym}
-use borrow.Author.Rules.{rules}
 use Rattle.rack.proofs.Results.{fetch_keeps}
 use Rattle.rack.proofs.fetch_page.Goals as goal
 
@@ -8,4 +7,8 @@ pub returns : goal.returns
 returns c =
     let a = c.args in
     let done = rw c.header-header.ensures at c.fetch_lent-answer.ensures in
-    record { answer = done.answer; directory = sym (fetch_keeps a.directory a.memory.now a.page a.buffer.now); buffer = done.buffer }
+    record {
+      answer = done.answer;
+      directory = sym (fetch_keeps a.directory a.memory.now a.page a.buffer.now);
+      buffer = done.buffer;
+    }

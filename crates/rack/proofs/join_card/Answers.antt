@@ -1,6 +1,6 @@
 -- Rests on its checks: an accepted join finds a dead card, and no release open.
 use mathlib.Core.Path.{◌≡◌, refl}
-use borrow.Author.Rules.{rules, length_unmapped}
+use borrow.Author.Rules.{rules}
 use lib.ListN.{length}
 use Rattle.recovery.proofs.Kept.{some_live}
 use Rattle.rack.proofs.ValidRack.{valid_rack, rack_in}
@@ -23,11 +23,19 @@ join_memory-requires c =
     let reached = rw c.header-header.ensures at c.join-first.ensures in
     let passed = join_facts d a.memory.now a.card reached c.if-first-ne0.false in
     let fit = valid_rack passed.runs.fits in
-    record { rack_in = rack_in d a.memory.now fit marks; some_live = some_live fit.beside; joining_lt_cards = passed.below }
+    record {
+      rack_in = rack_in d a.memory.now fit marks;
+      some_live = some_live fit.beside;
+      joining_lt_cards = passed.below;
+    }
 
 pub returns : goal.returns
 returns c =
     let a = c.args in
     let reached = rw c.header-header.ensures at c.join-first.ensures in
     rw (join-accepted a.directory a.memory.now a.card reached c.if-first-ne0.false)
-    record { answer = c.answer_of-answer.ensures; directory = c.mark_live-joined.ensures; memory = c.join_memory.ensures }
+    record {
+      answer = c.answer_of-answer.ensures;
+      directory = c.mark_live-joined.ensures;
+      memory = c.join_memory.ensures;
+    }

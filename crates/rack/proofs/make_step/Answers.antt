@@ -1,6 +1,5 @@
 -- Rests on `step_lent`; a step keeps the directory.
 use mathlib.Core.Path.{sym}
-use borrow.Author.Rules.{rules}
 use Rattle.rack.proofs.Results.{step_keeps}
 use Rattle.rack.proofs.make_step.Goals as goal
 
@@ -8,4 +7,8 @@ pub returns : goal.returns
 returns c =
     let a = c.args in
     let done = rw c.header-header.ensures at c.step_lent-answer.ensures in
-    record { answer = done.answer; directory = sym (step_keeps a.directory a.memory.now a.card); memory = done.memory }
+    record {
+      answer = done.answer;
+      directory = sym (step_keeps a.directory a.memory.now a.card);
+      memory = done.memory;
+    }

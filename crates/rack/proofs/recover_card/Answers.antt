@@ -1,7 +1,7 @@
 -- Rests on its checks: an accepted recovery finds two live cards, homes that are cards and releases that read well.
 use mathlib.Core.Path.{◌≡◌, refl, ap}
 use native.Mathlib.Omega.{arith}
-use borrow.Author.Rules.{rules, length_unmapped}
+use borrow.Author.Rules.{rules}
 use lib.ListN.{length}
 use Rattle.answer.specs.declared.Answer.TheVariants.{Given}
 use Rattle.rack.proofs.ValidRack.{valid_rack, rack_in, homes_in}
@@ -32,7 +32,15 @@ recover_memory-recovered-requires c =
     let dead = rw (← failed) at (fit.awaited passed.1) in
     let below = dead.0 in
     let eight = fit.within.cards_most in
-    let homes = homes_in d m fit marks primaries secondaries in record { rack_in = rack_in d m fit marks; homes_of = homes; other_live = fit.beside; failed_in = (omega arith, dead.1); desk_len = search rules; releases_in = record { good = fit.good } }
+    let homes = homes_in d m fit marks primaries secondaries in
+    record {
+      rack_in = rack_in d m fit marks;
+      homes_of = homes;
+      other_live = fit.beside;
+      failed_in = (omega arith, dead.1);
+      desk_len = search rules;
+      releases_in = record { good = fit.good };
+    }
 
 pub returns : goal.returns
 returns c =

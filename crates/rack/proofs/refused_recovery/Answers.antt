@@ -1,6 +1,5 @@
 -- Rests on the words of no desk, which are 0.
 use mathlib.Core.Path.{refl}
-use borrow.Author.Rules.{rules}
 use Rattle.memory.specs.Words.{zeros}
 use Rattle.rack.proofs.refused_recovery.Goals as goal
 

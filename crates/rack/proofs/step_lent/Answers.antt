@@ -1,7 +1,7 @@
 -- Rests on its checks: an accepted step finds homes that are cards and a release that reads well.
 use Prim.Native.Nat.{◌<◌}
 use mathlib.Core.Path.{◌≡◌, refl}
-use borrow.Author.Rules.{rules, length_unmapped}
+use borrow.Author.Rules.{rules}
 use lib.ListN.{length}
 use Rattle.directory.specs.Directory.{directory_by}
 use Rattle.protocol.specs.Release.{size_of}
@@ -31,7 +31,12 @@ step_release-requires c =
     let own = card_in d.live (size_of d) marks within.cards_most within.whole passed.below in
     let backup = card_in d.live (size_of d) marks within.cards_most within.whole below in
     let homes = homes_in d m fit marks c.requires.0 c.requires.1 in
-    record { homes_in = homes; card_in = own; card_in_2 = backup; good_release = fit.good a.card passed.below passed.is_open }
+    record {
+      homes_in = homes;
+      card_in = own;
+      card_in_2 = backup;
+      good_release = fit.good a.card passed.below passed.is_open;
+    }
 
 pub returns : goal.returns
 returns c =

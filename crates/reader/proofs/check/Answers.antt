@@ -3,7 +3,6 @@ use Prim.Native.Nat.{ℕ, ◌<◌, ◌≤◌}
 use mathlib.Core.Path.{◌≡◌, sym, ◌∙◌}
 use native.Mathlib.Omega.{arith}
 use borrow.Author.Tests.{lt-ltb, le-ltb}
-use borrow.Author.Rules.{rules}
 use Rattle.answer.specs.Outcome.{given, refused_at, faulty_list}
 use Rattle.diff.specs.declared.Verdict.TheVariants.{Good}
 use Rattle.diff.specs.Reading.{whole_diff, check_diff}

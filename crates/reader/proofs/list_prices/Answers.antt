@@ -1,14 +1,12 @@
 -- Rests on `Listing`: to write what is left of the prices writes what all of them write.
-use Prim.Native.Nat.{◌-◌}
-use mathlib.Core.Path.{◌≡◌, sym, ◌∙◌}
+use mathlib.Core.Path.{sym, ◌∙◌}
 use native.Mathlib.Omega.{arith}
-use lib.ListN.{length}
 use borrow.Author.Rules.{rules}
-use Rattle.diff.specs.Prices.{label_of, prices_of}
+use Rattle.diff.specs.Prices.{label_of}
 use Rattle.reader.specs.Listed.{price_of}
-use Rattle.reader.proofs.Walking.{Reached, reached_next, fewer_left}
-use Rattle.reader.proofs.Listing.{Listing, listing_first, listing_next, listing_end}
-use Rattle.reader.proofs.Listing.{count_left, count-first, count_next, count_end}
+use Rattle.reader.proofs.Walking.{reached_next, fewer_left}
+use Rattle.reader.proofs.Listing.{listing_first, listing_next, listing_end}
+use Rattle.reader.proofs.Listing.{count-first, count_next, count_end}
 use Rattle.reader.proofs.list_prices.Goals as goal
 
 pub loop-at-init : goal.loop-at-init
@@ -21,12 +19,21 @@ put_due-requires c =
     let at = c.loop-at in
     let reached = c.loop-at.invariant.0 in
     let labels = c.loop-at.invariant.1.same_length in
-    let prices = c.loop-at.invariant.2.same_length in record { well_formed = record { within = omega arith; one = omega arith; few = omega arith; named = omega arith }; prices_in_bounds = (omega arith, omega arith); next_bound = omega arith }
+    let prices = c.loop-at.invariant.2.same_length in
+    record {
+      well_formed = record { within = omega arith; one = omega arith; few = omega arith; named = omega arith };
+      prices_in_bounds = (omega arith, omega arith);
+      next_bound = omega arith;
+    }
 
 pub next_word-at-requires : goal.next_word-at-requires
 next_word-at-requires c =
     let at = c.loop-at in
-    let reached = c.loop-at.invariant.0 in record { well_formed = record { within = omega arith; one = omega arith; few = omega arith; named = omega arith }; index_in_bounds = search rules }
+    let reached = c.loop-at.invariant.0 in
+    record {
+      well_formed = record { within = omega arith; one = omega arith; few = omega arith; named = omega arith };
+      index_in_bounds = search rules;
+    }
 
 pub loop-at-smaller : goal.loop-at-smaller
 loop-at-smaller c =
@@ -49,4 +56,9 @@ loop-at-preserved c =
 pub returns : goal.returns
 returns c =
     let at = c.loop-at in
-    let end = c.loop-at-test.false in record { count = sym (count_end _ _ at.at end) ∙ at.invariant.3; labels = listing_end label_of _ _ _ at.invariant.1 end; prices = listing_end price_of _ _ _ at.invariant.2 end }
+    let end = c.loop-at-test.false in
+    record {
+      count = sym (count_end _ _ at.at end) ∙ at.invariant.3;
+      labels = listing_end label_of _ _ _ at.invariant.1 end;
+      prices = listing_end price_of _ _ _ at.invariant.2 end;
+    }

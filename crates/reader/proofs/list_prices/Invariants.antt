@@ -1,14 +1,12 @@
 -- Rests on `Listing`: to write what is left of the prices writes what all of them write.
 use Prim.Native.Nat.{◌-◌}
-use mathlib.Core.Path.{◌≡◌, sym, ◌∙◌}
-use native.Mathlib.Omega.{arith}
+use mathlib.Core.Path.{◌≡◌}
 use lib.ListN.{length}
-use borrow.Author.Rules.{rules}
 use Rattle.diff.specs.Prices.{label_of, prices_of}
 use Rattle.reader.specs.Listed.{price_of}
-use Rattle.reader.proofs.Walking.{Reached, reached_next, fewer_left}
-use Rattle.reader.proofs.Listing.{Listing, listing_first, listing_next, listing_end}
-use Rattle.reader.proofs.Listing.{count_left, count-first, count_next, count_end}
+use Rattle.reader.proofs.Walking.{Reached}
+use Rattle.reader.proofs.Listing.{Listing}
+use Rattle.reader.proofs.Listing.{count_left}
 use Rattle.reader.proofs.list_prices.Given as goal
 
 abbrev pub invariant-loop-at : goal.invariant-loop-at

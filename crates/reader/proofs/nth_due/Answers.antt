@@ -1,6 +1,5 @@
 -- Rests on the test that the list has the price's word.
 use borrow.Author.Tests.{lt-ltb, le-ltb}
-use borrow.Author.Rules.{rules}
 use Rattle.reader.proofs.nth_due.Goals as goal
 
 pub returns-then-at-list : goal.returns-then-at-list

@@ -1,13 +1,8 @@
 -- `reader::nth_price` meets its contract. The loop's invariant: the price that is asked for is the one numbered
 -- `left` of those that are left.
-use Prim.Native.Nat.{◌-◌}
-use mathlib.Core.Path.{◌≡◌, refl, sym, ◌∙◌}
+use mathlib.Core.Path.{refl, sym, ◌∙◌}
 use native.Mathlib.Omega.{arith}
-use lib.ListN.{length}
-use borrow.Author.Rules.{rules}
-use Rattle.diff.specs.Prices.{prices_of}
-use Rattle.reader.specs.Found.{nth_price}
-use Rattle.reader.proofs.Walking.{Reached, prices_left, left_first, run_reached, run_fewer}
+use Rattle.reader.proofs.Walking.{left_first, run_reached, run_fewer}
 use Rattle.reader.proofs.Runs.{nth_passed, nth_here, nth_end}
 use Rattle.reader.proofs.nth_price.Goals as goal
 
@@ -16,7 +11,11 @@ loop-at-init c = rw (c.first_word-at.ensures, left_first) (omega arith, refl)
 
 pub nth_due-requires : goal.nth_due-requires
 nth_due-requires c =
-    let reached = c.loop-at.invariant.0 in record { well_formed = record { within = omega arith; one = omega arith; few = omega arith; named = omega arith }; n_lt_due = (omega arith, omega arith) }
+    let reached = c.loop-at.invariant.0 in
+    record {
+      well_formed = record { within = omega arith; one = omega arith; few = omega arith; named = omega arith };
+      n_lt_due = (omega arith, omega arith);
+    }
 
 pub returns-then-left-due : goal.returns-then-left-due
 returns-then-left-due c =
@@ -26,7 +25,12 @@ returns-then-left-due c =
 
 pub next_run-at-requires : goal.next_run-at-requires
 next_run-at-requires c =
-    let reached = c.loop-at.invariant.0 in record { well_formed = record { within = omega arith; one = omega arith; few = omega arith; named = omega arith }; index_in_bounds = (omega arith, omega arith); prices_le_index = omega arith }
+    let reached = c.loop-at.invariant.0 in
+    record {
+      well_formed = record { within = omega arith; one = omega arith; few = omega arith; named = omega arith };
+      index_in_bounds = (omega arith, omega arith);
+      prices_le_index = omega arith;
+    }
 
 pub loop-at-smaller : goal.loop-at-smaller
 loop-at-smaller c =

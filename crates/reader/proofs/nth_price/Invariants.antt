@@ -1,14 +1,11 @@
 -- `reader::nth_price` meets its contract. The loop's invariant: the price that is asked for is the one numbered
 -- `left` of those that are left.
 use Prim.Native.Nat.{◌-◌}
-use mathlib.Core.Path.{◌≡◌, refl, sym, ◌∙◌}
-use native.Mathlib.Omega.{arith}
+use mathlib.Core.Path.{◌≡◌}
 use lib.ListN.{length}
-use borrow.Author.Rules.{rules}
 use Rattle.diff.specs.Prices.{prices_of}
 use Rattle.reader.specs.Found.{nth_price}
-use Rattle.reader.proofs.Walking.{Reached, prices_left, left_first, run_reached, run_fewer}
-use Rattle.reader.proofs.Runs.{nth_passed, nth_here, nth_end}
+use Rattle.reader.proofs.Walking.{Reached, prices_left}
 use Rattle.reader.proofs.nth_price.Given as goal
 
 abbrev pub invariant-loop-at : goal.invariant-loop-at

@@ -1,6 +1,5 @@
 -- `reader::page_word` meets its contract: each return is the definition's case, by the tests that led to it.
 use borrow.Author.Tests.{eq-eqb, le-leb, le-ltb, lt-leb, lt-ltb, ne_eqb}
-use borrow.Author.Rules.{rules}
 use Rattle.reader.proofs.page_word.Goals as goal
 
 pub returns-then-s-eq0 : goal.returns-then-s-eq0

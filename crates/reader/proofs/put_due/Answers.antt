@@ -1,5 +1,4 @@
 -- Rests on its test: a price is due, or none is.
-use borrow.Author.Rules.{rules}
 use mathlib.Core.Path.{refl}
 use borrow.Author.Tests.{lt-ltb, le-ltb}
 use Rattle.reader.proofs.put_due.Goals as goal

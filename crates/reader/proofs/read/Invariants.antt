@@ -1,14 +1,10 @@
 -- `reader::read` meets its contract. The loop's invariant: the words that are left, read from here, give the verdict
 -- on the whole list.
 use Prim.Native.Nat.{◌≤◌, ◌-◌, min}
-use mathlib.Core.Path.{◌≡◌, sym, ◌∙◌}
-use native.Mathlib.Omega.{arith}
+use mathlib.Core.Path.{◌≡◌}
 use lib.ListN.{length, drop}
-use borrow.Author.Rules.{rules}
 use Rattle.diff.specs.Reading.{read_from, read_diff}
-use Rattle.reader.proofs.Keeping.{Idle, word_passed, passed_well_formed, passed_idle}
-use Rattle.reader.proofs.Turns.{read_turn}
-use Rattle.reader.proofs.Runs.{read_run, read_run_cut, read_over}
+use Rattle.reader.proofs.Keeping.{Idle}
 use Rattle.reader.proofs.read.Given as goal
 
 abbrev pub invariant-loop-index : goal.invariant-loop-index

@@ -1,6 +1,5 @@
 -- `reader::read_word` meets its contract: the kind decides which of its callees' definitions applies.
 use borrow.Author.Tests.{le-ltb, lt-ltb, ne_eqb}
-use borrow.Author.Rules.{rules}
 use Rattle.diff.specs.Reading.{word_step}
 use Rattle.reader.proofs.read_word.Goals as goal
 

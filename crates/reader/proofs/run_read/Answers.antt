@@ -1,6 +1,5 @@
 -- Rests on what is due less itself: nothing.
 use native.Mathlib.Nat.{sub_self}
-use borrow.Author.Rules.{rules}
 use Rattle.reader.proofs.run_read.Goals as goal
 
 pub returns : goal.returns

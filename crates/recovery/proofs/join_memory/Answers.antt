@@ -1,7 +1,6 @@
 -- Rests on `joined_by_marks`: the records that are due are held by the card that joins.
 use mathlib.Core.Path.{◌∙◌}
 use native.Mathlib.Omega.{arith}
-use borrow.Author.Rules.{rules}
 use Rattle.recovery.proofs.Kept.{rack_kept}
 use Rattle.recovery.proofs.Marks.{marked_rack, marked_some, joined_by_marks}
 use Rattle.recovery.proofs.join_memory.Goals as goal
@@ -13,7 +12,11 @@ write_own_records-requires c =
     let x = c.args.joining in
     let rack = rack_kept pre.rack_in (c.memory-2-1.given ∙ c.memory-1.given) in
     rw c.mark_live-after.ensures
-    record { rack_in = marked_rack d x rack; some_live = marked_some d x pre.some_live (omega (arith, rack.marks, rack.eight)); live_len = rack.marks }
+    record {
+      rack_in = marked_rack d x rack;
+      some_live = marked_some d x pre.some_live (omega (arith, rack.marks, rack.eight));
+      live_len = rack.marks;
+    }
 
 pub returns : goal.returns
 returns c =

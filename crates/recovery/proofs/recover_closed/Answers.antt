@@ -1,6 +1,5 @@
 -- Rests on what its parts ensure, each of them a part of the definition.
 use mathlib.Core.Path.{◌∙◌}
-use borrow.Author.Rules.{rules}
 use Rattle.protocol.specs.Recovery.{recovered_directory}
 use Rattle.release.proofs.Callers.{homes_kept}
 use Rattle.recovery.specs.Closing.{recovered_closed}
@@ -11,13 +10,19 @@ pub load_record-number-requires : goal.load_record-number-requires
 load_record-number-requires c =
     let pre = c.requires in
     rw (c.area_size-size.ensures, c.next_live-holder.ensures)
-    record { pages_start_le_size = next_in pre.rack_in (some_live pre.other_live) c.args.failed; card_bound = (pre.failed_in.0, pre.desk_len) }
+    record {
+      pages_start_le_size = next_in pre.rack_in (some_live pre.other_live) c.args.failed;
+      card_bound = (pre.failed_in.0, pre.desk_len);
+    }
 
 pub under_way-forward-requires : goal.under_way-forward-requires
 under_way-forward-requires c =
     let pre = c.requires in
     rw (c.area_size-size.ensures, c.next_live-holder.ensures)
-    record { pages_start_le_size = next_in pre.rack_in (some_live pre.other_live) c.args.failed; card_bound = pre.failed_in.0 }
+    record {
+      pages_start_le_size = next_in pre.rack_in (some_live pre.other_live) c.args.failed;
+      card_bound = pre.failed_in.0;
+    }
 
 pub restore_pages-requires : goal.restore_pages-requires
 restore_pages-requires c =
@@ -27,13 +32,22 @@ pub move_homes-moved-requires : goal.move_homes-moved-requires
 move_homes-moved-requires c =
     let pre = c.requires in
     let same = c.memory-1.given in
-    record { rack_in = rack_kept pre.rack_in same; homes_of = homes_kept pre.homes_of same; other_live = pre.other_live; failed_in = pre.failed_in }
+    record {
+      rack_in = rack_kept pre.rack_in same;
+      homes_of = homes_kept pre.homes_of same;
+      other_live = pre.other_live;
+      failed_in = pre.failed_in;
+    }
 
 pub write_records-requires : goal.write_records-requires
 write_records-requires c =
     let pre = c.requires in
     let same = c.memory-2-1.given ∙ c.memory-1.given in
-    record { rack_in = rack_kept pre.rack_in same; some_live = some_live pre.other_live; failed_bound = (pre.failed_in.0, c.desk-1.given ∙ pre.desk_len) }
+    record {
+      rack_in = rack_kept pre.rack_in same;
+      some_live = some_live pre.other_live;
+      failed_bound = (pre.failed_in.0, c.desk-1.given ∙ pre.desk_len);
+    }
 
 pub shape_of-desk : goal.shape_of-desk
 shape_of-desk c =
@@ -45,4 +59,10 @@ returns c =
     let says = rw (c.area_size-size.ensures, c.next_live-holder.ensures) at c.load_record-number.ensures in
     let forward = rw (c.area_size-size.ensures, c.next_live-holder.ensures) at c.under_way-forward.ensures in
     let pages = rw (forward, c.header-header.ensures) at c.restore_pages.ensures in
-    let homes = rw pages at c.move_homes-moved.ensures.memory in record { directory = rw c.move_homes-moved.ensures.homes at c.running-recovered.ensures; number = says.number; desk = says.desk; memory = rw (homes, says.number, says.desk) at c.write_records.ensures }
+    let homes = rw pages at c.move_homes-moved.ensures.memory in
+    record {
+      directory = rw c.move_homes-moved.ensures.homes at c.running-recovered.ensures;
+      number = says.number;
+      desk = says.desk;
+      memory = rw (homes, says.number, says.desk) at c.write_records.ensures;
+    }

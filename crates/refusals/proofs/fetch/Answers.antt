@@ -1,6 +1,5 @@
 -- Rests on the order of checks: those of the page, then that of the buffer.
 use mathlib.Core.Path.{refl, sym, ◌∙◌}
-use borrow.Author.Rules.{rules}
 use Rattle.checks.proofs.Order.{refused-first, passed_first}
 use Rattle.refusals.proofs.fetch.Goals as goal
 

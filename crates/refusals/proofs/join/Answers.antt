@@ -1,6 +1,5 @@
 -- Rests on the order of checks: those for a card, then its own tests in the same order.
 use mathlib.Core.Path.{refl, sym, ◌∙◌}
-use borrow.Author.Rules.{rules}
 use Rattle.directory.specs.Directory.{directory_by}
 use Rattle.checks.proofs.Order.{refused-first, passed_first, first_refuses, first_passes}
 use Rattle.checks.proofs.Passing.{memory_of, card_within}

@@ -1,7 +1,6 @@
 -- Rests on its tests, the definition's in the same order; a list that reads well has at most 512 words.
 use mathlib.Core.Path.{sym, ◌∙◌}
 use native.Mathlib.Omega.{arith}
-use borrow.Author.Rules.{rules}
 use borrow.Author.Tests.{lt-ltb, le-ltb}
 use Rattle.diff.proofs.OnlyDiff.{allowed_few}
 use Rattle.checks.proofs.Order.{first_refuses, first_passes, last_passes}

@@ -1,7 +1,6 @@
 -- Rests on its tests, which are the definition's in the same order.
 use mathlib.Core.Path.{sym, ◌∙◌}
 use native.Mathlib.Omega.{arith}
-use borrow.Author.Rules.{rules}
 use borrow.Author.Tests.{lt-ltb, le-ltb, le-leb, lt-leb}
 use Rattle.memory.proofs.Index.{area_in}
 use Rattle.area.specs.Releases.{own_release}
@@ -14,7 +13,10 @@ returns-then-is_open_on c =
 
 pub load_number-stamp-requires : goal.load_number-stamp-requires
 load_number-stamp-requires c =
-    rw c.area_size-size.ensures record { area_in = area_in _ c.requires.card_lt_cards c.requires.memory_of.2; number_size_bound = omega arith }
+    rw c.area_size-size.ensures record {
+      area_in = area_in _ c.requires.card_lt_cards c.requires.memory_of.2;
+      number_size_bound = omega arith;
+    }
 
 pub returns-then-number-stamp : goal.returns-then-number-stamp
 unfolding own_release

@@ -1,6 +1,5 @@
 -- Rests on the order of checks: those for a live card, then those for number and list.
 use mathlib.Core.Path.{refl, sym, ◌∙◌}
-use borrow.Author.Rules.{rules}
 use Rattle.directory.specs.Directory.{directory_by}
 use Rattle.checks.proofs.Order.{refused-first, passed_first}
 use Rattle.checks.proofs.Passing.{memory_of, live_card_within}

@@ -1,6 +1,5 @@
 -- Rests on the order of checks: those of a running rack, then its own tests in the same order.
 use mathlib.Core.Path.{refl, sym, ◌∙◌}
-use borrow.Author.Rules.{rules}
 use borrow.Author.Tests.{lt-ltb, le-ltb, le-leb, lt-leb}
 use Rattle.directory.specs.Directory.{directory_by}
 use Rattle.checks.proofs.Order.{refused-first, passed_first, first_refuses, first_passes, last_passes}

@@ -1,5 +1,4 @@
 -- Rests on `close_stores`: the stores and clears in this order are the close.
-use borrow.Author.Rules.{rules}
 use Rattle.release.proofs.Ends.{close_stores}
 use Rattle.release.proofs.close_release.Goals as goal
 

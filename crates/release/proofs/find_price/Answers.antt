@@ -1,5 +1,4 @@
 -- Rests on `found_price` and `found_nothing`.
-use borrow.Author.Rules.{rules}
 use native.Mathlib.Omega.{arith}
 use Rattle.release.proofs.Prices.{found_price, found_nothing}
 use Rattle.release.proofs.find_price.Goals as goal

@@ -1,6 +1,5 @@
 -- Rests on its test: before or after the steps that store tentative prices.
 use mathlib.Core.Path.{sym}
-use borrow.Author.Rules.{rules}
 use Rattle.release.proofs.Halves.{half_before, half_after}
 use Rattle.release.proofs.half_next.Goals as goal
 

@@ -1,6 +1,5 @@
 -- Rests on the test: even numbers go to the secondary, odd ones to the primary.
 use borrow.Author.Tests.{eq-eqb, ne_eqb}
-use borrow.Author.Rules.{rules}
 use Rattle.release.proofs.home_at.Goals as goal
 
 pub returns-then-at-eq0 : goal.returns-then-at-eq0

@@ -1,6 +1,5 @@
 -- Rests on its test, and on `past_record`: a step that stores a price, past the tentative ones, is past the record.
 use mathlib.Core.Path.{sym}
-use borrow.Author.Rules.{rules}
 use Rattle.release.proofs.Halves.{past_record, number_before, number_after}
 use Rattle.release.proofs.number_next.Goals as goal
 

@@ -1,5 +1,4 @@
 -- Rests on `open_stores`: the five stores in this order are the opening.
-use borrow.Author.Rules.{rules}
 use Rattle.release.proofs.Ends.{open_stores}
 use Rattle.release.proofs.open_release.Goals as goal
 

@@ -1,7 +1,6 @@
 -- Rests on `step_counted` and `step-closed`: a step is the close once 4k + 10 are made, else a store that is counted.
 use mathlib.Core.Path.{refl, sym, ◌∙◌}
 use native.Mathlib.Omega.{arith}
-use borrow.Author.Rules.{rules}
 use Rattle.directory.specs.Directory.{directory_by}
 use Rattle.release.proofs.Stores.{step_counted, step-closed}
 use Rattle.release.proofs.other_step.Goals as goal
@@ -30,7 +29,13 @@ pub step_word-requires : goal.step_word-requires
 step_word-requires c =
     let pre = c.requires in
     let counted = c.requires.pages_bound.1 in
-    let steps = c.requires.steps_value in record { card_in = pre.card_in; card_in_2 = pre.card_in_2; pages_bound = (pre.pages_bound.0, counted.prices, counted.few); steps_bound = (omega (arith, counted.under, steps.0), steps.1) }
+    let steps = c.requires.steps_value in
+    record {
+      card_in = pre.card_in;
+      card_in_2 = pre.card_in_2;
+      pages_bound = (pre.pages_bound.0, counted.prices, counted.few);
+      steps_bound = (omega (arith, counted.under, steps.0), steps.1);
+    }
 
 pub count_steps-requires : goal.count_steps-requires
 count_steps-requires c =

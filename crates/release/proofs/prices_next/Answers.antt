@@ -1,7 +1,6 @@
 -- Rests on its tests: before, between and after the steps that store tentative prices.
 use mathlib.Core.Path.{sym}
 use native.Mathlib.Omega.{arith}
-use borrow.Author.Rules.{rules}
 use Rattle.release.proofs.Halves.{prices_before, prices_between, prices_after_lem}
 use Rattle.release.proofs.prices_next.Goals as goal
 

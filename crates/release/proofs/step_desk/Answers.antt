@@ -1,5 +1,4 @@
 -- Rests on `desk_word`: word j of the desk is word j from where the area has the desk.
-use borrow.Author.Rules.{rules}
 use Rattle.area.specs.Releases.{open_release}
 use Rattle.release.proofs.Stores.{desk_word}
 use Rattle.release.proofs.step_desk.Goals as goal

@@ -1,5 +1,4 @@
 -- Rests on what `load_number` and `write_number` ensure.
-use borrow.Author.Rules.{rules}
 use Rattle.area.specs.Releases.{open_release}
 use Rattle.release.proofs.step_number.Goals as goal
 

@@ -1,5 +1,4 @@
 -- Rests on `home_in`: both homes of a page are cards.
-use borrow.Author.Rules.{rules}
 use native.Mathlib.Omega.{arith}
 use Rattle.release.proofs.Stores.{home_in}
 use Rattle.release.proofs.step_price.Goals as goal
@@ -13,7 +12,10 @@ pub write_price-requires : goal.write_price-requires
 write_price-requires c =
     let pre = c.requires in
     rw (c.area_size-size.ensures, c.home_at-home.ensures)
-    record { card_in = home_in pre.homes_in c.args.at _ pre.page_lt_pages.0; page_bound = (omega arith, omega arith, omega arith) }
+    record {
+      card_in = home_in pre.homes_in c.args.at _ pre.page_lt_pages.0;
+      page_bound = (omega arith, omega arith, omega arith);
+    }
 
 pub returns : goal.returns
 returns c =

@@ -1,7 +1,6 @@
 -- Rests on `price_due_lem`: the price found by its number is the one that the step stores, and on `step_counted`.
 use Prim.Native.Nat.{◌/◌}
 use native.Mathlib.Omega.{arith}
-use borrow.Author.Rules.{rules}
 use Rattle.directory.specs.Directory.{directory_by}
 use Rattle.release.proofs.Halves.{next_price, half_bounds}
 use Rattle.release.proofs.Prices.{price_at_lem}
@@ -45,7 +44,10 @@ step_price-requires c =
     price_at_lem a.header.pages a.memory.now a.card (at / 2) c.find_price-p.result
     (omega (arith, next.rest, c.number_next-at.ensures, counted.prices)) c.find_price-p.ensures
     in
-    record { homes_in = c.requires.homes_in; page_lt_pages = (price.is_on_page, price.in_page, omega (arith, bounds.1, c.half_next-half.ensures)) }
+    record {
+      homes_in = c.requires.homes_in;
+      page_lt_pages = (price.is_on_page, price.in_page, omega (arith, bounds.1, c.half_next-half.ensures));
+    }
 
 pub count_steps-requires : goal.count_steps-requires
 count_steps-requires c =
@@ -85,7 +87,13 @@ returns-then-prices_next-gt0 c =
 pub other_step-requires : goal.other_step-requires
 other_step-requires c =
     let pre = c.requires in
-    let made = rw c.area_size-size.ensures at c.steps_made-steps.ensures in record { card_in = pre.card_in; card_in_2 = pre.card_in_2; pages_bound = (pre.homes_in.few, c.count_prices-k.ensures); steps_value = (made, omega (arith, c.prices_next.ensures)) }
+    let made = rw c.area_size-size.ensures at c.steps_made-steps.ensures in
+    record {
+      card_in = pre.card_in;
+      card_in_2 = pre.card_in_2;
+      pages_bound = (pre.homes_in.few, c.count_prices-k.ensures);
+      steps_value = (made, omega (arith, c.prices_next.ensures));
+    }
 
 pub returns : goal.returns
 returns c = c.other_step.ensures _ _

@@ -1,5 +1,4 @@
 -- Rests on the stores in the record: `record_store` and `done_store`.
-use borrow.Author.Rules.{rules}
 use Prim.Native.Nat.{◌+◌, ◌-◌, ◌*◌, ◌≤◌}
 use native.Mathlib.Omega.{arith}
 use Rattle.directory.specs.Directory.{directory_by}
@@ -16,7 +15,11 @@ pub step_record-requires : goal.step_record-requires
 step_record-requires c =
     let pre = c.requires in
     let past = past_tentative _ _ pre.steps_bound.1 in
-    rw c.area_size-size.ensures record { card_in = pre.card_in; card_in_2 = pre.card_in_2; pages_start_le_size = (omega arith, omega arith) }
+    rw c.area_size-size.ensures record {
+      card_in = pre.card_in;
+      card_in_2 = pre.card_in_2;
+      pages_start_le_size = (omega arith, omega arith);
+    }
 
 pub returns-then-steps-k : goal.returns-then-steps-k
 returns-then-steps-k c primary secondary =
@@ -32,7 +35,11 @@ pub step_number-requires : goal.step_number-requires
 step_number-requires c =
     let pre = c.requires in
     rw (c.area_size-size.ensures, c.record_done-done.ensures)
-    record { card_in = pre.card_in; card_in_2 = pre.card_in_2; pages_start_le_size = (omega arith, omega (arith, pre.card_in.eight)) }
+    record {
+      card_in = pre.card_in;
+      card_in_2 = pre.card_in_2;
+      pages_start_le_size = (omega arith, omega (arith, pre.card_in.eight));
+    }
 
 pub returns : goal.returns
 returns c primary secondary =

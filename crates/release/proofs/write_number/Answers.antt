@@ -1,5 +1,4 @@
 -- Rests on the mark of the card: a store to a live card is made, one to a dead card is not.
-use borrow.Author.Rules.{rules}
 use mathlib.Core.Path.{sym, ◌∙◌}
 use Rattle.release.proofs.Stores.{write_made, write_dropped}
 use Rattle.release.proofs.write_number.Goals as goal

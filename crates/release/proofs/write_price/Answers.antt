@@ -1,6 +1,5 @@
 -- Rests on the mark of the card: a store to a live card is made, one to a dead card is not.
 use mathlib.Core.Path.{refl, sym, ◌∙◌}
-use borrow.Author.Rules.{rules}
 use Rattle.release.proofs.Stores.{word_made, write_dropped}
 use Rattle.release.proofs.write_price.Goals as goal
 

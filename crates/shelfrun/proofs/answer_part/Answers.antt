@@ -53,8 +53,7 @@ loop-at-preserved g c =
     let at = c.loop-at in
     let input = c.args.input.now in
     let done = c.answer_some-done in
-    let room : at.at + done.result.read ≤ length input = omega (arith, done.ensures.read, length-take-le (length input - at.at) (drop at.at input), length-drop at.at input) in
-    (
+    let room : at.at + done.result.read ≤ length input = omega (arith, done.ensures.read, length-take-le (length input - at.at) (drop at.at input), length-drop at.at input) in (
       room,
       done.auto.memory ∙ at.invariant.1,
       done.auto.output ∙ at.invariant.2,

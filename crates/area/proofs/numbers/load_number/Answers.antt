@@ -1,5 +1,4 @@
 -- Rests on what `load_word` ensures, of both words.
-use borrow.Author.Rules.{rules}
 use Rattle.area.specs.Numbers.{number_at}
 use Rattle.area.proofs.numbers.load_number.Goals as goal
 

@@ -1,5 +1,4 @@
 -- Rests on `store_run_cons` and `store_run_one`: a number is a run of two words.
-use borrow.Author.Rules.{rules}
 use mathlib.Core.Path.{◌∙◌, sym}
 use Rattle.memory.proofs.Runs.{store_run_cons, store_run_one}
 use Rattle.area.specs.Numbers.{number_words}

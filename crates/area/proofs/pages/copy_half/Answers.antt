@@ -1,5 +1,4 @@
 -- Rests on what `page_at` and `copy_run` ensure.
-use borrow.Author.Rules.{rules}
 use Rattle.area.proofs.pages.copy_half.Goals as goal
 
 pub returns : goal.returns

@@ -1,5 +1,4 @@
 -- Rests on what `page_at` and `load_run` ensure.
-use borrow.Author.Rules.{rules}
 use Rattle.area.proofs.pages.load_committed.Goals as goal
 
 pub returns : goal.returns

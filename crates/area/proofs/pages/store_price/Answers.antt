@@ -2,7 +2,6 @@
 use Prim.Native.Nat.{◌+◌, ◌*◌}
 use mathlib.Core.List.{[], ◌∷◌}
 use native.Mathlib.Omega.{arith}
-use borrow.Author.Rules.{rules}
 use Rattle.memory.specs.Words.{store}
 use Rattle.area.specs.Layout.{page_at}
 use Rattle.memory.proofs.Parts.{sets_part}

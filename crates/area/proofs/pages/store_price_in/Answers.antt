@@ -1,5 +1,4 @@
 -- Rests on `sets_part`: the page is lent as a part, and a run of one word is stored in it.
-use borrow.Author.Rules.{rules}
 use mathlib.Core.List.{[], ◌∷◌}
 use native.Mathlib.Omega.{arith}
 use Rattle.memory.proofs.Parts.{sets_part}

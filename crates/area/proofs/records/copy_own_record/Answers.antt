@@ -1,5 +1,4 @@
 -- Rests on what the loads and `write_record` ensure.
-use borrow.Author.Rules.{rules}
 use Rattle.area.specs.Releases.{own_release}
 use Rattle.area.proofs.records.copy_own_record.Goals as goal
 

@@ -1,5 +1,4 @@
 -- Rests on what `record_at` and `copy_run` ensure.
-use borrow.Author.Rules.{rules}
 use Rattle.area.proofs.records.copy_record.Goals as goal
 
 pub returns : goal.returns

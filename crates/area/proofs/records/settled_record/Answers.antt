@@ -1,5 +1,4 @@
 -- Rests on `record_words`: stamp, done mark and desk laid over a record that is 0.
-use borrow.Author.Rules.{rules}
 use mathlib.Core.Path.{◌∙◌}
 use Rattle.memory.specs.Words.{zeros}
 use Rattle.area.proofs.records.Stores.{record_words}

@@ -1,5 +1,4 @@
 -- Rests on its test, which is the definition's.
-use borrow.Author.Rules.{rules}
 use mathlib.Core.Path.{sym, ◌∙◌}
 use borrow.Author.Tests.{eq-eqb, ne_eqb}
 use Rattle.area.specs.Record.{under_way}

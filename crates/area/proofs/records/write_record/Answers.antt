@@ -1,5 +1,4 @@
 -- Rests on what `settled_record` and `record_at` ensure.
-use borrow.Author.Rules.{rules}
 use Rattle.area.specs.Record.{write_record}
 use Rattle.area.proofs.records.write_record.Goals as goal
 

@@ -1,5 +1,4 @@
 -- Rests on the mark of the card and on the word that says whether a release is open.
-use borrow.Author.Rules.{rules}
 use Rattle.area.specs.Releases.{has_open_release}
 use Rattle.area.proofs.releases.is_open.Goals as goal
 

@@ -11,7 +11,10 @@ is_open-requires c =
     let marks : length c.args.header.live ≡ 8 = search rules in
     let pre = c.requires in
     let area = area_in _ pre.card_lt_cards pre.memory_of.2 in
-    rw c.area_size-size.ensures record { pages_start_le_size = (omega arith, area); card_in_bounds = omega (arith, pre.memory_of.0) }
+    rw c.area_size-size.ensures record {
+      pages_start_le_size = (omega arith, area);
+      card_in_bounds = omega (arith, pre.memory_of.0);
+    }
 
 pub returns : goal.returns
 returns c = rw c.area_size-size.ensures at c.is_open.ensures

@@ -1,5 +1,4 @@
 -- Rests on what `load_word` ensures.
-use borrow.Author.Rules.{rules}
 use Rattle.area.specs.Releases.{steps_of}
 use Rattle.area.proofs.releases.steps_made.Goals as goal
 

@@ -1,5 +1,4 @@
 -- Rests on the answer's outcome.
-use borrow.Author.Rules.{rules}
 use Rattle.bandsawpink.proofs.answers.in_numbers.Goals as goal
 
 pub returns : goal.returns

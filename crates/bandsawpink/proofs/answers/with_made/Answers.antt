@@ -1,5 +1,4 @@
 -- Rests on the answer in numbers.
-use borrow.Author.Rules.{rules}
 use Rattle.bandsawpink.proofs.answers.with_made.Goals as goal
 
 pub returns : goal.returns

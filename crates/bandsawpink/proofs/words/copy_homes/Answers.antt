@@ -1,5 +1,4 @@
 -- Rests on what `copy_words` ensures.
-use borrow.Author.Rules.{rules}
 use Rattle.bandsawpink.proofs.words.copy_homes.Goals as goal
 
 pub returns : goal.returns

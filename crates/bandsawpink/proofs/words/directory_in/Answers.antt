@@ -1,5 +1,4 @@
 -- Rests on its parts.
-use borrow.Author.Rules.{rules}
 use Rattle.bandsawpink.proofs.words.directory_in.Goals as goal
 
 pub returns : goal.returns

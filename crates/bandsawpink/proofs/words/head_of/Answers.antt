@@ -2,7 +2,6 @@
 use mathlib.Core.Path.{◌≡◌, refl}
 use mathlib.Core.Bool.{Bool, true, false, cond}
 use mir.Val.{bool_byte}
-use borrow.Author.Rules.{rules}
 use Rattle.directory.specs.Directory.{table_from}
 use Rattle.bandsawpink.proofs.words.head_of.Goals as goal
 

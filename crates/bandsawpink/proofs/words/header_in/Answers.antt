@@ -1,5 +1,4 @@
 -- Rests on its parts.
-use borrow.Author.Rules.{rules}
 use Rattle.bandsawpink.specs.Words.{directory_in}
 use Rattle.bandsawpink.proofs.words.header_in.Goals as goal
 

@@ -1,12 +1,6 @@
 -- Rests on `Filled`: up to the card reached the marks are the table's.
-use Prim.Native.Nat.{◌+◌, ◌-◌}
 use mathlib.Core.Path.{refl}
-use mathlib.Core.Bool.{false}
-use native.Mathlib.Omega.{arith}
-use lib.Dec.{ltb}
-use lib.ListN.{get_or, replicate}
-use borrow.Author.Rules.{rules}
-use Rattle.directory.proofs.Table.{Filled, fill_none, fill_more, fill_all}
+use Rattle.directory.proofs.Table.{fill_none, fill_more, fill_all}
 use Rattle.bandsawpink.proofs.words.marks_in.Goals as goal
 
 pub loop-card-init : goal.loop-card-init

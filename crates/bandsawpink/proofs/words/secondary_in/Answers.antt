@@ -1,5 +1,4 @@
 -- Rests on `homes_at`.
-use borrow.Author.Rules.{rules}
 use Rattle.bandsawpink.specs.Words.{directory_in}
 use Rattle.bandsawpink.proofs.words.secondary_in.Goals as goal
 

@@ -3,7 +3,7 @@ use mathlib.Core.Path.{◌≡◌, ap}
 use native.Mathlib.Omega.{arith}
 use lib.ListN.{length}
 use lib.Seq.{length-sets}
-use borrow.Author.Rules.{rules, length_unmapped}
+use borrow.Author.Rules.{rules}
 use Rattle.bandsawpink.specs.Words.{head_of, words_of}
 use Rattle.bandsawpink.proofs.Stored.{parts_stored, head_length}
 use Rattle.bandsawpink.proofs.words.write_directory.Goals as goal

@@ -1,5 +1,4 @@
 -- Rests on the steps made, as the card's area has them.
-use borrow.Author.Rules.{rules}
 use Rattle.conflict.proofs.motion.counts.Goals as goal
 
 pub returns : goal.returns

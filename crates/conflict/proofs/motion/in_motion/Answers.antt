@@ -1,6 +1,5 @@
 -- Rests on the tally of the open list: its number of prices says when the release counts.
 use mathlib.Core.Path.{sym}
-use borrow.Author.Rules.{rules}
 use Rattle.conflict.proofs.motion.Turns.{motion_not, motion_list}
 use Rattle.conflict.proofs.motion.in_motion.Goals as goal
 

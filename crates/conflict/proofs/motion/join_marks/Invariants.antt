@@ -1,11 +1,8 @@
 -- The loop's invariant: the pages passed are joined.
 use Prim.Native.Nat.{◌-◌, ◌≤◌}
-use mathlib.Core.Path.{◌≡◌, refl, sym}
-use native.Mathlib.Omega.{arith}
-use borrow.Author.Rules.{rules}
-use lib.ListN.{length, length-set}
+use mathlib.Core.Path.{◌≡◌}
+use lib.ListN.{length}
 use Rattle.laws.specs.Search.{in_turn}
-use Rattle.laws.proofs.Search.{in_turn_none, in_turn_more}
 use Rattle.conflict.specs.Motion.{join_mark}
 use Rattle.conflict.proofs.motion.join_marks.Given as goal
 

@@ -1,12 +1,10 @@
 -- Rests on `Passed`: the search from here on finds what the whole search finds.
-use Prim.Native.Nat.{◌-◌}
 use mathlib.Core.Path.{◌≡◌, sym, ◌∙◌}
 use native.Mathlib.Omega.{arith}
 use borrow.Author.Rules.{rules}
 use lib.ListN.{length}
-use Rattle.laws.proofs.Search.{Passed, passed_none, passed_more, lowest-found, lowest_none}
+use Rattle.laws.proofs.Search.{passed_none, passed_more, lowest-found, lowest_none}
 use Rattle.memory.proofs.Index.{area_in}
-use Rattle.protocol.specs.Fetch.{in_motion}
 use Rattle.conflict.proofs.motion.lowest_in_motion.Goals as goal
 
 pub in_motion-requires : goal.in_motion-requires

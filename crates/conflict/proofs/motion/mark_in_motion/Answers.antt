@@ -1,13 +1,10 @@
 -- The loop's invariant: the releases of the cards passed have their pages marked.
-use Prim.Native.Nat.{◌-◌, ◌≤◌}
 use mathlib.Core.Path.{◌≡◌, refl, sym, ◌∙◌}
 use native.Mathlib.Omega.{arith}
 use borrow.Author.Rules.{rules}
 use lib.ListN.{length}
-use Rattle.laws.specs.Search.{in_turn}
 use Rattle.laws.proofs.Search.{in_turn_none, in_turn_more}
 use Rattle.memory.proofs.Index.{area_in}
-use Rattle.conflict.specs.Motion.{mark_motion}
 use Rattle.conflict.proofs.motion.mark_in_motion.Goals as goal
 
 pub loop-card-init : goal.loop-card-init
@@ -21,7 +18,10 @@ mark_motion-requires c =
     let marks : length c.args.header.live ≡ 8 = search rules in
     let pre = c.requires.memory_of in
     let area = area_in _ below pre.2 in
-    record { size_value = (size, rw size area); card_in_bounds = (omega (arith, pre.0), inv.1 ∙ c.requires.marks_len, pre.1) }
+    record {
+      size_value = (size, rw size area);
+      card_in_bounds = (omega (arith, pre.0), inv.1 ∙ c.requires.marks_len, pre.1);
+    }
 
 pub loop-card-preserved : goal.loop-card-preserved
 loop-card-preserved c =

@@ -1,12 +1,8 @@
 -- The loop's invariant: the releases of the cards passed have their pages marked.
 use Prim.Native.Nat.{◌-◌, ◌≤◌}
-use mathlib.Core.Path.{◌≡◌, refl, sym, ◌∙◌}
-use native.Mathlib.Omega.{arith}
-use borrow.Author.Rules.{rules}
+use mathlib.Core.Path.{◌≡◌}
 use lib.ListN.{length}
 use Rattle.laws.specs.Search.{in_turn}
-use Rattle.laws.proofs.Search.{in_turn_none, in_turn_more}
-use Rattle.memory.proofs.Index.{area_in}
 use Rattle.conflict.specs.Motion.{mark_motion}
 use Rattle.conflict.proofs.motion.mark_in_motion.Given as goal
 

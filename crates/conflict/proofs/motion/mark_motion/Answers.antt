@@ -1,6 +1,5 @@
 -- Rests on `pages_joined`; and the number of prices in the open list says when the release counts.
 use mathlib.Core.Path.{sym, ◌∙◌}
-use borrow.Author.Rules.{rules}
 use Rattle.conflict.proofs.motion.Turns.{mark_not, mark_list}
 use Rattle.conflict.proofs.motion.Joined.{pages_joined}
 use Rattle.conflict.proofs.motion.mark_motion.Goals as goal

@@ -1,6 +1,5 @@
 -- Rests on the test of the price that is due.
 use borrow.Author.Tests.{le-ltb, lt-ltb}
-use borrow.Author.Rules.{rules}
 use Rattle.conflict.proofs.motion.mark_page.Goals as goal
 
 pub returns-then-s-gt0 : goal.returns-then-s-gt0

@@ -1,14 +1,10 @@
 -- Rests on `Marking`, and on the count: the prices counted and those that are left are all the prices of the list.
-use Prim.Native.Nat.{◌+◌, ◌-◌}
-use mathlib.Core.Path.{◌≡◌, refl, sym, ◌∙◌}
+use mathlib.Core.Path.{refl, sym, ◌∙◌}
 use native.Mathlib.Nat.{add-zero}
 use native.Mathlib.Omega.{arith}
-use borrow.Author.Rules.{rules}
-use lib.ListN.{length}
-use Rattle.diff.specs.Prices.{prices_of}
-use Rattle.reader.proofs.Walking.{prices_left, left_first, left_end, fewer_left}
+use Rattle.reader.proofs.Walking.{left_first, left_end, fewer_left}
 use Rattle.conflict.specs.Motion.{page_of}
-use Rattle.conflict.proofs.Marks.{Marking, marking_first, marking_next, marking_end}
+use Rattle.conflict.proofs.Marks.{marking_first, marking_next, marking_end}
 use Rattle.conflict.proofs.motion.Turns.{count_turn}
 use Rattle.conflict.proofs.motion.mark_pages.Goals as goal
 
@@ -33,4 +29,8 @@ loop-at-preserved c =
 pub returns : goal.returns
 returns c =
     let at = c.loop-at in
-    let a = c.args in record { prices = rw (left_end a.pages a.list.now at.at c.loop-at-test.false, add-zero) at at.invariant.1; marks = marking_end at.invariant.0 c.loop-at-test.false }
+    let a = c.args in
+    record {
+      prices = rw (left_end a.pages a.list.now at.at c.loop-at-test.false, add-zero) at at.invariant.1;
+      marks = marking_end at.invariant.0 c.loop-at-test.false;
+    }

@@ -1,15 +1,11 @@
 -- Rests on `Marking`, and on the count: the prices counted and those that are left are all the prices of the list.
 use Prim.Native.Nat.{◌+◌, ◌-◌}
-use mathlib.Core.Path.{◌≡◌, refl, sym, ◌∙◌}
-use native.Mathlib.Nat.{add-zero}
-use native.Mathlib.Omega.{arith}
-use borrow.Author.Rules.{rules}
+use mathlib.Core.Path.{◌≡◌}
 use lib.ListN.{length}
 use Rattle.diff.specs.Prices.{prices_of}
-use Rattle.reader.proofs.Walking.{prices_left, left_first, left_end, fewer_left}
+use Rattle.reader.proofs.Walking.{prices_left}
 use Rattle.conflict.specs.Motion.{page_of}
-use Rattle.conflict.proofs.Marks.{Marking, marking_first, marking_next, marking_end}
-use Rattle.conflict.proofs.motion.Turns.{count_turn}
+use Rattle.conflict.proofs.Marks.{Marking}
 use Rattle.conflict.proofs.motion.mark_pages.Given as goal
 
 abbrev pub invariant-loop-at : goal.invariant-loop-at

@@ -1,15 +1,11 @@
 -- Rests on the laws of a turn: the prices counted and those that are left are all the prices of the list.
 use Prim.Native.Nat.{◌+◌, ◌-◌}
-use mathlib.Core.Path.{◌≡◌, refl, sym, ◌∙◌}
-use mathlib.Core.Bool.{◌||◌, or_assoc, or-false}
-use native.Mathlib.Nat.{add-zero}
-use native.Mathlib.Omega.{arith}
-use borrow.Author.Rules.{rules}
+use mathlib.Core.Path.{◌≡◌}
+use mathlib.Core.Bool.{◌||◌}
 use lib.ListN.{length}
 use Rattle.diff.specs.Prices.{prices_of}
 use Rattle.protocol.specs.Fetch.{names_page}
-use Rattle.reader.proofs.Walking.{Reached, prices_left, left_first, left_end, reached_next, fewer_left}
-use Rattle.conflict.proofs.motion.Turns.{page_turn, page_end, count_turn}
+use Rattle.reader.proofs.Walking.{Reached, prices_left}
 use Rattle.conflict.proofs.motion.tally_prices.Given as goal
 
 abbrev pub invariant-loop-at : goal.invariant-loop-at

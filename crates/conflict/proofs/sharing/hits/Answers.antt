@@ -1,5 +1,4 @@
 -- Rests on the test of the price that is due, and on its label.
-use borrow.Author.Rules.{rules}
 use borrow.Author.Tests.{le-ltb, lt-ltb}
 use Rattle.conflict.proofs.sharing.hits.Goals as goal
 

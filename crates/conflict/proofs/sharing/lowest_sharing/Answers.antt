@@ -1,7 +1,6 @@
 -- Rests on `none_shares`, where no other release is open; and on `marks_share`: the marks of the labels that the list
 -- names find the cards that share a word with it.
 use mathlib.Core.Path.{sym, ◌∙◌}
-use borrow.Author.Rules.{rules}
 use Rattle.laws.proofs.Search.{lowest_same}
 use Rattle.conflict.proofs.Others.{none_shares}
 use Rattle.conflict.proofs.sharing.Labels.{marks_share}

@@ -1,6 +1,5 @@
 -- Rests on the test of the price that is due, and on its label.
 use borrow.Author.Tests.{le-ltb, lt-ltb}
-use borrow.Author.Rules.{rules}
 use Rattle.conflict.proofs.sharing.mark_label.Goals as goal
 
 pub returns-then-s-gt0 : goal.returns-then-s-gt0

@@ -1,11 +1,8 @@
 -- Rests on `Marking`: to mark what is left of the prices marks what all of them mark.
-use Prim.Native.Nat.{◌-◌}
 use mathlib.Core.Path.{refl}
-use borrow.Author.Rules.{rules}
-use lib.ListN.{length}
 use Rattle.diff.specs.Prices.{label_of}
 use Rattle.reader.proofs.Walking.{fewer_left}
-use Rattle.conflict.proofs.Marks.{Marking, marking_first, marking_next, marking_end}
+use Rattle.conflict.proofs.Marks.{marking_first, marking_next, marking_end}
 use Rattle.conflict.proofs.sharing.mark_labels.Goals as goal
 
 pub loop-at-init : goal.loop-at-init

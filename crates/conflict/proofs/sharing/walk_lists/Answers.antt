@@ -1,14 +1,11 @@
 -- Rests on `Passed` over the cards, and over a card's list on the laws of a turn: what is left finds what all finds.
-use Prim.Native.Nat.{◌-◌}
 use mathlib.Core.Path.{◌≡◌, refl, sym, ◌∙◌}
 use native.Mathlib.Omega.{arith}
 use borrow.Author.Rules.{rules}
 use lib.ListN.{length}
-use Rattle.laws.proofs.Search.{Passed, passed_none, passed_more, lowest-found, lowest_none}
+use Rattle.laws.proofs.Search.{passed_none, passed_more, lowest-found, lowest_none}
 use Rattle.memory.proofs.Index.{area_in}
-use Rattle.diff.specs.Prices.{prices_of}
-use Rattle.reader.proofs.Walking.{Reached, prices_left, left_first, reached_next, fewer_left}
-use Rattle.conflict.specs.Sharing.{any_marked, marks_with}
+use Rattle.reader.proofs.Walking.{left_first, reached_next, fewer_left}
 use Rattle.conflict.proofs.sharing.Turns.{any_turn, any_end, marks-not, marks_list}
 use Rattle.conflict.proofs.sharing.walk_lists.Goals as goal
 

@@ -1,5 +1,4 @@
 -- Rests on what `formatted_marks` and `fill_homes` ensure: their arrays are the definition's.
-use borrow.Author.Rules.{rules}
 use Rattle.directory.specs.Directory.{formatted_directory}
 use Rattle.directory.proofs.Directory.formatted.Goals as goal
 

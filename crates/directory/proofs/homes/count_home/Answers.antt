@@ -1,6 +1,5 @@
 -- Rests on `set_out`: a store past the counts changes nothing.
 use mathlib.Core.Path.{sym}
-use borrow.Author.Rules.{rules}
 use lib.Seq.{set_out}
 use Rattle.directory.proofs.homes.count_home.Goals as goal
 

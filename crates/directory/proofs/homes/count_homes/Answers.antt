@@ -1,9 +1,7 @@
 -- Rests on `CountedBelow`: the counts are those of the pages below this one.
-use Prim.Native.Nat.{◌-◌}
 use native.Mathlib.Omega.{arith}
-use borrow.Author.Rules.{rules}
 use lib.ListN.{get_or}
-use Rattle.directory.proofs.PageCounts.{CountedBelow, counted_below_none, counted_below_few, counted_below_more}
+use Rattle.directory.proofs.PageCounts.{counted_below_none, counted_below_few, counted_below_more}
 use Rattle.directory.proofs.PageCounts.{counted_below_all}
 use Rattle.directory.proofs.homes.count_homes.Goals as goal
 

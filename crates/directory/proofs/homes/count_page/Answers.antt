@@ -1,7 +1,6 @@
 -- Rests on the test, which is the definition's: two homes that differ are counted one after the other.
 use lib.Seq.{get_or-set_other}
 use borrow.Author.Tests.{eq-eqb, ne_eqb}
-use borrow.Author.Rules.{rules}
 use Rattle.directory.proofs.homes.count_page.Goals as goal
 
 pub count_home-requires-then-secondary-primary : goal.count_home-requires-then-secondary-primary

@@ -1,7 +1,5 @@
 -- Rests on its tests, which are the definition's in the same order.
-use borrow.Author.Tests.{eq-eqb, ne_eqb, lt-ltb, le-ltb, not-true, not-false}
-use borrow.Author.Rules.{rules}
-use Rattle.directory.specs.Live.{live_at}
+use borrow.Author.Tests.{eq-eqb, ne_eqb, lt-ltb, le-ltb}
 use Rattle.directory.proofs.homes.fewer_of.Goals as goal
 
 pub returns-then-not-live-at : goal.returns-then-not-live-at

@@ -1,8 +1,7 @@
 -- Rests on `FewestSoFar`: the card found is the lowest of the fewest among the cards passed.
 use Prim.Native.Nat.{◌-◌}
-use borrow.Author.Rules.{rules}
 use Rattle.directory.specs.PageCounts.{count_at}
-use Rattle.directory.proofs.PageCounts.{FewestSoFar, fewest_of_none, fewest_of_more, fewest_of_all}
+use Rattle.directory.proofs.PageCounts.{FewestSoFar}
 use Rattle.directory.proofs.homes.fewest_home.Given as goal
 
 abbrev pub invariant-loop-card : goal.invariant-loop-card

@@ -1,11 +1,9 @@
 -- `changes::changed_words` meets its contract. The loop's invariant: the marks are those of the words before `word`.
-use Prim.Native.Nat.{◌-◌, ◌≤◌}
-use mathlib.Core.Path.{◌≡◌, ◌∙◌}
-use mathlib.Core.Logic.{⊎_elim}
+use mathlib.Core.Path.{◌∙◌}
 use native.Mathlib.Omega.{arith}
 use borrow.Author.Rules.{rules}
 use Rattle.diff.specs.Marks.{changed_words}
-use Rattle.encoder.proofs.Changed.{changed_first, changed_same, changed_differs, changed_fits, changed_all}
+use Rattle.encoder.proofs.Changed.{changed_same, changed_differs, changed_fits, changed_all}
 use Rattle.encoder.proofs.Changed.{word_bit}
 use Rattle.encoder.proofs.changes.changed_words.Goals as goal
 use Rattle.encoder.proofs.changes.changed_words.Goals.{then-words-word, else-words-word}

@@ -23,12 +23,19 @@ counted : (c : goal.Else-marks-eq0)
 counted c = runs_and_marks_ones 32 c.args.marks (search rules)
 
 pub returns-then-marks-eq0 : goal.returns-then-marks-eq0
-returns-then-marks-eq0 c = record { short = search rules; counted = λ page prices. sym (ap length (page_words_none page c.args.marks prices c.if-marks-eq0.true)) }
+returns-then-marks-eq0 c =
+    record {
+      short = search rules;
+      counted = λ page prices. sym (ap length (page_words_none page c.args.marks prices c.if-marks-eq0.true));
+    }
 
 pub returns : goal.returns
-returns c = record { short = omega (arith, most c, counted c); counted = λ page prices.
+returns c = record {
+  short = omega (arith, most c, counted c);
+  counted = λ page prices.
       omega
-      (arith, length_page_words page c.args.marks prices (search rules) (search rules), counted c) }
+      (arith, length_page_words page c.args.marks prices (search rules) (search rules), counted c);
+}
 
 pub overflow_cast-result : goal.overflow_cast-result
 overflow_cast-result c = omega (arith, ends c)

@@ -46,4 +46,7 @@ returns c =
     let some = c.if-marks-eq0.false in
     let args = c.args in
     let is = words args.page args.marks args.prices.now some (search rules) (search rules) in
-    rw is record { stopped = omega (arith, written.stopped args.page); written = rw add-one at (written.written args.page) }
+    rw is record {
+      stopped = omega (arith, written.stopped args.page);
+      written = rw add-one at (written.written args.page);
+    }

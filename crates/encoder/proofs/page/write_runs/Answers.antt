@@ -1,10 +1,9 @@
 -- `page::write_runs` meets its contract. The loop's invariant: the runs that are left, stored from here on, give the
 -- list with all runs of the page.
-use Prim.Native.Nat.{◌-◌}
 use native.Mathlib.Omega.{arith}
 use borrow.Author.Rules.{rules}
 use lib.ListN.{length-set, length-take, length-drop}
-use Rattle.encoder.proofs.Writing.{RunsLeft, runs_start, runs_end, run_on_page, run_in_list, run_written}
+use Rattle.encoder.proofs.Writing.{runs_start, runs_end, run_on_page, run_in_list, run_written}
 use Rattle.encoder.proofs.page.write_runs.Goals as goal
 
 pub loop-left-init : goal.loop-left-init

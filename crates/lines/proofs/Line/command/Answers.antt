@@ -1,5 +1,4 @@
 -- Rests on the callees: the last field ends, and the form is that of its fields.
-use borrow.Author.Rules.{rules}
 use Rattle.lines.specs.Command.{command_of}
 use Rattle.lines.proofs.Line.command.Goals as goal
 

@@ -1,6 +1,5 @@
 -- Rests on its tests: a field of no bytes, and a seventh field, are unreadable.
 use borrow.Author.Tests.{eq-eqb, le-ltb, lt-ltb, ne_eqb}
-use borrow.Author.Rules.{rules}
 use Rattle.lines.specs.Line.{ended_field}
 use Rattle.lines.proofs.Line.end_field.Goals as goal
 

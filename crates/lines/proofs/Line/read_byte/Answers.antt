@@ -1,7 +1,6 @@
 -- Rests on the callees: a space ends a field, the first field is a letter, the others are numbers.
 use mathlib.Core.Path.{◌∙◌}
 use borrow.Author.Tests.{eq-eqb, ne_eqb}
-use borrow.Author.Rules.{rules}
 use Rattle.lines.specs.Line.{byte_read}
 use Rattle.lines.proofs.Line.read_byte.Goals as goal
 

@@ -1,6 +1,5 @@
 -- Rests on its tests, in the order of the definition.
 use borrow.Author.Tests.{le-leb, le-ltb, lt-leb, lt-ltb}
-use borrow.Author.Rules.{rules}
 use Rattle.lines.specs.Line.{digit_read}
 use Rattle.lines.proofs.Line.read_digit.Goals as goal
 

@@ -1,6 +1,5 @@
 -- Rests on its test.
 use borrow.Author.Tests.{eq-eqb, ne_eqb}
-use borrow.Author.Rules.{rules}
 use Rattle.lines.specs.Line.{letter_read}
 use Rattle.lines.proofs.Line.read_letter.Goals as goal
 

@@ -1,6 +1,6 @@
 -- `page::apply_page` meets its contract. The loop's invariant: the runs before an index are applied to the page, and those
 -- that are left stand from there on.
-use Prim.Native.Nat.{ℕ, ◌+◌, ◌-◌, ◌/◌, ◌%◌, ◌<◌}
+use Prim.Native.Nat.{ℕ, ◌+◌, ◌/◌, ◌%◌, ◌<◌}
 use mathlib.Core.Path.{◌≡◌, refl}
 use mathlib.Core.List.{List}
 use native.Mathlib.Omega.{arith}
@@ -9,8 +9,6 @@ use lib.ListN.{length, get_or, length-take, length-drop}
 use Rattle.merger.specs.Page.{PageAt}
 use Rattle.merger.proofs.page.Applying.{RunsApplied, page_inside, none_past, none_applied, runs_start, run_there, run_fits}
 use Rattle.merger.proofs.page.Applying.{run_inside, run_applied, all_past, all_applied}
-use Rattle.memory.proofs.store_run_in.Reads as store-run-in-reads
-use Rattle.merger.proofs.page.run_marks.Reads as run-marks-reads
 use Rattle.merger.proofs.page.apply_page.Goals as goal
 
 -- a run that is taken, and the word behind it, stand in the list
@@ -25,7 +23,11 @@ bounds-list-index c = page_inside c.requires.by_index.1.1
 
 pub returns-then-list-index : goal.returns-then-list-index
 returns-then-list-index c =
-    let args = c.args in record { past = λ own priced there. none_past there c.if-list-index.true; applied = λ own priced there. none_applied there args.marks args.prices.now c.if-list-index.true }
+    let args = c.args in
+    record {
+      past = λ own priced there. none_past there c.if-list-index.true;
+      applied = λ own priced there. none_applied there args.marks args.prices.now c.if-list-index.true;
+    }
 
 pub bounds-list-at : goal.bounds-list-at
 bounds-list-at c =
@@ -71,7 +73,10 @@ pub returns : goal.returns
 returns c =
     let inv = c.loop-word.invariant in
     let other = rw inv.0 at c.loop-word-test.false in
-    record { past = λ own priced there. all_past (inv.1 own priced there) other; applied = λ own priced there. all_applied (inv.1 own priced there) other }
+    record {
+      past = λ own priced there. all_past (inv.1 own priced there) other;
+      applied = λ own priced there. all_applied (inv.1 own priced there) other;
+    }
 
 pub offset_bounds-list-index : goal.offset_bounds-list-index
 offset_bounds-list-index c = let fits = page_inside c.requires.by_index.1.1 in search rules

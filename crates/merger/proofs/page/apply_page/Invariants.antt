@@ -1,16 +1,11 @@
 -- `page::apply_page` meets its contract. The loop's invariant: the runs before an index are applied to the page, and those
 -- that are left stand from there on.
-use Prim.Native.Nat.{ℕ, ◌+◌, ◌-◌, ◌%◌, ◌<◌}
-use mathlib.Core.Path.{◌≡◌, refl}
+use Prim.Native.Nat.{ℕ, ◌-◌}
+use mathlib.Core.Path.{◌≡◌}
 use mathlib.Core.List.{List}
-use native.Mathlib.Omega.{arith}
-use borrow.Author.Rules.{rules}
-use lib.ListN.{length, get_or, length-take, length-drop}
+use lib.ListN.{length, get_or}
 use Rattle.merger.specs.Page.{PageAt}
-use Rattle.merger.proofs.page.Applying.{RunsApplied, page_inside, none_past, none_applied, runs_start, run_there, run_fits}
-use Rattle.merger.proofs.page.Applying.{run_inside, run_applied, all_past, all_applied}
-use Rattle.memory.proofs.store_run_in.Reads as store-run-in-reads
-use Rattle.merger.proofs.page.run_marks.Reads as run-marks-reads
+use Rattle.merger.proofs.page.Applying.{RunsApplied}
 use Rattle.merger.proofs.page.apply_page.Given as goal
 
 abbrev pub invariant-loop-word : goal.invariant-loop-word

@@ -1,11 +1,9 @@
 -- Rests on `moved_turn`, the law of a turn, and on `moved_whole` at the end.
-use Prim.Native.Nat.{◌-◌, ◌≤◌}
 use mathlib.Core.Path.{◌≡◌}
 use native.Mathlib.Omega.{arith}
 use native.Mathlib.Numerals.{add-one}
-use borrow.Author.Rules.{rules}
 use Rattle.mover.specs.Fields.{repeated, area_fields, rack_fields}
-use Rattle.mover.proofs.Cursors.{Moved, moved_none, moved_length, turn_fits, moved_turn, front, moved_whole}
+use Rattle.mover.proofs.Cursors.{moved_none, moved_length, turn_fits, moved_turn, moved_whole}
 use Rattle.mover.proofs.fields.move_memory.Goals as goal
 
 pub loop-card-init : goal.loop-card-init
@@ -16,8 +14,11 @@ pub move_area-at-requires : goal.move_area-at-requires
 move_area-at-requires c =
     let l = c.loop-card in
     let a = c.args in
-    let pre = c.requires in record { valid_widths = (pre.valid_widths, pre.rack_memories.0); room = turn_fits a.cards l.card (area_fields a.pages) c.loop-card-test.true
-          (omega (arith, pre.rack_memories.1), omega (arith, pre.rack_memories.2)) l.invariant.1 }
+    let pre = c.requires in record {
+      valid_widths = (pre.valid_widths, pre.rack_memories.0);
+      room = turn_fits a.cards l.card (area_fields a.pages) c.loop-card-test.true
+          (omega (arith, pre.rack_memories.1), omega (arith, pre.rack_memories.2)) l.invariant.1;
+    }
 
 pub loop-card-preserved : goal.loop-card-preserved
 loop-card-preserved c =

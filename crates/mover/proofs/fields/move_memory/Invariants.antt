@@ -1,11 +1,7 @@
 -- Rests on `moved_turn`, the law of a turn, and on `moved_whole` at the end.
 use Prim.Native.Nat.{◌-◌, ◌≤◌}
-use mathlib.Core.Path.{◌≡◌}
-use native.Mathlib.Omega.{arith}
-use native.Mathlib.Numerals.{add-one}
-use borrow.Author.Rules.{rules}
-use Rattle.mover.specs.Fields.{repeated, area_fields, rack_fields}
-use Rattle.mover.proofs.Cursors.{Moved, moved_none, moved_length, turn_fits, moved_turn, front, moved_whole}
+use Rattle.mover.specs.Fields.{repeated, area_fields}
+use Rattle.mover.proofs.Cursors.{Moved, front}
 use Rattle.mover.proofs.fields.move_memory.Given as goal
 
 abbrev pub invariant-loop-card : goal.invariant-loop-card

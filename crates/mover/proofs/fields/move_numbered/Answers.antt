@@ -1,7 +1,6 @@
 -- Rests on `both_moved`: the number moved, then the words.
 use mathlib.Core.List.{[], ◌∷◌}
 use Rattle.mover.specs.Fields.{number, words}
-use borrow.Author.Rules.{rules}
 use Rattle.mover.proofs.Cursors.{second_fits, both_moved}
 use Rattle.mover.proofs.fields.move_numbered.Goals as goal
 

@@ -1,12 +1,10 @@
 -- Rests on `moved_turn`, the law of a turn.
-use Prim.Native.Nat.{◌-◌, ◌≤◌}
 use mathlib.Core.Path.{◌≡◌}
 use native.Mathlib.Omega.{arith}
 use native.Mathlib.Numerals.{add-one}
-use borrow.Author.Rules.{rules}
 use Rattle.area.specs.Layout.{record_count}
 use Rattle.mover.specs.Fields.{repeated, record_fields}
-use Rattle.mover.proofs.Cursors.{Moved, moved_none, moved_length, turn_fits, moved_turn}
+use Rattle.mover.proofs.Cursors.{moved_none, moved_length, turn_fits, moved_turn}
 use Rattle.mover.proofs.fields.move_records.Goals as goal
 
 pub loop-slot-init : goal.loop-slot-init
@@ -17,7 +15,10 @@ pub move_record-at-requires : goal.move_record-at-requires
 move_record-at-requires c =
     let l = c.loop-slot in
     let pre = c.requires in
-    record { valid_widths = pre.valid_widths; room = turn_fits record_count l.slot record_fields c.loop-slot-test.true pre.room l.invariant.1 }
+    record {
+      valid_widths = pre.valid_widths;
+      room = turn_fits record_count l.slot record_fields c.loop-slot-test.true pre.room l.invariant.1;
+    }
 
 pub loop-slot-preserved : goal.loop-slot-preserved
 loop-slot-preserved c =

@@ -1,12 +1,8 @@
 -- Rests on `moved_turn`, the law of a turn.
 use Prim.Native.Nat.{◌-◌, ◌≤◌}
-use mathlib.Core.Path.{◌≡◌}
-use native.Mathlib.Omega.{arith}
-use native.Mathlib.Numerals.{add-one}
-use borrow.Author.Rules.{rules}
 use Rattle.area.specs.Layout.{record_count}
 use Rattle.mover.specs.Fields.{repeated, record_fields}
-use Rattle.mover.proofs.Cursors.{Moved, moved_none, moved_length, turn_fits, moved_turn}
+use Rattle.mover.proofs.Cursors.{Moved}
 use Rattle.mover.proofs.fields.move_records.Given as goal
 
 abbrev pub invariant-loop-slot : goal.invariant-loop-slot

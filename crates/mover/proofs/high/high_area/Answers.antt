@@ -1,5 +1,4 @@
 -- Rests on its tests, which are the definition's in the same order.
-use borrow.Author.Rules.{rules}
 use borrow.Author.Tests.{lt-ltb, le-ltb}
 use Rattle.mover.specs.Move.{high_area}
 use Rattle.mover.proofs.high.high_area.Goals as goal

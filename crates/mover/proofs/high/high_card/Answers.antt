@@ -1,5 +1,4 @@
 -- Rests on its test: what a dead card's area holds is not looked at.
-use borrow.Author.Rules.{rules}
 use Rattle.mover.proofs.high.high_card.Goals as goal
 
 pub returns-then-live-card : goal.returns-then-live-card

@@ -1,11 +1,7 @@
 -- Rests on `Passed`: the search from here on finds what the whole search finds.
-use Prim.Native.Nat.{◌-◌}
 use mathlib.Core.Path.{sym, ◌∙◌}
 use native.Mathlib.Omega.{arith}
-use borrow.Author.Rules.{rules}
-use Rattle.laws.proofs.Search.{Passed, passed_none, passed_more, some_found, none_found}
-use Rattle.area.specs.Layout.{record_count}
-use Rattle.mover.specs.Move.{high_record}
+use Rattle.laws.proofs.Search.{passed_none, passed_more, some_found, none_found}
 use Rattle.mover.proofs.high.high_records.Goals as goal
 
 pub returns-then-high_record : goal.returns-then-high_record

@@ -1,9 +1,6 @@
 -- Rests on `Passed`: the search from here on finds what the whole search finds.
 use Prim.Native.Nat.{◌-◌}
-use mathlib.Core.Path.{sym, ◌∙◌}
-use native.Mathlib.Omega.{arith}
-use borrow.Author.Rules.{rules}
-use Rattle.laws.proofs.Search.{Passed, passed_none, passed_more, some_found, none_found}
+use Rattle.laws.proofs.Search.{Passed}
 use Rattle.area.specs.Layout.{record_count}
 use Rattle.mover.specs.Move.{high_record}
 use Rattle.mover.proofs.high.high_records.Given as goal

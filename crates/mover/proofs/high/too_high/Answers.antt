@@ -1,12 +1,11 @@
 -- Rests on `Passed`: the search from here on finds what the whole search finds.
-use Prim.Native.Nat.{◌-◌, ◌<◌}
+use Prim.Native.Nat.{◌<◌}
 use mathlib.Core.Path.{◌≡◌, sym, ◌∙◌}
 use native.Mathlib.Omega.{arith}
 use lib.ListN.{length}
 use borrow.Author.Rules.{rules}
-use Rattle.laws.proofs.Search.{Passed, passed_none, passed_more, some_found, none_found}
+use Rattle.laws.proofs.Search.{passed_none, passed_more, some_found, none_found}
 use Rattle.memory.proofs.Index.{area_in}
-use Rattle.mover.specs.Move.{high_card}
 use Rattle.mover.proofs.high.too_high.Goals as goal
 
 pub high_card-requires : goal.high_card-requires
@@ -15,7 +14,10 @@ high_card-requires c =
     let pre = c.requires in
     let below : c.loop-card.card < c.args.header.cards = omega arith in
     let area = area_in _ below pre.2 in
-    rw c.area_size-size.ensures record { pages_start_le_size = (omega arith, area); card_in_bounds = omega (arith, pre.0) }
+    rw c.area_size-size.ensures record {
+      pages_start_le_size = (omega arith, area);
+      card_in_bounds = omega (arith, pre.0);
+    }
 
 pub returns-then-high_card : goal.returns-then-high_card
 returns-then-high_card c =

@@ -1,12 +1,11 @@
 -- Rests on `Passed`: the search from here on finds what the whole search finds.
-use Prim.Native.Nat.{◌-◌, ◌<◌}
+use Prim.Native.Nat.{◌<◌}
 use mathlib.Core.Path.{◌≡◌, sym, ◌∙◌}
 use native.Mathlib.Omega.{arith}
 use lib.ListN.{length}
 use borrow.Author.Rules.{rules}
-use Rattle.laws.proofs.Search.{Passed, passed_none, passed_more, some_found, none_found}
+use Rattle.laws.proofs.Search.{passed_none, passed_more, some_found, none_found}
 use Rattle.memory.proofs.Index.{area_in}
-use Rattle.mover.specs.Move.{open_at}
 use Rattle.mover.proofs.move_checks.any_open.Goals as goal
 
 pub open_at-requires : goal.open_at-requires

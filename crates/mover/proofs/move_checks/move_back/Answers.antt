@@ -1,6 +1,5 @@
 -- Rests on the order of checks, and on `new_source`: within its limits the memory has its places.
 use mathlib.Core.Path.{refl, sym, ◌∙◌}
-use borrow.Author.Rules.{rules}
 use Rattle.checks.proofs.Order.{refused-first, passed_first}
 use Rattle.checks.proofs.Passing.{all_pass}
 use Rattle.mover.proofs.Limits.{new_source, new_memory}

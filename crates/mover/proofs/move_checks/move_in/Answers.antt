@@ -1,5 +1,4 @@
 -- Rests on `old_source`: within its limits the old memory has its places.
-use borrow.Author.Rules.{rules}
 use Rattle.mover.proofs.Limits.{old_source}
 use Rattle.mover.proofs.move_checks.move_in.Goals as goal
 

@@ -1,6 +1,5 @@
 -- Rests on the order of checks; within the limits the source has its places.
 use mathlib.Core.Path.{sym, ◌∙◌}
-use borrow.Author.Rules.{rules}
 use Rattle.checks.proofs.Order.{first_refuses, first_passes}
 use Rattle.mover.proofs.move_checks.move_refusal.Goals as goal
 
@@ -12,7 +11,10 @@ returns-then-outside_limits c =
 pub unfit_at-requires : goal.unfit_at-requires
 unfit_at-requires c =
     let pre = c.requires in
-    record { memory_by = pre.memory_by (sym c.outside_limits.ensures ∙ c.if-outside_limits.false); full_homes = pre.full_homes }
+    record {
+      memory_by = pre.memory_by (sym c.outside_limits.ensures ∙ c.if-outside_limits.false);
+      full_homes = pre.full_homes;
+    }
 
 pub returns-then-unfit_at : goal.returns-then-unfit_at
 returns-then-unfit_at c =

@@ -1,5 +1,4 @@
 -- Rests on the mark of the card and on the word that says whether a release is open.
-use borrow.Author.Rules.{rules}
 use Rattle.mover.proofs.move_checks.open_at.Goals as goal
 
 pub returns-then-live-card : goal.returns-then-live-card

@@ -3,7 +3,6 @@ use Prim.Native.Nat.{◌≤◌}
 use mathlib.Core.Path.{sym, ◌∙◌}
 use native.Mathlib.Nat.{mul-le-mul}
 use native.Mathlib.Omega.{arith}
-use borrow.Author.Rules.{rules}
 use Rattle.protocol.proofs.checks.Limits.{within_limits}
 use Rattle.mover.specs.Forms.{old_form, area_size_in}
 use Rattle.mover.proofs.move_checks.outside_limits.Goals as goal

@@ -1,11 +1,6 @@
 -- Rests on `Passed`: the search from here on finds what the whole search finds.
-use Prim.Native.Nat.{◌-◌, ◌<◌}
-use mathlib.Core.Path.{◌≡◌, sym, ◌∙◌}
-use native.Mathlib.Omega.{arith}
-use borrow.Author.Rules.{rules}
-use lib.ListN.{length}
-use Rattle.laws.proofs.Search.{Passed, passed_none, passed_more, some_found, none_found}
-use Rattle.memory.proofs.Index.{area_in}
+use Prim.Native.Nat.{◌-◌}
+use Rattle.laws.proofs.Search.{Passed}
 use Rattle.mover.specs.Move.{bad_card_at}
 use Rattle.mover.proofs.unfit.bad_cards.Given as goal
 

@@ -1,5 +1,4 @@
 -- Rests on what `reader::cursor` gives.
-use borrow.Author.Rules.{rules}
 use Rattle.reader.proofs.walk.first_word.Goals as goal
 
 pub returns : goal.returns

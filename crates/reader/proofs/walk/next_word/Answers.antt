@@ -1,5 +1,4 @@
 -- Rests on what the word does to the reading, each case by itself.
-use borrow.Author.Rules.{rules}
 use Rattle.reader.specs.Walking.{past_word}
 use Rattle.reader.proofs.walk.next_word.Goals as goal
 

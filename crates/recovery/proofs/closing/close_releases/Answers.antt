@@ -1,12 +1,9 @@
 -- Rests on `Closed`: the releases of the cards passed are closed, those of the others stand as they did.
-use Prim.Native.Nat.{◌-◌}
-use native.Mathlib.Omega.{arith}
-use borrow.Author.Rules.{rules}
 use Rattle.protocol.specs.Recovery.{close_releases}
 use Rattle.release.proofs.Callers.{homes_kept}
 use Rattle.recovery.proofs.Kept.{rack_kept, rack_card}
 use Rattle.recovery.proofs.Turns.{turn_all}
-use Rattle.recovery.proofs.closing.Releases.{Closed, closed_none, closed_good, closed_more, backup_in}
+use Rattle.recovery.proofs.closing.Releases.{closed_none, closed_good, closed_more, backup_in}
 use Rattle.recovery.proofs.closing.close_releases.Goals as goal
 
 pub run_to_close-requires : goal.run_to_close-requires
@@ -18,7 +15,12 @@ run_to_close-requires c =
     let same = c.loop-card.invariant.turned.same in
     let rack = rack_kept pre.rack_in same in
     let backup = backup_in a.directory a.failed c.loop-card.card rack pre.some_live pre.failed_bound in
-    rw (c.mark_live-before.ensures, c.header-header.ensures) record { homes_in = homes_kept pre.homes_of same; card_in = rack_card rack below; card_in_2 = backup; good_release = closed_good pre.releases_in far below }
+    rw (c.mark_live-before.ensures, c.header-header.ensures) record {
+      homes_in = homes_kept pre.homes_of same;
+      card_in = rack_card rack below;
+      card_in_2 = backup;
+      good_release = closed_good pre.releases_in far below;
+    }
 
 pub loop-card-preserved : goal.loop-card-preserved
 loop-card-preserved c =

@@ -2,7 +2,6 @@
 -- `all_asked`: the count is past all the steps that a good release has left.
 use mathlib.Core.Path.{sym, ◌∙◌}
 use native.Mathlib.Omega.{arith}
-use borrow.Author.Rules.{rules}
 use Rattle.directory.specs.Directory.{directory_by}
 use Rattle.release.proofs.Left.{all_asked}
 use Rattle.recovery.proofs.closing.Releases.{close-opened, close_shut}
@@ -17,7 +16,12 @@ pub make_steps-requires : goal.make_steps-requires
 make_steps-requires c =
     let pre = c.requires in
     let opened = (rw c.area_size.ensures at (sym c.is_open.ensures)) ∙ c.if-is_open.true in
-    record { homes_in = pre.homes_in; card_in = pre.card_in; card_in_2 = rw c.backup-backup.ensures pre.card_in_2; good_release = pre.good_release opened }
+    record {
+      homes_in = pre.homes_in;
+      card_in = pre.card_in;
+      card_in_2 = rw c.backup-backup.ensures pre.card_in_2;
+      good_release = pre.good_release opened;
+    }
 
 pub returns-then-is_open : goal.returns-then-is_open
 returns-then-is_open c =

@@ -1,5 +1,4 @@
 -- Rests on the two tests, and on `next_below`: the holder is a card.
-use borrow.Author.Rules.{rules}
 use native.Mathlib.Omega.{arith}
 use borrow.Author.Tests.{eq-eqb, ne_eqb}
 use Rattle.memory.proofs.Index.{area_in}
@@ -19,7 +18,11 @@ pub copy_record-requires : goal.copy_record-requires
 copy_record-requires c =
     let pre = c.requires in
     let below = next_below pre.some_live c.args.card in
-    rw (c.area_size-size.ensures, c.next_live-holder.ensures) record { area_in = area_in _ below pre.rack_in.whole; area_in_2 = area_in _ pre.joining_lt_cards.0 pre.rack_in.whole; pages_start_le_size = (omega arith, omega (arith, pre.rack_in.eight)) }
+    rw (c.area_size-size.ensures, c.next_live-holder.ensures) record {
+      area_in = area_in _ below pre.rack_in.whole;
+      area_in_2 = area_in _ pre.joining_lt_cards.0 pre.rack_in.whole;
+      pages_start_le_size = (omega arith, omega (arith, pre.rack_in.eight));
+    }
 
 pub returns : goal.returns
 unfolding copy_dead_record

@@ -11,12 +11,18 @@ pub load_record-number-requires : goal.load_record-number-requires
 load_record-number-requires c =
     let pre = c.requires in
     rw (c.area_size-size.ensures, c.next_live-holder.ensures)
-    record { pages_start_le_size = next_in pre.rack_in pre.some_live c.args.card; card_bound = (omega arith, search rules) }
+    record {
+      pages_start_le_size = next_in pre.rack_in pre.some_live c.args.card;
+      card_bound = (omega arith, search rules);
+    }
 
 pub clear_run-requires : goal.clear_run-requires
 clear_run-requires c =
     let pre = c.requires in
-    rw c.area_size-size.ensures record { area_in = area_in _ pre.card_lt_cards pre.rack_in.whole; n_bound = omega arith }
+    rw c.area_size-size.ensures record {
+      area_in = area_in _ pre.card_lt_cards pre.rack_in.whole;
+      n_bound = omega arith;
+    }
 
 pub store_number-requires : goal.store_number-requires
 store_number-requires c =

@@ -1,10 +1,7 @@
 -- Rests on `Turned`: the record is written on the live cards passed.
-use Prim.Native.Nat.{◌-◌}
-use native.Mathlib.Omega.{arith}
 use borrow.Author.Rules.{rules}
-use Rattle.recovery.specs.Rack.{store_failed}
 use Rattle.recovery.proofs.Kept.{rack_kept, rack_card}
-use Rattle.recovery.proofs.Turns.{Turned, turn_none, turn_more, turn_all}
+use Rattle.recovery.proofs.Turns.{turn_none, turn_more, turn_all}
 use Rattle.recovery.proofs.records.write_failed_records.Goals as goal
 
 pub write_failed-requires : goal.write_failed-requires
@@ -12,7 +9,10 @@ write_failed-requires c =
     let pre = c.requires in
     let rack = rack_kept pre.rack_in c.loop-holder.invariant.same in
     rw c.header-header.ensures
-    record { card_in = rack_card rack c.loop-holder-test.true; pages_bound = (rack.few, pre.failed_bound.0, pre.failed_bound.1) }
+    record {
+      card_in = rack_card rack c.loop-holder-test.true;
+      pages_bound = (rack.few, pre.failed_bound.0, pre.failed_bound.1);
+    }
 
 pub returns : goal.returns
 returns c = rw (← c.header-header.ensures) (turn_all c.loop-holder.invariant c.loop-holder-test.false)

@@ -1,10 +1,7 @@
 -- Rests on `Turned`: the record is written on the live cards passed.
 use Prim.Native.Nat.{◌-◌}
-use native.Mathlib.Omega.{arith}
-use borrow.Author.Rules.{rules}
 use Rattle.recovery.specs.Rack.{store_failed}
-use Rattle.recovery.proofs.Kept.{rack_kept, rack_card}
-use Rattle.recovery.proofs.Turns.{Turned, turn_none, turn_more, turn_all}
+use Rattle.recovery.proofs.Turns.{Turned}
 use Rattle.recovery.proofs.records.write_failed_records.Given as goal
 
 abbrev pub invariant-loop-holder : goal.invariant-loop-holder

@@ -2,7 +2,6 @@
 use mathlib.Core.Path.{sym, ◌∙◌}
 use native.Mathlib.Omega.{arith}
 use borrow.Author.Tests.{eq-eqb, ne_eqb}
-use borrow.Author.Rules.{rules}
 use Rattle.memory.proofs.Index.{area_in}
 use Rattle.area.specs.Record.{write_own_record}
 use Rattle.recovery.proofs.Kept.{next_in}
@@ -13,7 +12,10 @@ copy_own_record-requires c =
     let rack = c.requires.rack_in in
     let below = c.requires.card_lt_cards.0 in
     rw (c.area_size.ensures, c.backup-holder.ensures)
-    record { pages_start_le_size = next_in rack c.requires.some_live c.args.card; card_bound = (omega (arith, rack.eight), area_in _ below rack.whole) }
+    record {
+      pages_start_le_size = next_in rack c.requires.some_live c.args.card;
+      card_bound = (omega (arith, rack.eight), area_in _ below rack.whole);
+    }
 
 pub returns-then-backup : goal.returns-then-backup
 unfolding write_own_record

@@ -1,13 +1,10 @@
 -- Rests on `Turned`: the records of the cards passed are written where they are due.
 use Prim.Native.Nat.{◌-◌}
-use native.Mathlib.Omega.{arith}
-use borrow.Author.Rules.{rules}
 use Rattle.directory.specs.Directory.{backup_of}
 use Rattle.area.specs.Record.{write_own_record}
 use Rattle.protocol.specs.Release.{size_of}
 use Rattle.recovery.specs.Rack.{backed_by}
-use Rattle.recovery.proofs.Kept.{rack_kept}
-use Rattle.recovery.proofs.Turns.{Turned, turn_none, turn_more, turn_all}
+use Rattle.recovery.proofs.Turns.{Turned}
 use Rattle.recovery.proofs.records.write_own_records.Given as goal
 
 abbrev pub invariant-loop-card : goal.invariant-loop-card

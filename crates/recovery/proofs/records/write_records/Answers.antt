@@ -1,5 +1,4 @@
 -- Rests on `records_by_marks`: the records by the directories before and after the failure are those of the rack.
-use borrow.Author.Rules.{rules}
 use Rattle.area.specs.Releases.{release_of}
 use Rattle.recovery.proofs.Marks.{records_by_marks}
 use Rattle.recovery.proofs.records.write_records.Goals as goal

@@ -1,13 +1,16 @@
 -- Rests on the mark of the home.
 use mathlib.Core.Path.{sym, ◌∙◌}
 use native.Mathlib.Omega.{arith}
-use borrow.Author.Rules.{rules}
 use Rattle.recovery.specs.Rack.{copy_at_home}
 use Rattle.recovery.proofs.restoring.copy_at_home.Goals as goal
 
 pub copy_half-requires : goal.copy_half-requires
 copy_half-requires c =
-    rw c.area_size-size.ensures record { area_in = c.requires.card_in.area; page_bound = (omega arith, omega arith); page_size_bound = c.requires.page_size_bound }
+    rw c.area_size-size.ensures record {
+      area_in = c.requires.card_in.area;
+      page_bound = (omega arith, omega arith);
+      page_size_bound = c.requires.page_size_bound;
+    }
 
 pub returns-then-is_live : goal.returns-then-is_live
 unfolding copy_at_home

@@ -20,13 +20,33 @@ returns-else-forward c =
     c.copy_at_home-else-forward.ensures c.copy_at_home-else-forward-2.ensures
 
 pub copy_at_home-requires : goal.copy_at_home-requires
-copy_at_home-requires c = record { card_in = search (rules, secondary_card); page_lt_pages = search rules; page_size_bound = search rules }
+copy_at_home-requires c =
+    record {
+      card_in = search (rules, secondary_card);
+      page_lt_pages = search rules;
+      page_size_bound = search rules;
+    }
 
 pub copy_at_home-requires-then-forward : goal.copy_at_home-requires-then-forward
-copy_at_home-requires-then-forward c = record { card_in = search (rules, primary_card); page_lt_pages = search rules; page_size_bound = search rules }
+copy_at_home-requires-then-forward c =
+    record {
+      card_in = search (rules, primary_card);
+      page_lt_pages = search rules;
+      page_size_bound = search rules;
+    }
 
 pub copy_at_home-requires-else-forward : goal.copy_at_home-requires-else-forward
-copy_at_home-requires-else-forward c = record { card_in = search (rules, secondary_card); page_lt_pages = search rules; page_size_bound = search rules }
+copy_at_home-requires-else-forward c =
+    record {
+      card_in = search (rules, secondary_card);
+      page_lt_pages = search rules;
+      page_size_bound = search rules;
+    }
 
 pub copy_at_home-requires-else-forward-2 : goal.copy_at_home-requires-else-forward-2
-copy_at_home-requires-else-forward-2 c = record { card_in = search (rules, primary_card); page_lt_pages = search rules; page_size_bound = search rules }
+copy_at_home-requires-else-forward-2 c =
+    record {
+      card_in = search (rules, primary_card);
+      page_lt_pages = search rules;
+      page_size_bound = search rules;
+    }

@@ -1,11 +1,8 @@
 -- Rests on `Turned`: both homes of the pages passed are restored.
-use Prim.Native.Nat.{◌-◌}
-use native.Mathlib.Omega.{arith}
 use borrow.Author.Rules.{rules}
-use Rattle.directory.specs.Directory.{directory_by}
-use Rattle.protocol.specs.Recovery.{restore_page, restore_pages}
+use Rattle.protocol.specs.Recovery.{restore_pages}
 use Rattle.release.proofs.Callers.{homes_kept}
-use Rattle.recovery.proofs.Turns.{Turned, turn_none, turn_more, turn_all}
+use Rattle.recovery.proofs.Turns.{turn_none, turn_more, turn_all}
 use Rattle.recovery.proofs.restoring.restore_pages.Goals as goal
 
 pub returns : goal.returns

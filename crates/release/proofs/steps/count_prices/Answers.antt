@@ -1,5 +1,4 @@
 -- Rests on `read_counts`: reading the list of a good release finds its prices.
-use borrow.Author.Rules.{rules}
 use Rattle.release.proofs.Prices.{read_counts, read_not_faulty}
 use Rattle.release.proofs.steps.count_prices.Goals as goal
 

@@ -1,10 +1,8 @@
 -- Rests on `StepsMade`: what is left of the steps gives what all of them give; the list stays, and so does its table.
 use native.Mathlib.Omega.{arith}
-use borrow.Author.Rules.{rules}
-use Rattle.directory.specs.Directory.{directory_by}
 use Rattle.release.proofs.Callers.{homes_kept, card_kept}
 use Rattle.release.proofs.Prices.{listed_kept}
-use Rattle.release.proofs.Left.{StepsMade, counted_left, some_left, steps_none, steps-one, steps_run, steps_all}
+use Rattle.release.proofs.Left.{counted_left, some_left, steps_none, steps-one, steps_run, steps_all}
 use Rattle.release.proofs.steps.make_listed.Goals as goal
 
 pub loop-left-init : goal.loop-left-init
@@ -25,7 +23,14 @@ store_prices-requires c =
     let more = c.loop-left-test.true in
     let made = rw c.area_size-size.ensures at c.steps_made-made.ensures in
     let next = rw made at c.prices_next.ensures in
-    let run = c.smaller-count.ensures in record { homes_in = homes_kept pre.homes_in far.same; card_in = card_kept pre.card_in far.same; steps_left = some_left (far.some more) (omega (arith, run)); count_nonzero = (c.if-count-gt0.true, omega (arith, run, next)); listed = listed_kept pre.listed (far.list more) }
+    let run = c.smaller-count.ensures in
+    record {
+      homes_in = homes_kept pre.homes_in far.same;
+      card_in = card_kept pre.card_in far.same;
+      steps_left = some_left (far.some more) (omega (arith, run));
+      count_nonzero = (c.if-count-gt0.true, omega (arith, run, next));
+      listed = listed_kept pre.listed (far.list more);
+    }
 
 pub overflow_sub-left : goal.overflow_sub-left
 overflow_sub-left c = omega (arith, c.smaller-count.ensures)
@@ -42,7 +47,13 @@ other_step-requires c =
     let far = c.loop-left.invariant in
     let more = c.loop-left-test.true in
     let made = rw c.area_size-size.ensures at c.steps_made-made.ensures in
-    let next = c.prices_next.ensures in record { card_in = card_kept pre.card_in far.same; card_in_2 = card_kept pre.card_in_2 far.same; pages_bound = (pre.homes_in.few, counted_left (far.some more) more); steps_value = (made, omega (arith, c.smaller-count.ensures, next)) }
+    let next = c.prices_next.ensures in
+    record {
+      card_in = card_kept pre.card_in far.same;
+      card_in_2 = card_kept pre.card_in_2 far.same;
+      pages_bound = (pre.homes_in.few, counted_left (far.some more) more);
+      steps_value = (made, omega (arith, c.smaller-count.ensures, next));
+    }
 
 pub loop-left-preserved : goal.loop-left-preserved
 loop-left-preserved c =

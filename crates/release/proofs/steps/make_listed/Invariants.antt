@@ -1,10 +1,6 @@
 -- Rests on `StepsMade`: what is left of the steps gives what all of them give; the list stays, and so does its table.
-use native.Mathlib.Omega.{arith}
-use borrow.Author.Rules.{rules}
 use Rattle.directory.specs.Directory.{directory_by}
-use Rattle.release.proofs.Callers.{homes_kept, card_kept}
-use Rattle.release.proofs.Prices.{listed_kept}
-use Rattle.release.proofs.Left.{StepsMade, counted_left, some_left, steps_none, steps-one, steps_run, steps_all}
+use Rattle.release.proofs.Left.{StepsMade}
 use Rattle.release.proofs.steps.make_listed.Given as goal
 
 abbrev pub invariant-loop-left : goal.invariant-loop-left

@@ -22,7 +22,10 @@ steps_left-requires c =
     let size = c.area_size-size.ensures in
     let count = rw c.open_list-list.ensures.result_value at c.list_prices-k.ensures.count in
     let counted = listed_counts a.header.pages _ a.memory.now a.card size pre.good_release count in
-    rw size record { pages_start_le_size = (omega arith, pre.card_in.area); card_bound = (counted.under, counted.few) }
+    rw size record {
+      pages_start_le_size = (omega arith, pre.card_in.area);
+      card_bound = (counted.under, counted.few);
+    }
 
 pub make_listed-requires : goal.make_listed-requires
 make_listed-requires c =
@@ -38,7 +41,13 @@ make_listed-requires c =
     stored.prices (rw size pre.card_in.area) (omega arith)
     in
     let some = all_left {left = c.smaller-steps.result} counted (omega (arith, least, left, counted.prices)) in
-    record { homes_in = pre.homes_in; card_in = pre.card_in; card_in_2 = pre.card_in_2; steps_left = some; listed = table }
+    record {
+      homes_in = pre.homes_in;
+      card_in = pre.card_in;
+      card_in_2 = pre.card_in_2;
+      steps_left = some;
+      listed = table;
+    }
 
 pub returns : goal.returns
 returns c =

@@ -1,6 +1,5 @@
 -- Rests on what the load of the steps ensures.
 use native.Mathlib.Omega.{arith}
-use borrow.Author.Rules.{rules}
 use Rattle.release.proofs.steps.steps_left.Goals as goal
 
 pub overflow_sub-result : goal.overflow_sub-result

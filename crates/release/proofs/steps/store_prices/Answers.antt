@@ -1,14 +1,11 @@
 -- Rests on `PricesMade`: the memory with its count is the one that single steps leave; the count is written at the end.
-use Prim.Native.Nat.{◌+◌, ◌-◌, ◌/◌}
+use Prim.Native.Nat.{◌+◌, ◌/◌}
 use native.Mathlib.Omega.{arith}
-use borrow.Author.Rules.{rules}
-use lib.ListN.{length}
 use Rattle.directory.specs.Directory.{directory_by}
-use Rattle.protocol.specs.Release.{open_prices}
 use Rattle.release.proofs.Callers.{homes_kept}
 use Rattle.release.proofs.Halves.{HalfFrom, next_price, half_bounds, half_same}
 use Rattle.release.proofs.Prices.{price_at_lem}
-use Rattle.release.proofs.Counting.{PricesMade, prices_none, prices_one, prices_all}
+use Rattle.release.proofs.Counting.{prices_none, prices_one, prices_all}
 use Rattle.release.proofs.steps.store_prices.Goals as goal
 
 pub steps_made-steps-requires : goal.steps_made-steps-requires
@@ -69,7 +66,11 @@ step_price-requires c =
     price_at_lem a.header.pages a.memory.now a.asked.card (at / 2) c.listed_price-p.result
     (omega (arith, next.rest, c.number_next-first.ensures, some.prices, more))
     (rw c.listed_price-p.ensures (pre.listed.is (at / 2)))
-    in record { homes_in = homes_kept pre.homes_in c.loop-made.invariant.same; page_lt_pages = (price.is_on_page, price.in_page, omega (arith, bounds.1, c.half_next-half.ensures)) }
+    in
+    record {
+      homes_in = homes_kept pre.homes_in c.loop-made.invariant.same;
+      page_lt_pages = (price.is_on_page, price.in_page, omega (arith, bounds.1, c.half_next-half.ensures));
+    }
 
 pub loop-made-preserved : goal.loop-made-preserved
 loop-made-preserved c =

@@ -1,14 +1,9 @@
 -- Rests on `PricesMade`: the memory with its count is the one that single steps leave; the count is written at the end.
-use Prim.Native.Nat.{◌+◌, ◌-◌, ◌/◌}
-use native.Mathlib.Omega.{arith}
-use borrow.Author.Rules.{rules}
+use Prim.Native.Nat.{◌-◌}
 use lib.ListN.{length}
 use Rattle.directory.specs.Directory.{directory_by}
 use Rattle.protocol.specs.Release.{open_prices}
-use Rattle.release.proofs.Callers.{homes_kept}
-use Rattle.release.proofs.Halves.{HalfFrom, next_price, half_bounds, half_same}
-use Rattle.release.proofs.Prices.{price_at_lem}
-use Rattle.release.proofs.Counting.{PricesMade, prices_none, prices_one, prices_all}
+use Rattle.release.proofs.Counting.{PricesMade}
 use Rattle.release.proofs.steps.store_prices.Given as goal
 
 -- k is not at hand in the loop: the number of prices is that of the list
