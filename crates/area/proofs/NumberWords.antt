@@ -1,5 +1,6 @@
 -- Numbers by their words. Whoever reads or writes a number goes by these laws, not by how many words it has.
-use Rattle.laws.proofs.Prelude.{ℕ, ◌+◌, ◌<◌, ◌≡◌, refl, arith, length, get_or, List, ◌++◌, sym}
+use Rattle.std.specs.Prelude.{ℕ, ◌+◌, ◌<◌, ◌≡◌, length, get_or, List, ◌++◌}
+use Rattle.laws.proofs.Prelude.{refl, arith, sym}
 use native.Mathlib.Nat.{add-zero}
 use Rattle.memory.specs.Words.{store_run}
 use Rattle.memory.proofs.Runs.{store_run_append}

@@ -1,5 +1,6 @@
 -- What a card's own words say: a release read where it was stored, and words that are kept.
-use Rattle.laws.proofs.Prelude.{ℕ, ◌+◌, ◌<◌, ◌≤◌, ◌≡◌, refl, ◌∙◌, List, Bool, arith, length, get_or}
+use Rattle.std.specs.Prelude.{ℕ, ◌+◌, ◌<◌, ◌≤◌, ◌≡◌, List, Bool, length, get_or}
+use Rattle.laws.proofs.Prelude.{refl, ◌∙◌, arith}
 use lib.ListN.{get_or-append}
 use Rattle.laws.proofs.Lists.{get_or_right}
 use Rattle.memory.specs.Words.{AreaIn, load, load_run}

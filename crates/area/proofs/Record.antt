@@ -1,7 +1,7 @@
 -- Records in a card's area: what one tells, the words of a settled one, and that one written changes nothing else.
-use Rattle.laws.proofs.Prelude.{ℕ, ◌+◌, ◌*◌, ◌%◌, ◌≤◌, ◌<◌, ◌≡◌, refl, sym, ap, ◌∙◌, ◌≢◌, ◌⊎◌, List, ◌++◌, Bool, true}
-use Rattle.laws.proofs.Prelude.{false, cond, true≢false, false≢true, arith, eq-eqb, eqb-true, eqb-false, length, get_or}
-use Rattle.laws.proofs.Prelude.{eqb}
+use Rattle.std.specs.Prelude.{ℕ, ◌+◌, ◌*◌, ◌%◌, ◌≤◌, ◌<◌, ◌≡◌, ◌≢◌, ◌⊎◌, List, ◌++◌, Bool, true, false, cond, length}
+use Rattle.std.specs.Prelude.{get_or, eqb}
+use Rattle.laws.proofs.Prelude.{refl, sym, ap, ◌∙◌, true≢false, false≢true, arith, eq-eqb, eqb-true, eqb-false}
 use lib.ListN.{length-append, get_or-append}
 use Rattle.laws.proofs.Lists.{get_or_right}
 use Rattle.memory.specs.Words.{AreaIn, load, zeros}

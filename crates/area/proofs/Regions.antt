@@ -1,6 +1,7 @@
 -- Regions of a card's area: which words each has, and that records stand apart. A word of the area is named by its
 -- offset.
-use Rattle.laws.proofs.Prelude.{ℕ, ◌+◌, ◌≤◌, ◌<◌, ◌≢◌, ◌⊎◌, inl, inr, arith, dec_lt}
+use Rattle.std.specs.Prelude.{ℕ, ◌+◌, ◌≤◌, ◌<◌, ◌≢◌, ◌⊎◌}
+use Rattle.laws.proofs.Prelude.{inl, inr, arith, dec_lt}
 use Rattle.memory.proofs.Index.{Outside, outside_other_card, outside_other_offset}
 use Rattle.area.specs.Layout.{number_size, desk_size, own_stamp, own_size, open_flag, release_size, record_at}
 use Rattle.area.specs.Layout.{record_size, record_stamp, record_done, record_desk, list_start, list_size, page_at}

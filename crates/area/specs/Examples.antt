@@ -1,6 +1,6 @@
 -- Worked examples of a card's area, computed from the definitions: the layout, and records.
 -- Assumes nothing: these are definitions.
-use Rattle.laws.specs.Prelude.{ℕ, List, [], ◌∷◌, ◌++◌, Bool, cond}
+use Rattle.std.specs.Prelude.{ℕ, List, [], ◌∷◌, ◌++◌, Bool, cond}
 use Rattle.laws.specs.Examples.{Example, computed}
 use Rattle.memory.specs.Words.{zeros}
 use Rattle.directory.specs.Directory.{table_from}

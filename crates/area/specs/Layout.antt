@@ -2,7 +2,7 @@
 -- the row before it ends, so that a size is written once. src/layout.rt has the same table. Numbers take two words since
 -- document 02, request 5; `mover`, specs/Forms.antt, has the table of before.
 -- Assumes nothing: these are definitions.
-use Rattle.laws.specs.Prelude.{ℕ, ◌+◌, ◌*◌, ◌%◌}
+use Rattle.std.specs.Prelude.{ℕ, ◌+◌, ◌*◌, ◌%◌}
 
 -- ---- sizes
 

@@ -1,7 +1,7 @@
 -- Worked examples of the layout, computed from the definitions: each row of the table of a card's area, which
 -- no theorem sees.
 -- Assumes nothing: these are definitions.
-use Rattle.laws.specs.Prelude.{List, [], ◌∷◌}
+use Rattle.std.specs.Prelude.{List, [], ◌∷◌}
 use Rattle.laws.specs.Examples.{Example, computed}
 use Rattle.area.specs.Layout.{area_size, desk_size, own_stamp, own_desk, open_flag, steps_made, release_number}
 use Rattle.area.specs.Layout.{release_desk, release_size, record_size, record_stamp, record_done, record_desk}

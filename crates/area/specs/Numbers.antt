@@ -1,6 +1,6 @@
 -- Release numbers, stamps and done marks in a card's area: "64 bits, low word first" (document 02, request 5).
 -- Assumes nothing: these are definitions.
-use Rattle.laws.specs.Prelude.{ℕ, ◌+◌, ◌*◌, ◌%◌, ◌/◌, List, [], ◌∷◌}
+use Rattle.std.specs.Prelude.{ℕ, ◌+◌, ◌*◌, ◌%◌, ◌/◌, List, [], ◌∷◌}
 use Rattle.memory.specs.Words.{load, store_run}
 
 -- how many values a word of 32 bits has

@@ -1,6 +1,6 @@
 -- Inner contracts only. The memory of a rack: one area for each card.
 -- Assumes nothing: this is a definition.
-use Rattle.laws.specs.Prelude.{ℕ, ◌*◌, ◌≤◌, ◌≡◌}
+use Rattle.std.specs.Prelude.{ℕ, ◌*◌, ◌≤◌, ◌≡◌}
 use Rattle.directory.specs.declared.Header.{Header}
 use Rattle.area.specs.Layout.{area_size}
 

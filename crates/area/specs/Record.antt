@@ -1,6 +1,6 @@
 -- A card's record on another card: stamp, done mark, even desk, odd desk (document 01, "Cards, pages, memory").
 -- Assumes nothing: these are definitions.
-use Rattle.laws.specs.Prelude.{ℕ, ◌%◌, List, ◌++◌, Bool, true, false, cond, eqb}
+use Rattle.std.specs.Prelude.{ℕ, ◌%◌, List, ◌++◌, Bool, true, false, cond, eqb}
 use Rattle.memory.specs.Words.{load_run, store_run, zeros}
 use Rattle.area.specs.Layout.{desk_size, record_at, record_stamp, record_done, record_desk}
 use Rattle.area.specs.Numbers.{number_words, load_number}

@@ -1,6 +1,6 @@
 -- What a card's area says of the card's own releases: the last one that it closed, and the open one.
 -- Assumes nothing: these are definitions.
-use Rattle.laws.specs.Prelude.{ℕ, List, ◌++◌, Bool, ◌&&◌, eqb}
+use Rattle.std.specs.Prelude.{ℕ, List, ◌++◌, Bool, ◌&&◌, eqb}
 use Rattle.memory.specs.Words.{load, load_run}
 use Rattle.directory.specs.Directory.{live_at}
 use Rattle.area.specs.Layout.{desk_size, own_stamp, own_desk, open_flag, steps_made, release_number, release_desk}

@@ -1,6 +1,6 @@
 // Where things stand in a card's area: document 01's table of words, with numbers of two words, each
 // row from the row before it. specs/Layout.antt has the same table.
-ghost use Rattle.laws.specs.Prelude.{◌≡◌, ◌<◌, ◌≤◌};
+ghost use Rattle.std.specs.Prelude.{◌≡◌, ◌<◌, ◌≤◌};
 ghost use Rattle.area.specs.Layout.{area_size, desk_in_record, record_at, record_stamp, record_done};
 ghost use Rattle.area.specs.Layout.{record_desk, page_at};
 

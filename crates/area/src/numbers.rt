@@ -1,5 +1,5 @@
 // Release numbers, stamps and done marks in a card's area: 64 bits, the low word first.
-ghost use Rattle.laws.specs.Prelude.{◌≡◌, ◌+◌, ◌≤◌, length};
+ghost use Rattle.std.specs.Prelude.{◌≡◌, ◌+◌, ◌≤◌, length};
 ghost use Rattle.memory.specs.Words.{AreaIn};
 ghost use Rattle.area.specs.Layout.{number_size};
 ghost use Rattle.area.specs.Numbers.{load_number, store_number};

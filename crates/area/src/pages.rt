@@ -1,6 +1,6 @@
 // A page in a card's area: the card's area is lent on as a part of the memory, and the page as a
 // part of it. A word of the page is named by its place in both halves.
-ghost use Rattle.laws.specs.Prelude.{◌≡◌, ◌+◌, ◌<◌, ◌≤◌, length, set};
+ghost use Rattle.std.specs.Prelude.{◌≡◌, ◌+◌, ◌<◌, ◌≤◌, length, set};
 ghost use Rattle.memory.specs.Words.{AreaIn, store, copy_run, load_run};
 ghost use Rattle.area.specs.Layout.{page_size, stored_page_size, page_at, committed};
 

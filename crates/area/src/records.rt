@@ -1,6 +1,6 @@
 // A card's record in the area of another card, its holder: read, and written from a release or from
 // the card's own stamp and desk.
-ghost use Rattle.laws.specs.Prelude.{◌≡◌, ◌<◌, ◌≤◌, length};
+ghost use Rattle.std.specs.Prelude.{◌≡◌, ◌<◌, ◌≤◌, length};
 ghost use Rattle.memory.specs.Words.{AreaIn, copy_run};
 ghost use Rattle.area.specs.Layout.{desk_size, pages_start, record_at, record_size};
 ghost use Rattle.area.specs.Releases.{release_of, own_release};

@@ -1,5 +1,5 @@
 // What a card's area says of the release that is open on the card.
-ghost use Rattle.laws.specs.Prelude.{◌≡◌, ◌<◌, ◌≤◌, length};
+ghost use Rattle.std.specs.Prelude.{◌≡◌, ◌<◌, ◌≤◌, length};
 ghost use Rattle.memory.specs.Words.{AreaIn};
 ghost use Rattle.area.specs.Layout.{list_size, pages_start, area_size};
 ghost use Rattle.area.specs.RackMemory.{MemoryOf};

@@ -1,5 +1,6 @@
 -- The directory's three parts, stored one after the other, are all its words.
-use Rattle.laws.proofs.Prelude.{ℕ, ◌≡◌, refl, sym, ◌∙◌, List, ◌++◌, arith, length}
+use Rattle.std.specs.Prelude.{ℕ, ◌≡◌, List, ◌++◌, length}
+use Rattle.laws.proofs.Prelude.{refl, sym, ◌∙◌, arith}
 use lib.ListN.{length-append}
 use lib.Seq.{sets}
 use Rattle.laws.proofs.Lists.{sets-append, sets_whole}

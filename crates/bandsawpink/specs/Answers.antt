@@ -1,6 +1,6 @@
 -- What the exported functions answer, and the directory's words that they leave.
 -- Assumes nothing: these are definitions.
-use Rattle.laws.specs.Prelude.{ℕ, List, Bool, cond}
+use Rattle.std.specs.Prelude.{ℕ, List, Bool, cond}
 use Rattle.answer.specs.declared.Outcome.{Outcome}
 use Rattle.protocol.specs.Result.{Result, accepted}
 use Rattle.bandsawpink.specs.declared.answers.RackAnswer.{RackAnswer}

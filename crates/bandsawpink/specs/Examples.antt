@@ -1,6 +1,6 @@
 -- Worked examples of what crosses to C, computed from the definitions: the 139 words of a directory, and an answer.
 -- Assumes nothing: these are definitions.
-use Rattle.laws.specs.Prelude.{ℕ, List, [], ◌∷◌, ◌++◌, replicate}
+use Rattle.std.specs.Prelude.{ℕ, List, [], ◌∷◌, ◌++◌, replicate}
 use Rattle.laws.specs.Examples.{Example, computed}
 use Rattle.answer.specs.Outcome.{given, refused_at}
 use Rattle.directory.specs.declared.Directory.{Directory}

@@ -1,5 +1,5 @@
 // What the exported functions answer, in numbers.
-ghost use Rattle.laws.specs.Prelude.{◌≡◌};
+ghost use Rattle.std.specs.Prelude.{◌≡◌};
 ghost use Rattle.answer.specs.Outcome.{outcome};
 ghost use Rattle.bandsawpink.specs.Answers.{exported_answer, exported_desk_answer};
 ghost use Rattle.bandsawpink.specs.Answers.{exported_steps_answer};

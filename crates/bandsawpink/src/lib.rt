@@ -2,7 +2,7 @@
 // what the call that it names does, on any argument; C hands in a slice as a pointer and a length.
 #![tactic(auto)]
 
-ghost use Rattle.laws.specs.Prelude.{◌≡◌, cond, eqb, length};
+ghost use Rattle.std.specs.Prelude.{◌≡◌, cond, eqb, length};
 ghost use Rattle.laws.specs.Examples.{AllHold};
 ghost use Rattle.area.specs.Prelude.{release_of};
 ghost use Rattle.diff.specs.Making.{make_diff, buffer_after, mark_changes, marks_after};

@@ -1,6 +1,6 @@
 // The directory as words, which is how it crosses to C: cards, pages, the awaited card, 8 marks, 64
 // primary homes, 64 secondary homes. Any words are a directory.
-ghost use Rattle.laws.specs.Prelude.{◌≡◌, ◌+◌, ◌≤◌, length, take, drop};
+ghost use Rattle.std.specs.Prelude.{◌≡◌, ◌+◌, ◌≤◌, length, take, drop};
 ghost use Rattle.directory.specs.Directory.{header_of};
 ghost use Rattle.bandsawpink.specs.Words.{status_in, marks_in, directory_in, awaited_word};
 ghost use Rattle.bandsawpink.specs.Words.{head_of, words_of};

@@ -1,7 +1,7 @@
 -- A step that was accepted keeps checks 1 and 2: of each card it leaves the words that they look at, but for its own
 -- steps. So the next step is accepted too, and after the close it is refused with 16.
-use Rattle.laws.proofs.Prelude.{ℕ, suc, ◌+◌, ◌-◌, ◌*◌, ◌<◌, ◌≡◌, refl, sym, ◌∙◌, List, Bool, true, false, arith}
-use Rattle.laws.proofs.Prelude.{ℕ_discrete, eqb-true, le-ltb, length, eqb}
+use Rattle.std.specs.Prelude.{ℕ, suc, ◌+◌, ◌-◌, ◌*◌, ◌<◌, ◌≡◌, List, Bool, true, false, length, eqb}
+use Rattle.laws.proofs.Prelude.{refl, sym, ◌∙◌, arith, ℕ_discrete, eqb-true, le-ltb}
 use Rattle.laws.proofs.Bools.{and_first, and_second}
 use Rattle.laws.proofs.Search.{lowest_same}
 use Rattle.directory.specs.declared.Directory.{Directory}

@@ -1,8 +1,8 @@
 -- On a rack that passed checks 1, 2 and 11, a fetch of one of its pages into 32 words is refused if the page is in
 -- motion, and only then.
-use Rattle.laws.proofs.Prelude.{ℕ, zero, suc, ◌*◌, ◌≤◌, ◌<◌, ◌≡◌, refl, ◌∙◌, ◌≢◌, List, Bool, true, false, cond}
-use Rattle.laws.proofs.Prelude.{arith, eq-eqb, ne_eqb, eqb-true, not-false, lt-leb, length, get_or, take, drop, eqb}
-use Rattle.laws.proofs.Prelude.{replicate}
+use Rattle.std.specs.Prelude.{ℕ, zero, suc, ◌*◌, ◌≤◌, ◌<◌, ◌≡◌, ◌≢◌, List, Bool, true, false, cond, length, get_or}
+use Rattle.std.specs.Prelude.{take, drop, eqb, replicate}
+use Rattle.laws.proofs.Prelude.{refl, ◌∙◌, arith, eq-eqb, ne_eqb, eqb-true, not-false, lt-leb}
 use lib.ListN.{length-take, length-drop}
 use lib.Seq.{length-sets}
 use Rattle.laws.specs.Search.{lowest, in_turn, any_below}

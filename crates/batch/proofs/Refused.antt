@@ -1,7 +1,7 @@
 -- What a refused batch leaves. Rests on demand 1 of the single step, and on the order of the checks of a fetch of all
 -- pages.
-use Rattle.laws.proofs.Prelude.{ℕ, zero, suc, ◌+◌, ◌<◌, ◌≡◌, refl, List, [], ◌∷◌, true, false, true≢false, arith}
-use Rattle.laws.proofs.Prelude.{length}
+use Rattle.std.specs.Prelude.{ℕ, zero, suc, ◌+◌, ◌<◌, ◌≡◌, List, [], ◌∷◌, true, false, length}
+use Rattle.laws.proofs.Prelude.{refl, true≢false, arith}
 use Rattle.laws.proofs.Bools.{by_cond}
 use Rattle.directory.specs.declared.Directory.{Directory}
 use Rattle.directory.specs.NewHome.{even_home}

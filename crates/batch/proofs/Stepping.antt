@@ -1,7 +1,7 @@
 -- Steps made one after the other on a rack that passed its checks: each up to the close is accepted, the one after it
 -- refused.
-use Rattle.laws.proofs.Prelude.{ℕ, zero, suc, ◌+◌, ◌-◌, ◌<◌, ◌≡◌, refl, sym, ◌∙◌, ◌≢◌, List, Bool, true, cond, not}
-use Rattle.laws.proofs.Prelude.{arith, dec_lt, ne_eqb, lt-leb, le-leb}
+use Rattle.std.specs.Prelude.{ℕ, zero, suc, ◌+◌, ◌-◌, ◌<◌, ◌≡◌, ◌≢◌, List, Bool, true, cond, not}
+use Rattle.laws.proofs.Prelude.{refl, sym, ◌∙◌, arith, dec_lt, ne_eqb, lt-leb, le-leb}
 use Prim.Native.Nat.{min}
 use Rattle.answer.specs.declared.Outcome.{Outcome}
 use Rattle.answer.specs.Outcome.{given, refused, no_open_release}

@@ -2,7 +2,7 @@
 -- exception: a refusal stops a batch of steps, and the steps that were made before it stand. Each of these is a call of
 -- its own to document 01, accepted as the single step accepts it.
 -- Assumes nothing: these are definitions.
-use Rattle.laws.specs.Prelude.{ℕ, zero, suc, ◌<◌, ◌≡◌, List, [], ◌∷◌, true, false, replicate}
+use Rattle.std.specs.Prelude.{ℕ, zero, suc, ◌<◌, ◌≡◌, List, [], ◌∷◌, true, false, replicate}
 use Rattle.directory.specs.declared.Directory.{Directory}
 use Rattle.protocol.specs.Result.{accepted}
 use Rattle.protocol.specs.Step.{step}

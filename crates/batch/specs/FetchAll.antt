@@ -1,7 +1,7 @@
 -- All pages fetched in one call. Document 01 does not name it: it is the single fetch, made for each page in turn.
 -- Assumes nothing: these are definitions.
-use Rattle.laws.specs.Prelude.{ℕ, ◌*◌, List, [], ◌∷◌, ◌++◌, Bool, false, cond, not, length, take, drop, set, replicate}
-use Rattle.laws.specs.Prelude.{eqb}
+use Rattle.std.specs.Prelude.{ℕ, ◌*◌, List, [], ◌∷◌, ◌++◌, Bool, false, cond, not, length, take, drop, set, replicate}
+use Rattle.std.specs.Prelude.{eqb}
 use Rattle.std.proofs.lemmas.List.Edits.{sets}
 use Rattle.laws.specs.Search.{in_turn}
 use Rattle.answer.specs.declared.Outcome.{Outcome}

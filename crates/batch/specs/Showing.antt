@@ -2,7 +2,7 @@
 -- before the first is copied, and each other page's words are its committed ones. `FetchAll` says what the call is to
 -- come to.
 -- Assumes nothing: these are definitions.
-use Rattle.laws.specs.Prelude.{ℕ, ◌*◌, ◌<◌, ◌≤◌, List, Bool, false, cond, not, length, get_or, set}
+use Rattle.std.specs.Prelude.{ℕ, ◌*◌, ◌<◌, ◌≤◌, List, Bool, false, cond, not, length, get_or, set}
 use Rattle.std.proofs.lemmas.List.Edits.{sets}
 use Rattle.directory.specs.declared.Directory.{Directory}
 use Rattle.area.specs.Prelude.{page_size}

@@ -1,6 +1,6 @@
 -- Several steps of a release in one call. Document 01 does not name it: it is the single step, made again and again.
 -- Assumes nothing: these are definitions.
-use Rattle.laws.specs.Prelude.{ℕ, zero, suc, ◌+◌, List, cond, leb}
+use Rattle.std.specs.Prelude.{ℕ, zero, suc, ◌+◌, List, cond, leb}
 use Rattle.answer.specs.declared.Outcome.{Outcome}
 use Rattle.answer.specs.Outcome.{given, refused, no_open_release}
 use Rattle.directory.specs.declared.Directory.{Directory}

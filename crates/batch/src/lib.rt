@@ -2,8 +2,7 @@
 // would; inside, the rack is checked once.
 #![tactic(auto)]
 
-ghost use Rattle.laws.specs.Prelude.{◌≡◌, ℕ, List, false, not, ◌*◌, ◌<◌, length, get_or};
-ghost use Rattle.std.specs.Prelude.{min};
+ghost use Rattle.std.specs.Prelude.{◌≡◌, ℕ, List, false, not, ◌*◌, ◌<◌, length, get_or, min};
 ghost use Rattle.laws.specs.Search.{in_turn};
 ghost use Rattle.answer.specs.Outcome.{answer_of};
 ghost use Rattle.directory.specs.Directory.{backup_of, directory_by, FullHomes};

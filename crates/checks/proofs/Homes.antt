@@ -1,5 +1,6 @@
 -- Where all cards are live, the numbers of a page's homes tell whether they are bad.
-use Rattle.laws.proofs.Prelude.{ℕ, ◌≡◌, List, Bool, dec_lt, arith, le-leb, lt-leb, leb}
+use Rattle.std.specs.Prelude.{ℕ, ◌≡◌, List, Bool, leb}
+use Rattle.laws.proofs.Prelude.{dec_lt, arith, le-leb, lt-leb}
 use Rattle.laws.specs.Search.{count_below, any_below}
 use Rattle.laws.proofs.Search.{all_count, lowest_same}
 use Rattle.directory.specs.declared.Directory.{Directory}

@@ -1,6 +1,6 @@
 -- Checks in order: of two lists of checks the first decides, and where none of it refuses the second.
-use Rattle.laws.proofs.Prelude.{ℕ, ◌≡◌, refl, ◌∙◌, ◌≢◌, List, [], ◌∷◌, ◌++◌, Bool, true, false, cond, not, ne_eqb}
-use Rattle.laws.proofs.Prelude.{not-true, eqb}
+use Rattle.std.specs.Prelude.{ℕ, ◌≡◌, ◌≢◌, List, [], ◌∷◌, ◌++◌, Bool, true, false, cond, not, eqb}
+use Rattle.laws.proofs.Prelude.{refl, ◌∙◌, ne_eqb, not-true}
 use Rattle.laws.proofs.Bools.{and_first, and_second}
 use Rattle.answer.specs.declared.Outcome.{Outcome}
 use Rattle.answer.specs.Outcome.{given, refused_at}

@@ -1,5 +1,6 @@
 -- Where the first checks of a call do not refuse: a rack within its limits, and a card of it.
-use Rattle.laws.proofs.Prelude.{ℕ, ◌*◌, ◌<◌, ◌≤◌, ◌≡◌, refl, List, true, eq-eqb, leb-false, length, leb}
+use Rattle.std.specs.Prelude.{ℕ, ◌*◌, ◌<◌, ◌≤◌, ◌≡◌, List, true, length, leb}
+use Rattle.laws.proofs.Prelude.{refl, eq-eqb, leb-false}
 use Rattle.laws.proofs.Bools.{neither}
 use Rattle.answer.specs.declared.Outcome.{Outcome}
 use Rattle.directory.specs.declared.Directory.{Directory}

@@ -1,5 +1,5 @@
 -- Inner contracts only. The homes of a page as far as their numbers tell whether they are bad.
-use Rattle.laws.specs.Prelude.{ℕ, List, Bool, ◌||◌, get_or, leb, eqb}
+use Rattle.std.specs.Prelude.{ℕ, List, Bool, ◌||◌, get_or, leb, eqb}
 
 -- they are the same, or one of them is not below the number of cards
 unfoldable pub misplaced : ℕ → ℕ → ℕ → Bool

@@ -4,7 +4,7 @@
 // as its header, by value, with its homes lent beside it.
 #![tactic(auto)]
 
-ghost use Rattle.laws.specs.Prelude.{◌≡◌, ◌*◌, ◌<◌, ◌≤◌, [], ◌∷◌, not, ◌||◌, length, leb};
+ghost use Rattle.std.specs.Prelude.{◌≡◌, ◌*◌, ◌<◌, ◌≤◌, [], ◌∷◌, not, ◌||◌, length, leb};
 ghost use Rattle.laws.specs.Search.{any_below, count_below};
 ghost use Rattle.directory.specs.Directory.{live_at, directory_by, FullHomes, awaits_card};
 ghost use Rattle.area.specs.Prelude.{area_size, AreaIn, MemoryOf};

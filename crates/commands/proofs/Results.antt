@@ -1,5 +1,6 @@
 -- A failure and its recovery, as one command.
-use Rattle.laws.proofs.Prelude.{ℕ, ◌≡◌, refl, ◌≢◌, List, [], eq-eqb, ne_eqb}
+use Rattle.std.specs.Prelude.{ℕ, ◌≡◌, ◌≢◌, List, []}
+use Rattle.laws.proofs.Prelude.{refl, eq-eqb, ne_eqb}
 use Rattle.laws.proofs.Bools.{by_cond}
 use Rattle.directory.specs.declared.Directory.{Directory}
 use Rattle.answer.specs.declared.Outcome.{Outcome}

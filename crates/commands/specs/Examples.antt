@@ -1,6 +1,6 @@
 -- Worked examples of shelfrun's commands, computed from the definitions: what each shows.
 -- Assumes nothing: these are definitions.
-use Rattle.laws.specs.Prelude.{ℕ, List, [], ◌∷◌, ◌++◌, take, drop, replicate}
+use Rattle.std.specs.Prelude.{ℕ, List, [], ◌∷◌, ◌++◌, take, drop, replicate}
 use Rattle.laws.specs.Examples.{Example, computed}
 use Rattle.laws.specs.Text.{bytes_of}
 use Rattle.answer.specs.Outcome.{in_words}

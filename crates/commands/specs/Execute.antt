@@ -1,7 +1,7 @@
 -- What a command of shelfrun does (document 01, "Numbers to hold it against": the lines B, S, X, J and F; "The value
 -- is steps made (S), stamp found (X), the price (F), else 0; a refusal shows its place, but S its steps made").
 -- Assumes nothing: these are definitions.
-use Rattle.laws.specs.Prelude.{ℕ, List, [], ◌∷◌, cond, get_or}
+use Rattle.std.specs.Prelude.{ℕ, List, [], ◌∷◌, cond, get_or}
 use Rattle.answer.specs.declared.Outcome.{Outcome}
 use Rattle.answer.specs.Outcome.{given, refused_at, refused, unreadable}
 use Rattle.directory.specs.declared.Directory.{Directory}

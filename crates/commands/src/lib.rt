@@ -1,7 +1,7 @@
 // The commands of shelfrun (document 01, "Numbers to hold it against"), executed on a rack.
 #![tactic(auto)]
 
-ghost use Rattle.laws.specs.Prelude.{◌≡◌, get_or};
+ghost use Rattle.std.specs.Prelude.{◌≡◌, get_or};
 ghost use Rattle.laws.specs.Examples.{AllHold};
 ghost use Rattle.protocol.specs.Join.{join};
 ghost use Rattle.commands.specs.Execute.{open_one, make_steps, fail_and_recover, fetch_word};

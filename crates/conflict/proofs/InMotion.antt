@@ -1,6 +1,7 @@
 -- The marks of the pages in motion: a page is marked if an open release which already counts names it.
-use Rattle.laws.proofs.Prelude.{ℕ, zero, suc, ◌≤◌, ◌<◌, ◌≡◌, refl, sym, ◌∙◌, List, [], ◌∷◌, Bool, true, false, cond}
-use Rattle.laws.proofs.Prelude.{◌&&◌, ◌||◌, true≢false, arith, ℕ_discrete, dec_lt, ltb-true, le-ltb, length, get_or, leb}
+use Rattle.std.specs.Prelude.{ℕ, zero, suc, ◌≤◌, ◌<◌, ◌≡◌, List, [], ◌∷◌, Bool, true, false, cond, ◌&&◌, ◌||◌, length}
+use Rattle.std.specs.Prelude.{get_or, leb}
+use Rattle.laws.proofs.Prelude.{refl, sym, ◌∙◌, true≢false, arith, ℕ_discrete, dec_lt, ltb-true, le-ltb}
 use mathlib.Core.Bool.{or_assoc, or-false}
 use lib.ListN.{length-replicate}
 use Rattle.laws.specs.Search.{lowest_from, lowest, any_below, in_turn}

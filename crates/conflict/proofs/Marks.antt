@@ -1,6 +1,7 @@
 -- Marks stand for prices: a place is marked if a price has it. And the walk that marks the prices of a list.
-use Rattle.laws.proofs.Prelude.{ℕ, zero, suc, ◌≤◌, ◌<◌, ◌≡◌, refl, sym, ap, ◌∙◌, List, [], ◌∷◌, ◌++◌, Bool, true, false}
-use Rattle.laws.proofs.Prelude.{cond, ◌||◌, ℕ_discrete, arith, ltb, eqb, eq-eqb, ne_eqb, length, get_or, set, replicate}
+use Rattle.std.specs.Prelude.{ℕ, zero, suc, ◌≤◌, ◌<◌, ◌≡◌, List, [], ◌∷◌, ◌++◌, Bool, true, false, cond, ◌||◌, ltb, eqb}
+use Rattle.std.specs.Prelude.{length, get_or, set, replicate}
+use Rattle.laws.proofs.Prelude.{refl, sym, ap, ◌∙◌, ℕ_discrete, arith, eq-eqb, ne_eqb}
 use mathlib.Core.Bool.{or-true, or-false}
 use lib.ListN.{length-set, length-replicate}
 use lib.Seq.{get_or-set_same, get_or-set_other}

@@ -1,6 +1,7 @@
 -- Searches over the other cards: without a card of its own number a search leaves none out, and where no other card
 -- has a release open, none shares a word.
-use Rattle.laws.proofs.Prelude.{ℕ, zero, suc, ◌+◌, ◌<◌, ◌≡◌, refl, ap, List, Bool, false, arith, ne_eqb, ltb}
+use Rattle.std.specs.Prelude.{ℕ, zero, suc, ◌+◌, ◌<◌, ◌≡◌, List, Bool, false, ltb}
+use Rattle.laws.proofs.Prelude.{refl, ap, arith, ne_eqb}
 use mathlib.Core.Bool.{and_assoc}
 use Rattle.laws.specs.Search.{lowest_from, lowest, any_below}
 use Rattle.laws.proofs.Search.{lowest_all_fail, none_below}

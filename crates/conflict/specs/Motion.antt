@@ -1,6 +1,6 @@
 -- Inner contracts only. Refusal 10: the prices of a list, counted, and the pages that they name.
 -- Assumes nothing: these are definitions.
-use Rattle.laws.specs.Prelude.{ℕ, ◌-◌, List, Bool, false, cond, ◌&&◌, ◌||◌, length, get_or, set, ltb, leb, eqb}
+use Rattle.std.specs.Prelude.{ℕ, ◌-◌, List, Bool, false, cond, ◌&&◌, ◌||◌, length, get_or, set, ltb, leb, eqb}
 use Rattle.area.specs.Prelude.{area_size, steps_of, has_open_release}
 use Rattle.diff.specs.declared.Cursor.{Cursor}
 use Rattle.diff.specs.declared.Price.{Price}

@@ -1,6 +1,6 @@
 -- Inner contracts only. The other cards of a rack that have a release open.
 -- Assumes nothing: this is a definition.
-use Rattle.laws.specs.Prelude.{ℕ, List, Bool, not, ◌&&◌, eqb}
+use Rattle.std.specs.Prelude.{ℕ, List, Bool, not, ◌&&◌, eqb}
 use Rattle.area.specs.Prelude.{has_open_release}
 
 -- another card than c, with a release open

@@ -1,7 +1,7 @@
 -- Inner contracts only. Refusal 8 by marks: the labels that a list names are marked, and another card's open release
 -- prices a marked one.
 -- Assumes nothing: these are definitions.
-use Rattle.laws.specs.Prelude.{ℕ, ◌+◌, ◌-◌, ◌*◌, List, [], ◌∷◌, Bool, false, cond, ◌&&◌, ◌||◌, get_or, ltb}
+use Rattle.std.specs.Prelude.{ℕ, ◌+◌, ◌-◌, ◌*◌, List, [], ◌∷◌, Bool, false, cond, ◌&&◌, ◌||◌, get_or, ltb}
 use Rattle.area.specs.Prelude.{area_size}
 use Rattle.diff.specs.declared.Cursor.{Cursor}
 use Rattle.diff.specs.declared.Price.{Price}

@@ -3,7 +3,7 @@
 // 10, `motion`). The searches for 8 and 10 answer the lowest such card, or the number of cards.
 #![tactic(auto)]
 
-ghost use Rattle.laws.specs.Prelude.{◌≡◌, ◌<◌, ◌≤◌, length};
+ghost use Rattle.std.specs.Prelude.{◌≡◌, ◌<◌, ◌≤◌, length};
 ghost use Rattle.laws.specs.Search.{any_below};
 ghost use Rattle.area.specs.Prelude.{AreaIn, MemoryOf, area_size, pages_start, has_open_release};
 ghost use Rattle.conflict.specs.Others.{is_other};

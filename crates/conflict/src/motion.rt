@@ -1,5 +1,5 @@
 // Refusal 10: a page in an open release that already counts.
-ghost use Rattle.laws.specs.Prelude.{◌≡◌, ◌<◌, ◌≤◌, ◌||◌, length, leb};
+ghost use Rattle.std.specs.Prelude.{◌≡◌, ◌<◌, ◌≤◌, ◌||◌, length, leb};
 ghost use Rattle.laws.specs.Search.{lowest, in_turn};
 ghost use Rattle.area.specs.Prelude.{AreaIn, MemoryOf, area_size, pages_start, steps_of};
 ghost use Rattle.diff.specs.Prices.{prices_of};

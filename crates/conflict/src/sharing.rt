@@ -1,5 +1,5 @@
 // Refusal 8: a word of the list that another card's open release prices.
-ghost use Rattle.laws.specs.Prelude.{◌≡◌, ◌<◌, ◌≤◌, length};
+ghost use Rattle.std.specs.Prelude.{◌≡◌, ◌<◌, ◌≤◌, length};
 ghost use Rattle.laws.specs.Search.{lowest};
 ghost use Rattle.area.specs.Prelude.{MemoryOf};
 ghost use Rattle.diff.specs.Prices.{label_of, prices_of};

@@ -1,6 +1,6 @@
 -- Digits before a text, one at a time, and a byte stored before a text.
-use Rattle.laws.proofs.Prelude.{ℕ, zero, suc, ◌+◌, ◌-◌, ◌/◌, ◌%◌, ◌≤◌, ◌<◌, ◌≡◌, refl, List, ◌∷◌, arith, lt-ltb, le-ltb}
-use Rattle.laws.proofs.Prelude.{length, drop, set}
+use Rattle.std.specs.Prelude.{ℕ, zero, suc, ◌+◌, ◌-◌, ◌/◌, ◌%◌, ◌≤◌, ◌<◌, ◌≡◌, List, ◌∷◌, length, drop, set}
+use Rattle.laws.proofs.Prelude.{refl, arith, lt-ltb, le-ltb}
 use native.Mathlib.Numerals.{add-one}
 use lib.ListN.{length-set}
 use lib.Seq.{drop-cons, drop-set-lt, get_or-set_same}

@@ -1,6 +1,6 @@
 -- Numbers in decimal, as bytes of text.
 -- Assumes nothing: these are definitions.
-use Rattle.laws.specs.Prelude.{ℕ, zero, suc, ◌+◌, ◌/◌, ◌%◌, List, ◌∷◌, cond, ltb}
+use Rattle.std.specs.Prelude.{ℕ, zero, suc, ◌+◌, ◌/◌, ◌%◌, List, ◌∷◌, cond, ltb}
 
 -- a number's last digits, at most so many and with no leading zero, before a text
 unfoldable pub digits_before : ℕ → ℕ → List ℕ → List ℕ

@@ -1,6 +1,6 @@
 -- Worked examples of numbers in decimal, computed from the definitions.
 -- Assumes nothing: these are definitions.
-use Rattle.laws.specs.Prelude.{List, [], ◌∷◌}
+use Rattle.std.specs.Prelude.{List, [], ◌∷◌}
 use Rattle.laws.specs.Examples.{Example, computed}
 use Rattle.decimal.specs.Decimal.{decimal_before}
 

@@ -1,7 +1,7 @@
 // Numbers in decimal, written into a text from its end to its start, so that no digits are counted.
 #![tactic(auto)]
 
-ghost use Rattle.laws.specs.Prelude.{◌≡◌, ◌+◌, ◌≤◌, ◌<◌, ◌∷◌, length, drop};
+ghost use Rattle.std.specs.Prelude.{◌≡◌, ◌+◌, ◌≤◌, ◌<◌, ◌∷◌, length, drop};
 ghost use Rattle.laws.specs.Examples.{AllHold};
 ghost use Rattle.decimal.specs.Decimal.{decimal_before};
 ghost use Rattle.decimal.specs.Examples.{examples};

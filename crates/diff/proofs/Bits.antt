@@ -1,6 +1,6 @@
 -- The bits of a word: of what is left of it after a shift, of its first bit and the others, and that 0 has none set.
-use Rattle.laws.proofs.Prelude.{ℕ, suc, ◌+◌, ◌/◌, ◌%◌, ◌^◌, ◌<◌, ◌≡◌, ap, ◌∙◌, false, cond, arith, ℕ_discrete}
-use Rattle.laws.proofs.Prelude.{eq-eqb, ne_eqb}
+use Rattle.std.specs.Prelude.{ℕ, suc, ◌+◌, ◌/◌, ◌%◌, ◌^◌, ◌<◌, ◌≡◌, false, cond}
+use Rattle.laws.proofs.Prelude.{ap, ◌∙◌, arith, ℕ_discrete, eq-eqb, ne_eqb}
 use native.Mathlib.Nat.{div-one, zero-div}
 use native.Mathlib.Numerals.{add-one}
 use lib.Pow.{shr_lt, shr-shr}

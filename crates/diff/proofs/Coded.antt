@@ -1,6 +1,6 @@
 -- A diff that reads well is the encoding of its prices, which ascend.
-use Rattle.laws.proofs.Prelude.{ℕ, suc, ◌+◌, ◌*◌, ◌≤◌, ◌<◌, ◌≡◌, refl, sym, ap, ◌∙◌, List, [], ◌∷◌, ◌++◌, arith}
-use Rattle.laws.proofs.Prelude.{ℕ_discrete, length}
+use Rattle.std.specs.Prelude.{ℕ, suc, ◌+◌, ◌*◌, ◌≤◌, ◌<◌, ◌≡◌, List, [], ◌∷◌, ◌++◌, length}
+use Rattle.laws.proofs.Prelude.{refl, sym, ap, ◌∙◌, arith, ℕ_discrete}
 use Rattle.diff.specs.Format.{page_word, run_word, end_word}
 use Rattle.diff.specs.Reading.{Cursor, past_price, past_page, past_run}
 use Rattle.diff.specs.Prices.{Price, label_of, priced_word}

@@ -1,6 +1,6 @@
 -- The encoding of ascending prices reads well, and reading gives the prices back.
-use Rattle.laws.proofs.Prelude.{ℕ, ◌+◌, ◌-◌, ◌*◌, ◌≤◌, ◌<◌, ◌≡◌, refl, sym, ap, ◌∙◌, subst, List, [], ◌∷◌, Bool, true}
-use Rattle.laws.proofs.Prelude.{false, true≢false, arith, dec_lt, length}
+use Rattle.std.specs.Prelude.{ℕ, ◌+◌, ◌-◌, ◌*◌, ◌≤◌, ◌<◌, ◌≡◌, List, [], ◌∷◌, Bool, true, false, length}
+use Rattle.laws.proofs.Prelude.{refl, sym, ap, ◌∙◌, subst, true≢false, arith, dec_lt}
 use Rattle.diff.specs.Format.{end_word}
 use Rattle.diff.specs.Reading.{Cursor, start, past_price, past_page}
 use Rattle.diff.specs.Prices.{Price, label_of, priced_word}

@@ -1,6 +1,7 @@
 -- A diff that reads well to its end, as a derivation: a word and what follows it. Reading finds just these.
-use Rattle.laws.proofs.Prelude.{ℕ, suc, ◌+◌, ◌/◌, ◌≤◌, ◌<◌, ◌≡◌, refl, sym, ◌∙◌, subst, List, [], ◌∷◌, ◌++◌, Bool, true}
-use Rattle.laws.proofs.Prelude.{false, cond, arith, lt-ltb, le-ltb, lt-leb, eq-eqb, ne_eqb, length, ltb, eqb}
+use Rattle.std.specs.Prelude.{ℕ, suc, ◌+◌, ◌/◌, ◌≤◌, ◌<◌, ◌≡◌, List, [], ◌∷◌, ◌++◌, Bool, true, false, cond, length}
+use Rattle.std.specs.Prelude.{ltb, eqb}
+use Rattle.laws.proofs.Prelude.{refl, sym, ◌∙◌, subst, arith, lt-ltb, le-ltb, lt-leb, eq-eqb, ne_eqb}
 use mathlib.Core.List.{append-nil}
 use native.Mathlib.Nat.{add-zero, lt_of_lt_of_le}
 use Rattle.diff.specs.Format.{kind, low, offset, count, page_word, run_word, end_word, most_words}

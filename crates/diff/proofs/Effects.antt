@@ -1,7 +1,7 @@
 -- What is done to the pages of a rack shows which labels are named, and at which prices: prices that do the same to every
 -- label name the same ones, and an allowed diff is told by its effect.
-use Rattle.laws.proofs.Prelude.{ℕ, ◌*◌, ◌<◌, ◌≡◌, refl, sym, ap, ◌∙◌, List, Bool, true, false, true≢false, arith, dec_lt}
-use Rattle.laws.proofs.Prelude.{length, get_or, replicate}
+use Rattle.std.specs.Prelude.{ℕ, ◌*◌, ◌<◌, ◌≡◌, List, Bool, true, false, length, get_or, replicate}
+use Rattle.laws.proofs.Prelude.{refl, sym, ap, ◌∙◌, true≢false, arith, dec_lt}
 use lib.ListN.{length-replicate, get_or-replicate}
 use Rattle.diff.specs.Prices.{Price, prices_of, names, applied_at, apply_prices}
 use Rattle.diff.specs.OnlyDiff.{Allowed, Names, DiffOf}

@@ -1,6 +1,6 @@
 -- How prices become words: the header and the run of a price by where it stands, and prices in ascending order.
-use Rattle.laws.proofs.Prelude.{ℕ, suc, ◌+◌, ◌*◌, ◌≤◌, ◌<◌, ◌≡◌, refl, List, [], ◌∷◌, ◌++◌, Bool, true, false, ◌&&◌}
-use Rattle.laws.proofs.Prelude.{arith, le-leb, lt-leb, eq-eqb, ne_eqb, eqb-true, eqb}
+use Rattle.std.specs.Prelude.{ℕ, suc, ◌+◌, ◌*◌, ◌≤◌, ◌<◌, ◌≡◌, List, [], ◌∷◌, ◌++◌, Bool, true, false, ◌&&◌, eqb}
+use Rattle.laws.proofs.Prelude.{refl, arith, le-leb, lt-leb, eq-eqb, ne_eqb, eqb-true}
 use Rattle.laws.proofs.Bools.{and_first, and_second}
 use Rattle.diff.specs.Format.{page_word, run_word}
 use Rattle.diff.specs.Prices.{Price, label_of}

@@ -1,7 +1,7 @@
 -- The prices of named labels: one label, labels in two parts, two tests that agree, that they ascend, and what they
 -- name and set.
-use Rattle.laws.proofs.Prelude.{ℕ, zero, suc, ◌+◌, ◌*◌, ◌≤◌, ◌<◌, ◌≡◌, refl, sym, ◌∙◌, ◌≢◌, [], ◌∷◌, ◌++◌, Bool, true}
-use Rattle.laws.proofs.Prelude.{false, true≢false, arith, ℕ_discrete}
+use Rattle.std.specs.Prelude.{ℕ, zero, suc, ◌+◌, ◌*◌, ◌≤◌, ◌<◌, ◌≡◌, ◌≢◌, [], ◌∷◌, ◌++◌, Bool, true, false}
+use Rattle.laws.proofs.Prelude.{refl, sym, ◌∙◌, true≢false, arith, ℕ_discrete}
 use native.Mathlib.Nat.{add-zero, zero-add}
 use Rattle.diff.specs.Prices.{Price, label_of, names, applied_at}
 use Rattle.diff.specs.Encoding.{price_at, listed}

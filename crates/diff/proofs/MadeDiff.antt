@@ -1,7 +1,7 @@
 -- What the list maker makes with any marks: the one diff of the marked words at their working prices. It makes it wherever
 -- there is one.
-use Rattle.laws.proofs.Prelude.{ℕ, ◌+◌, ◌-◌, ◌*◌, ◌^◌, ◌≤◌, ◌<◌, ◌≡◌, refl, sym, ap, ◌∙◌, List, Bool, true, false}
-use Rattle.laws.proofs.Prelude.{cond, true≢false, arith, ℕ_discrete, dec_lt, length, get_or}
+use Rattle.std.specs.Prelude.{ℕ, ◌+◌, ◌-◌, ◌*◌, ◌^◌, ◌≤◌, ◌<◌, ◌≡◌, List, Bool, true, false, cond, length, get_or}
+use Rattle.laws.proofs.Prelude.{refl, sym, ap, ◌∙◌, true≢false, arith, ℕ_discrete, dec_lt}
 use lib.Count.{ones}
 use lib.ListN.{get_or-eq_default}
 use lib.Seq.{ext_get_or}

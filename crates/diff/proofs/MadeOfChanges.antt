@@ -1,6 +1,7 @@
 -- What the list maker makes with the marks of what differs: the list of before there were marks, and demand 2.
-use Rattle.laws.proofs.Prelude.{ℕ, suc, ◌+◌, ◌/◌, ◌<◌, ◌≡◌, refl, sym, ap, ◌∙◌, List, [], ◌∷◌, ◌++◌, Bool, true, false}
-use Rattle.laws.proofs.Prelude.{not, cond, true≢false, arith, ℕ_discrete, dec_lt, eq-eqb, ne_eqb, length, get_or, eqb}
+use Rattle.std.specs.Prelude.{ℕ, suc, ◌+◌, ◌/◌, ◌<◌, ◌≡◌, List, [], ◌∷◌, ◌++◌, Bool, true, false, not, cond, length}
+use Rattle.std.specs.Prelude.{get_or, eqb}
+use Rattle.laws.proofs.Prelude.{refl, sym, ap, ◌∙◌, true≢false, arith, ℕ_discrete, dec_lt, eq-eqb, ne_eqb}
 use native.Mathlib.Nat.{add-zero, zero-add}
 use lib.ListN.{get_or-eq_default}
 use Rattle.diff.specs.Prices.{prices_of, names, applied_at}

@@ -1,6 +1,6 @@
 -- What an accepted making of a diff, or marking of the changes, says of what is lent, and what is accepted.
-use Rattle.laws.proofs.Prelude.{ℕ, ◌*◌, ◌%◌, ◌≤◌, ◌≡◌, refl, sym, List, Bool, true, false, cond, arith, eqb-true}
-use Rattle.laws.proofs.Prelude.{leb-true, eq-eqb, le-leb, length, eqb, leb}
+use Rattle.std.specs.Prelude.{ℕ, ◌*◌, ◌%◌, ◌≤◌, ◌≡◌, List, Bool, true, false, cond, length, eqb, leb}
+use Rattle.laws.proofs.Prelude.{refl, sym, arith, eqb-true, leb-true, eq-eqb, le-leb}
 use Rattle.answer.specs.Outcome.{given, refused, limits, wrong_buffer}
 use Rattle.laws.proofs.Bools.{and_first, and_second}
 use Rattle.diff.specs.Format.{most_words}

@@ -1,7 +1,8 @@
 -- The marks of the pages: a label by its page and its word, and that past them nothing is marked; and the marks of what
 -- differs, one word at a time and one page at a time.
-use Rattle.laws.proofs.Prelude.{ℕ, zero, suc, ◌+◌, ◌*◌, ◌/◌, ◌%◌, ◌^◌, ◌≤◌, ◌<◌, ◌≡◌, refl, ◌∙◌, List, [], ◌∷◌, Bool}
-use Rattle.laws.proofs.Prelude.{true, false, not, cond, arith, dec_lt, eq-eqb, ne_eqb, length, get_or, take, drop, eqb}
+use Rattle.std.specs.Prelude.{ℕ, zero, suc, ◌+◌, ◌*◌, ◌/◌, ◌%◌, ◌^◌, ◌≤◌, ◌<◌, ◌≡◌, List, [], ◌∷◌, Bool, true, false}
+use Rattle.std.specs.Prelude.{not, cond, length, get_or, take, drop, eqb}
+use Rattle.laws.proofs.Prelude.{refl, ◌∙◌, arith, dec_lt, eq-eqb, ne_eqb}
 use mathlib.Core.List.{append-nil}
 use native.Mathlib.Nat.{pow-suc}
 use lib.ListN.{length-take, length-drop, get_or-eq_default}

@@ -1,7 +1,7 @@
 -- The merged diff: the one diff that does what the first and then the second do. It is the listed diff of the prices of
 -- both, one after the other; on a rack with fewer pages that allows both it is the same list.
-use Rattle.laws.proofs.Prelude.{ℕ, ◌+◌, ◌-◌, ◌*◌, ◌≤◌, ◌<◌, ◌≡◌, refl, sym, ap, ◌∙◌, List, [], ◌++◌, Bool, true, false}
-use Rattle.laws.proofs.Prelude.{arith, dec_lt, length, get_or}
+use Rattle.std.specs.Prelude.{ℕ, ◌+◌, ◌-◌, ◌*◌, ◌≤◌, ◌<◌, ◌≡◌, List, [], ◌++◌, Bool, true, false, length, get_or}
+use Rattle.laws.proofs.Prelude.{refl, sym, ap, ◌∙◌, arith, dec_lt}
 use mathlib.Core.List.{append-nil}
 use lib.Seq.{ext_get_or}
 use Rattle.diff.specs.Format.{most_words}

@@ -1,7 +1,7 @@
 -- The theorems on merged diffs: what merging two gives and answers, for three in either bracketing, and for the diff that
 -- changes nothing.
-use Rattle.laws.proofs.Prelude.{ℕ, ◌*◌, ◌≤◌, ◌<◌, ◌≡◌, refl, sym, ap, ◌∙◌, List, arith}
-use Rattle.laws.proofs.Prelude.{dec_lt, length}
+use Rattle.std.specs.Prelude.{ℕ, ◌*◌, ◌≤◌, ◌<◌, ◌≡◌, List, length}
+use Rattle.laws.proofs.Prelude.{refl, sym, ap, ◌∙◌, arith, dec_lt}
 use mathlib.Core.Bool.{or_assoc}
 use Rattle.answer.specs.Outcome.{given, list_too_long}
 use Rattle.diff.specs.Format.{most_words}

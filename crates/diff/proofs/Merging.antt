@@ -1,5 +1,6 @@
 -- What merging two diffs comes to, check by check, and what an accepted merge says of the lists.
-use Rattle.laws.proofs.Prelude.{ℕ, ◌≤◌, ◌≡◌, ◌≢◌, sym, ◌∙◌, List, arith, length}
+use Rattle.std.specs.Prelude.{ℕ, ◌≤◌, ◌≡◌, ◌≢◌, List, length}
+use Rattle.laws.proofs.Prelude.{sym, ◌∙◌, arith}
 use Rattle.answer.specs.Outcome.{and_then, list_too_long}
 use Rattle.answer.proofs.InOrder.{first_refuses, first_passes, both_pass, in_order}
 use Rattle.diff.specs.Format.{most_words}

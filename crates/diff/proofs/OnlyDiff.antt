@@ -1,7 +1,7 @@
 -- For each set of labels and their prices one allowed diff: an allowed diff is the encoding of ascending prices, and
 -- these are told apart by the labels that they name and the prices that they set.
-use Rattle.laws.proofs.Prelude.{ℕ, ◌+◌, ◌-◌, ◌*◌, ◌≤◌, ◌≡◌, refl, sym, ap, ◌∙◌, List, Bool, true, false, cond, arith}
-use Rattle.laws.proofs.Prelude.{dec_lt, ltb-false, le-ltb, length, ltb}
+use Rattle.std.specs.Prelude.{ℕ, ◌+◌, ◌-◌, ◌*◌, ◌≤◌, ◌≡◌, List, Bool, true, false, cond, length, ltb}
+use Rattle.laws.proofs.Prelude.{refl, sym, ap, ◌∙◌, arith, dec_lt, ltb-false, le-ltb}
 use native.Mathlib.Nat.{zero-add}
 use lib.ListN.{length-append}
 use Rattle.answer.specs.Outcome.{given, refused_at, faulty_list}

@@ -1,7 +1,8 @@
 -- How many prices are on a page: of two lists, of labels that are not of the page, and of those of the page's words
 -- that are marked, which are as many as its word of marks has ones.
-use Rattle.laws.proofs.Prelude.{ℕ, zero, suc, ◌+◌, ◌*◌, ◌/◌, ◌^◌, ◌≤◌, ◌<◌, ◌≡◌, refl, sym, ◌∙◌, ◌≢◌, List, [], ◌∷◌}
-use Rattle.laws.proofs.Prelude.{◌++◌, Bool, true, false, cond, arith, eq-eqb, ne_eqb}
+use Rattle.std.specs.Prelude.{ℕ, zero, suc, ◌+◌, ◌*◌, ◌/◌, ◌^◌, ◌≤◌, ◌<◌, ◌≡◌, ◌≢◌, List, [], ◌∷◌, ◌++◌, Bool, true}
+use Rattle.std.specs.Prelude.{false, cond}
+use Rattle.laws.proofs.Prelude.{refl, sym, ◌∙◌, arith, eq-eqb, ne_eqb}
 use native.Mathlib.Nat.{add-zero, zero-add}
 use lib.Count.{ones, ones_in, ones_step}
 use Rattle.diff.specs.Prices.{Price}

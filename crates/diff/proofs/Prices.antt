@@ -1,6 +1,7 @@
 -- What prices do to a label, one label at a time.
-use Rattle.laws.proofs.Prelude.{ℕ, ◌*◌, ◌<◌, ◌≤◌, ◌≡◌, refl, sym, ◌∙◌, ◌≢◌, List, [], ◌∷◌, ◌++◌, true, false, cond}
-use Rattle.laws.proofs.Prelude.{◌||◌, true≢false, arith, ℕ_discrete, eq-eqb, ne_eqb, length, get_or, set, eqb}
+use Rattle.std.specs.Prelude.{ℕ, ◌*◌, ◌<◌, ◌≤◌, ◌≡◌, ◌≢◌, List, [], ◌∷◌, ◌++◌, true, false, cond, ◌||◌, length, get_or}
+use Rattle.std.specs.Prelude.{set, eqb}
+use Rattle.laws.proofs.Prelude.{refl, sym, ◌∙◌, true≢false, arith, ℕ_discrete, eq-eqb, ne_eqb}
 use lib.ListN.{length-set}
 use lib.Seq.{get_or-set_same, get_or-set_other}
 use Rattle.diff.specs.Prices.{Price, label_of, names, applied_at, apply_prices}

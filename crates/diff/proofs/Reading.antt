@@ -1,6 +1,6 @@
 -- Reading a diff as a derivation: what each word was, and the prices of the words that follow.
-use Rattle.laws.proofs.Prelude.{ℕ, ◌+◌, ◌≤◌, ◌<◌, ◌≡◌, true, arith, ltb-true, ltb-false, leb-false, eqb-true, eqb-false}
-use Rattle.laws.proofs.Prelude.{ltb, eqb}
+use Rattle.std.specs.Prelude.{ℕ, ◌+◌, ◌≤◌, ◌<◌, ◌≡◌, true, ltb, eqb}
+use Rattle.laws.proofs.Prelude.{arith, ltb-true, ltb-false, leb-false, eqb-true, eqb-false}
 use Rattle.laws.proofs.Bools.{by_cond}
 use Rattle.diff.specs.Format.{kind, low, offset, count}
 use Rattle.diff.specs.Reading.{Cursor, Step, past_price, past_page, past_run, word_step, page_step, run_step, end_step}

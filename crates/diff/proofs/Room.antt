@@ -1,6 +1,6 @@
 -- What becomes of a diff by its length and by the room that there is for it.
-use Rattle.laws.proofs.Prelude.{ℕ, ◌≤◌, ◌<◌, ◌≡◌, ◌≢◌, refl, sym, List, Bool, true, false, cond, arith, length, ltb}
-use Rattle.laws.proofs.Prelude.{ltb-false, lt-ltb, le-ltb, eq-eqb, ne_eqb}
+use Rattle.std.specs.Prelude.{ℕ, ◌≤◌, ◌<◌, ◌≡◌, ◌≢◌, List, Bool, true, false, cond, length, ltb}
+use Rattle.laws.proofs.Prelude.{refl, sym, arith, ltb-false, lt-ltb, le-ltb, eq-eqb, ne_eqb}
 use Rattle.laws.proofs.Lists.{sets_front}
 use lib.Seq.{sets}
 use Rattle.answer.specs.declared.Outcome.{Outcome}

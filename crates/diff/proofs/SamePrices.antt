@@ -1,5 +1,6 @@
 -- Ascending prices are told apart by the labels that they name and the prices that they set.
-use Rattle.laws.proofs.Prelude.{ℕ, ◌+◌, ◌<◌, ◌≤◌, ◌≡◌, refl, sym, ap, ◌∙◌, List, ◌∷◌, true, true≢false, arith, dec_lt}
+use Rattle.std.specs.Prelude.{ℕ, ◌+◌, ◌<◌, ◌≤◌, ◌≡◌, List, ◌∷◌, true}
+use Rattle.laws.proofs.Prelude.{refl, sym, ap, ◌∙◌, true≢false, arith, dec_lt}
 use Rattle.diff.specs.Prices.{Price, label_of, names, applied_at}
 use Rattle.diff.proofs.Encoding.{Ascending, none, more}
 use Rattle.diff.proofs.Prices.{names-first, names_later, names_none, names_below, applied_first, applied_later}

@@ -1,6 +1,6 @@
 -- A diff that is read to its end word, whatever follows it: how many prices and words it has.
-use Rattle.laws.proofs.Prelude.{ℕ, zero, suc, ◌+◌, ◌≤◌, ◌<◌, ◌≡◌, refl, List, [], ◌∷◌, arith, lt-ltb, le-ltb, length}
-use Rattle.laws.proofs.Prelude.{get_or}
+use Rattle.std.specs.Prelude.{ℕ, zero, suc, ◌+◌, ◌≤◌, ◌<◌, ◌≡◌, List, [], ◌∷◌, length, get_or}
+use Rattle.laws.proofs.Prelude.{refl, arith, lt-ltb, le-ltb}
 use Rattle.diff.specs.Format.{most_words}
 use Rattle.diff.specs.Reading.{Cursor, Step, start, word_step, verdict_after, read_from}
 use Rattle.diff.specs.Prices.{Price, prices_from, prices_of}

@@ -1,7 +1,7 @@
 -- How prices become the words of a diff (document 01, "The list of changes"): the one allowed diff of the labels that
 -- are named, at their prices. Which labels are named is stated apart from it, as a test.
 -- Assumes nothing: these are definitions.
-use Rattle.laws.specs.Prelude.{ℕ, zero, suc, ◌+◌, ◌*◌, ◌/◌, ◌%◌, List, [], ◌∷◌, ◌++◌, Bool, cond, ◌&&◌, length, leb, eqb}
+use Rattle.std.specs.Prelude.{ℕ, zero, suc, ◌+◌, ◌*◌, ◌/◌, ◌%◌, List, [], ◌∷◌, ◌++◌, Bool, cond, ◌&&◌, length, leb, eqb}
 use Rattle.diff.specs.Format.{page_word, run_word, end_word}
 use Rattle.diff.specs.Prices.{Price, label_of}
 

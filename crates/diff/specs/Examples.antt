@@ -1,7 +1,7 @@
 -- Worked examples of diffs, computed from the definitions: where a faulty one is refused, how long one may be, and
 -- what the list maker writes. No theorem on diffs sees the place of a fault or the longest list.
 -- Assumes nothing: these are definitions.
-use Rattle.laws.specs.Prelude.{ℕ, List, [], ◌∷◌, ◌++◌, replicate}
+use Rattle.std.specs.Prelude.{ℕ, List, [], ◌∷◌, ◌++◌, replicate}
 use Rattle.laws.specs.Examples.{Example, computed}
 use Rattle.answer.specs.Outcome.{in_words}
 use Rattle.diff.specs.Reading.{check_diff}

@@ -1,6 +1,6 @@
 -- The words of a diff, document 01's list of changes ("The list of changes").
 -- Assumes nothing: these are definitions.
-use Rattle.laws.specs.Prelude.{ℕ, ◌+◌, ◌*◌, ◌/◌, ◌%◌}
+use Rattle.std.specs.Prelude.{ℕ, ◌+◌, ◌*◌, ◌/◌, ◌%◌}
 
 -- "A word's top four bits are its kind."
 abbrev pub kind : ℕ → ℕ

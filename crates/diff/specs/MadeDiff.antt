@@ -1,7 +1,7 @@
 -- What the list maker makes: demand 2 on diffs, as document 02, request 2, makes it, and as the demand has it where the
 -- marks are those of what differs.
-use Rattle.laws.specs.Prelude.{ℕ, ◌+◌, ◌*◌, ◌^◌, ◌<◌, ◌≤◌, ◌≡◌, ◌≢◌, List, [], ◌∷◌, ◌++◌, true, cond, length, get_or}
-use Rattle.laws.specs.Prelude.{drop, eqb}
+use Rattle.std.specs.Prelude.{ℕ, ◌+◌, ◌*◌, ◌^◌, ◌<◌, ◌≤◌, ◌≡◌, ◌≢◌, List, [], ◌∷◌, ◌++◌, true, cond, length, get_or}
+use Rattle.std.specs.Prelude.{drop, eqb}
 use Rattle.std.specs.Int.Count.{ones}
 use Rattle.answer.specs.Outcome.{given}
 use Rattle.diff.specs.Prices.{Price, prices_of, names, apply_prices}

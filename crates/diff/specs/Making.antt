@@ -1,7 +1,7 @@
 -- The list maker (document 01, "The list of changes", as document 02, request 2, makes it): it "names exactly the marked
 -- words", at the working prices; and the call that marks what differs, for a desk that keeps no marks.
 -- Assumes nothing: these are definitions.
-use Rattle.laws.specs.Prelude.{ℕ, ◌*◌, ◌%◌, List, Bool, cond, ◌&&◌, length, get_or, leb, eqb}
+use Rattle.std.specs.Prelude.{ℕ, ◌*◌, ◌%◌, List, Bool, cond, ◌&&◌, length, get_or, leb, eqb}
 use Rattle.answer.specs.declared.Outcome.{Outcome}
 use Rattle.answer.specs.Outcome.{given, refused, limits, wrong_buffer}
 use Rattle.diff.specs.Encoding.{listed_diff}

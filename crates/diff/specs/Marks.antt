@@ -1,8 +1,8 @@
 -- Marks of the words that a desk has set (document 02, request 2): "one word of marks per page, bit w for word w"; and
 -- for a desk that keeps none, the marks of the words that differ from their twins.
 -- Assumes nothing: these are definitions.
-use Rattle.laws.specs.Prelude.{ℕ, zero, suc, ◌+◌, ◌*◌, ◌/◌, ◌%◌, ◌^◌, List, [], ◌∷◌, Bool, cond, length, get_or, take, drop}
-use Rattle.laws.specs.Prelude.{eqb}
+use Rattle.std.specs.Prelude.{ℕ, zero, suc, ◌+◌, ◌*◌, ◌/◌, ◌%◌, ◌^◌, List, [], ◌∷◌, Bool, cond, length, get_or, take}
+use Rattle.std.specs.Prelude.{drop, eqb}
 
 -- bit w of a word, 0 or 1
 abbrev pub bit : ℕ → ℕ → ℕ

@@ -1,6 +1,6 @@
 -- Worked examples of two diffs made one, computed from the definitions (document 02, request 9).
 -- Assumes nothing: these are definitions.
-use Rattle.laws.specs.Prelude.{ℕ, zero, suc, ◌+◌, List, [], ◌∷◌, ◌++◌, take, replicate}
+use Rattle.std.specs.Prelude.{ℕ, zero, suc, ◌+◌, List, [], ◌∷◌, ◌++◌, take, replicate}
 use Rattle.laws.specs.Examples.{Example, computed}
 use Rattle.answer.specs.Outcome.{in_words, list_too_long}
 use Rattle.diff.specs.Format.{page_word, run_word}

@@ -1,5 +1,5 @@
 -- What merging two diffs makes, and what it answers (document 02, request 9, "Two lists made one").
-use Rattle.laws.specs.Prelude.{ℕ, ◌*◌, ◌<◌, ◌≤◌, ◌≡◌, ◌≢◌, List, [], ◌∷◌, ◌++◌, ◌||◌, length, drop}
+use Rattle.std.specs.Prelude.{ℕ, ◌*◌, ◌<◌, ◌≤◌, ◌≡◌, ◌≢◌, List, [], ◌∷◌, ◌++◌, ◌||◌, length, drop}
 use Rattle.answer.specs.Outcome.{given, refused}
 use Rattle.diff.specs.Format.{end_word}
 use Rattle.diff.specs.Reading.{check_diff}

@@ -1,7 +1,7 @@
 -- Two diffs made one (document 02, request 9, "Two lists made one"): the diff of what either names, at the second's price
 -- where the second names it. Document 02 joins lists; here they are merged, since it is cards that join.
 -- Assumes nothing: these are definitions.
-use Rattle.laws.specs.Prelude.{ℕ, ◌*◌, List, Bool, cond, ◌||◌, length}
+use Rattle.std.specs.Prelude.{ℕ, ◌*◌, List, Bool, cond, ◌||◌, length}
 use Rattle.answer.specs.declared.Outcome.{Outcome}
 use Rattle.answer.specs.Outcome.{and_then, list_too_long}
 use Rattle.diff.specs.Reading.{check_diff}

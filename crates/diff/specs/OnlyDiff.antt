@@ -1,6 +1,6 @@
 -- For each set of labels and their prices one allowed diff: the law under the list maker, and under whatever else makes
 -- a diff of prices.
-use Rattle.laws.specs.Prelude.{ℕ, ◌*◌, ◌<◌, ◌≤◌, ◌≡◌, List, Bool, true, length}
+use Rattle.std.specs.Prelude.{ℕ, ◌*◌, ◌<◌, ◌≤◌, ◌≡◌, List, Bool, true, length}
 use Rattle.diff.specs.Format.{most_words}
 use Rattle.diff.specs.Reading.{check_diff}
 use Rattle.diff.specs.Prices.{prices_of, names, applied_at}

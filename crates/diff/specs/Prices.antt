@@ -1,6 +1,6 @@
 -- The prices of a diff, and what they do to the pages (document 01, "The list of changes").
 -- Assumes nothing: these are definitions.
-use Rattle.laws.specs.Prelude.{ℕ, ◌+◌, ◌-◌, ◌*◌, List, [], ◌∷◌, ◌++◌, Bool, true, false, cond, set, ltb, eqb}
+use Rattle.std.specs.Prelude.{ℕ, ◌+◌, ◌-◌, ◌*◌, List, [], ◌∷◌, ◌++◌, Bool, true, false, cond, set, ltb, eqb}
 use Rattle.diff.specs.Reading.{Cursor, Step, start, word_step}
 use Rattle.diff.specs.declared.Step.TheVariants.{Next, End, Fault}
 pub use Rattle.diff.specs.declared.Price.{Price}

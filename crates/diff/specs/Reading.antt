@@ -1,6 +1,6 @@
 -- Reading a diff word by word, against the rules of document 01, "The list of changes", and refusal 7 with its place.
 -- Assumes nothing: these are definitions.
-use Rattle.laws.specs.Prelude.{ℕ, ◌+◌, ◌-◌, List, [], ◌∷◌, Bool, cond, length, ltb, leb, eqb}
+use Rattle.std.specs.Prelude.{ℕ, ◌+◌, ◌-◌, List, [], ◌∷◌, Bool, cond, length, ltb, leb, eqb}
 use Rattle.answer.specs.declared.Outcome.{Outcome}
 use Rattle.answer.specs.Outcome.{given, refused_at, faulty_list}
 use Rattle.diff.specs.Format.{kind, low, offset, count, most_words}

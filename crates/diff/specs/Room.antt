@@ -1,7 +1,7 @@
 -- A diff and the lent buffer that it is written to: how many words there may be (document 01, refusal 17), and what stands
 -- in the buffer afterwards.
 -- Assumes nothing: these are definitions.
-use Rattle.laws.specs.Prelude.{ℕ, List, ◌++◌, cond, length, drop, ltb, eqb}
+use Rattle.std.specs.Prelude.{ℕ, List, ◌++◌, cond, length, drop, ltb, eqb}
 use Rattle.answer.specs.declared.Outcome.{Outcome}
 use Rattle.answer.specs.Outcome.{given, refused, wrong_buffer}
 use Rattle.diff.specs.Format.{most_words}

@@ -1,5 +1,5 @@
 -- Laws of the directory's changes: what it says of a card or a page after one.
-use Rattle.laws.proofs.Prelude.{ℕ, ◌<◌, ◌≤◌, ◌≡◌, Bool, true, false, ◌≢◌, length}
+use Rattle.std.specs.Prelude.{ℕ, ◌<◌, ◌≤◌, ◌≡◌, Bool, true, false, ◌≢◌, length}
 use lib.Seq.{get_or-set_same, get_or-set_other}
 use Rattle.directory.specs.Directory.{Directory, is_live, primary_of, secondary_of, with_mark, marked_dead, marked_live}
 use Rattle.directory.specs.Directory.{with_homes}

@@ -1,7 +1,7 @@
 -- Laws of the search for a live card, and of the next live card.
-use Rattle.laws.proofs.Prelude.{ℕ, zero, suc, ◌+◌, ◌-◌, ◌<◌, ◌≤◌, ◌≡◌, refl, sym, ap, ◌∙◌, List, [], ◌∷◌, Bool, true}
-use Rattle.laws.proofs.Prelude.{false, cond, true≢false, ◌≢◌, dec_lt, ℕ_discrete, arith, length, get_or, set, lt-ltb}
-use Rattle.laws.proofs.Prelude.{le-ltb}
+use Rattle.std.specs.Prelude.{ℕ, zero, suc, ◌+◌, ◌-◌, ◌<◌, ◌≤◌, ◌≡◌, List, [], ◌∷◌, Bool, true, false, cond, ◌≢◌}
+use Rattle.std.specs.Prelude.{length, get_or, set}
+use Rattle.laws.proofs.Prelude.{refl, sym, ap, ◌∙◌, true≢false, dec_lt, ℕ_discrete, arith, lt-ltb, le-ltb}
 use lib.ListN.{get_or-eq_default}
 use lib.Seq.{get_or-set_other}
 use Rattle.laws.proofs.Search.{Stops, lowest_stops, lowest_all_fail}

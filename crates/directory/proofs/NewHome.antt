@@ -1,8 +1,9 @@
 -- Laws of the card that becomes home to a page that lost one: what each rule names and what it goes by, and the number
 -- of a card's pages once the page has moved.
-use Rattle.laws.proofs.Prelude.{ℕ, zero, suc, ◌+◌, ◌<◌, ◌≤◌, ◌≡◌, refl, sym, ap, ◌∙◌, ◌≢◌, ◌⊎◌, List, Bool, true}
-use Rattle.laws.proofs.Prelude.{false, cond, true≢false, not, ◌||◌, length, ltb, eqb, ℕ_discrete, dec_lt, arith}
-use Rattle.laws.proofs.Prelude.{ne_eqb, eq-eqb, ltb-true, ltb-false, not-true, not-false}
+use Rattle.std.specs.Prelude.{ℕ, zero, suc, ◌+◌, ◌<◌, ◌≤◌, ◌≡◌, ◌≢◌, ◌⊎◌, List, Bool, true, false, cond, not, ◌||◌}
+use Rattle.std.specs.Prelude.{length, ltb, eqb}
+use Rattle.laws.proofs.Prelude.{refl, sym, ap, ◌∙◌, true≢false, ℕ_discrete, dec_lt, arith, ne_eqb, eq-eqb, ltb-true}
+use Rattle.laws.proofs.Prelude.{ltb-false, not-true, not-false}
 use mathlib.Core.Logic.{⊎_elim}
 use mathlib.Core.Bool.{or-true, or-false}
 use native.Mathlib.Nat.{add-zero}

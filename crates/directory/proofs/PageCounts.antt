@@ -1,8 +1,9 @@
 -- Laws of the counts of pages: one page more, the loops that count pages and look for the fewest, and counts that stay
 -- right while homes are given out.
-use Rattle.laws.proofs.Prelude.{ℕ, ◌+◌, ◌<◌, ◌≤◌, ◌≡◌, refl, sym, ap, ◌∙◌, ◌≢◌, List, Bool, true, false, true≢false}
-use Rattle.laws.proofs.Prelude.{cond, ◌&&◌, ◌||◌, length, get_or, replicate, ltb, eqb, ℕ_discrete, dec_lt, arith, eqb-true}
-use Rattle.laws.proofs.Prelude.{eqb-false, eq-eqb, ne_eqb, ltb-true, ltb-false}
+use Rattle.std.specs.Prelude.{ℕ, ◌+◌, ◌<◌, ◌≤◌, ◌≡◌, ◌≢◌, List, Bool, true, false, cond, ◌&&◌, ◌||◌, length, get_or}
+use Rattle.std.specs.Prelude.{replicate, ltb, eqb}
+use Rattle.laws.proofs.Prelude.{refl, sym, ap, ◌∙◌, true≢false, ℕ_discrete, dec_lt, arith, eqb-true, eqb-false, eq-eqb}
+use Rattle.laws.proofs.Prelude.{ne_eqb, ltb-true, ltb-false}
 use mathlib.Core.Bool.{or_self}
 use native.Mathlib.Nat.{add-zero}
 use native.Mathlib.Numerals.{add-one}

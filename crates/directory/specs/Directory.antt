@@ -1,7 +1,7 @@
 -- The directory: a value handed in and handed back (document 01, "Cards, pages, memory").
 -- Assumes nothing: these are definitions.
-use Rattle.laws.specs.Prelude.{ℕ, zero, suc, ◌%◌, ◌≡◌, List, [], ◌∷◌, Bool, true, false, cond, length, get_or, set}
-use Rattle.laws.specs.Prelude.{replicate, ltb, eqb}
+use Rattle.std.specs.Prelude.{ℕ, zero, suc, ◌%◌, ◌≡◌, List, [], ◌∷◌, Bool, true, false, cond, length, get_or, set}
+use Rattle.std.specs.Prelude.{replicate, ltb, eqb}
 pub use Rattle.directory.specs.Live.{live_at}
 unfoldable pub use Rattle.directory.specs.Live.{next_live}
 pub use Rattle.directory.specs.declared.Directory.{Directory}

@@ -1,7 +1,7 @@
 -- Worked examples of the directory, computed from the definitions: the next live card, the directories that
 -- formatting gives, and the new homes of pages.
 -- Assumes nothing: these are definitions.
-use Rattle.laws.specs.Prelude.{ℕ, List, [], ◌∷◌, ◌++◌, Bool, true, false, cond, replicate}
+use Rattle.std.specs.Prelude.{ℕ, List, [], ◌∷◌, ◌++◌, Bool, true, false, cond, replicate}
 use Rattle.laws.specs.Examples.{Example, computed}
 use Rattle.directory.specs.Live.{next_live}
 use Rattle.directory.specs.Directory.{Directory, Status, formatted_directory, empty_directory, marked_dead}

@@ -1,6 +1,6 @@
 -- The next live card (document 01, "Cards, pages, memory"). Marks: for each card whether it is live.
 -- Assumes nothing: these are definitions.
-use Rattle.laws.specs.Prelude.{ℕ, ◌+◌, ◌-◌, List, Bool, false, cond, get_or, ltb}
+use Rattle.std.specs.Prelude.{ℕ, ◌+◌, ◌-◌, List, Bool, false, cond, get_or, ltb}
 use Rattle.laws.specs.Search.{lowest_from}
 
 -- whether card c is live; no card past the marks is

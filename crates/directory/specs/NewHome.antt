@@ -1,6 +1,6 @@
 -- The card that becomes home to a page that lost one (document 02, request 4), and the card that did before.
 -- Assumes nothing: these are definitions.
-use Rattle.laws.specs.Prelude.{ℕ, ◌<◌, ◌≤◌, ◌≡◌, ◌≢◌, List, Bool, true, not, ◌&&◌, ◌||◌, get_or, ltb, eqb}
+use Rattle.std.specs.Prelude.{ℕ, ◌<◌, ◌≤◌, ◌≡◌, ◌≢◌, List, Bool, true, not, ◌&&◌, ◌||◌, get_or, ltb, eqb}
 use Rattle.laws.specs.Search.{lowest, any_below, count_below}
 use Rattle.directory.specs.Directory.{Directory, live_at, is_live, next_live_of}
 

@@ -1,7 +1,6 @@
 -- Inner contracts only. Counts of pages, one for each card, kept while homes are given out: what the functions of the
 -- module `homes` do with them.
-use Rattle.laws.specs.Prelude.{ℕ, ◌+◌, ◌<◌, ◌≤◌, ◌≡◌, List, Bool, true, cond, ◌&&◌, ◌||◌, length, get_or, set, ltb}
-use Rattle.laws.specs.Prelude.{eqb}
+use Rattle.std.specs.Prelude.{ℕ, ◌+◌, ◌<◌, ◌≤◌, ◌≡◌, List, Bool, true, cond, ◌&&◌, ◌||◌, length, get_or, set, ltb, eqb}
 use Rattle.directory.specs.Directory.{Directory, is_live}
 use Rattle.directory.specs.NewHome.{pages_at, may_take}
 

@@ -1,7 +1,7 @@
 // The card that becomes home to a page that lost one: the live card, other than the home that the
 // page keeps, that is home to the fewest pages (document 02, request 4). A caller counts the pages
 // of each card once, and one more for each home that it gives out.
-ghost use Rattle.laws.specs.Prelude.{◌≡◌, ◌<◌, ◌≤◌, length};
+ghost use Rattle.std.specs.Prelude.{◌≡◌, ◌<◌, ◌≤◌, length};
 ghost use Rattle.directory.specs.Directory.{table};
 ghost use Rattle.directory.specs.NewHome.{pages_in, pages_at, fewest_home, even_home};
 ghost use Rattle.directory.specs.PageCounts.{count_at, one_added, page_more, PagesWithin};

@@ -2,7 +2,7 @@
 // "Cards, pages, memory").
 #![tactic(auto)]
 
-ghost use Rattle.laws.specs.Prelude.{◌≡◌, ◌<◌, ◌≤◌, length};
+ghost use Rattle.std.specs.Prelude.{◌≡◌, ◌<◌, ◌≤◌, length};
 ghost use Rattle.laws.specs.Examples.{AllHold};
 ghost use Rattle.directory.specs.Live.{live_at, first_live, next_live};
 ghost use Rattle.directory.specs.Directory.{header_of, next_live_of, backup_of};

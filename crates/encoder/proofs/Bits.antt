@@ -1,7 +1,7 @@
 -- The first run of the set bits of a word: what trailing zeros say of its bits, the bits of its complement, and that
 -- the zeros before the run and those of the complement from there on place it.
-use Rattle.laws.proofs.Prelude.{ℕ, zero, suc, ◌+◌, ◌-◌, ◌/◌, ◌%◌, ◌^◌, ◌<◌, ◌≤◌, ◌≡◌, refl, sym, ap, ◌∙◌, arith}
-use Rattle.laws.proofs.Prelude.{dec_lt}
+use Rattle.std.specs.Prelude.{ℕ, zero, suc, ◌+◌, ◌-◌, ◌/◌, ◌%◌, ◌^◌, ◌<◌, ◌≤◌, ◌≡◌}
+use Rattle.laws.proofs.Prelude.{refl, sym, ap, ◌∙◌, arith, dec_lt}
 use native.Mathlib.Nat.{pow-zero, pow-suc, zero-add, lt_of_lt_of_le}
 use lib.Count.{count_trailing_zeros, under, trailing_le}
 use lib.Pow.{shr_lt, shr_le, pow_mono}

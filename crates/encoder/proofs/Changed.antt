@@ -1,7 +1,8 @@
 -- The marks of the words that differ from their twins, made from the first word up: what one word more brings,
 -- and that its bit has room.
-use Rattle.laws.proofs.Prelude.{ℕ, zero, suc, ◌+◌, ◌*◌, ◌^◌, ◌%◌, ◌<◌, ◌≤◌, ◌≡◌, ◌∙◌, List, [], ◌∷◌, Bool, true, false}
-use Rattle.laws.proofs.Prelude.{cond, length, get_or, take, eqb, arith, eq-eqb, ne_eqb}
+use Rattle.std.specs.Prelude.{ℕ, zero, suc, ◌+◌, ◌*◌, ◌^◌, ◌%◌, ◌<◌, ◌≤◌, ◌≡◌, List, [], ◌∷◌, Bool, true, false, cond}
+use Rattle.std.specs.Prelude.{length, get_or, take, eqb}
+use Rattle.laws.proofs.Prelude.{◌∙◌, arith, eq-eqb, ne_eqb}
 use native.Mathlib.Nat.{one-mul, pow-suc}
 use native.Mathlib.Numerals.{add-one}
 use lib.ListN.{length-take}

@@ -1,7 +1,7 @@
 -- How many words a page takes in a diff, by its marks: its page word, a word for each run and a price for each mark.
 -- The runs are counted by their ends, the marked words whose next word is not.
-use Rattle.laws.proofs.Prelude.{ℕ, zero, suc, ◌+◌, ◌-◌, ◌*◌, ◌/◌, ◌%◌, ◌^◌, ◌<◌, ◌≤◌, ◌≡◌, refl, ap, ◌∙◌, arith}
-use Rattle.laws.proofs.Prelude.{List, length, ne_eqb, eq-eqb, ℕ_discrete}
+use Rattle.std.specs.Prelude.{ℕ, zero, suc, ◌+◌, ◌-◌, ◌*◌, ◌/◌, ◌%◌, ◌^◌, ◌<◌, ◌≤◌, ◌≡◌, List, length}
+use Rattle.laws.proofs.Prelude.{refl, ap, ◌∙◌, arith, ne_eqb, eq-eqb, ℕ_discrete}
 use Prim.Native.Nat.{min}
 use native.Mathlib.Nat.{lt_of_le_of_lt, div-one, add-zero}
 use lib.Bits.{bit_and, and_step, and_shr, and_le_l}

@@ -1,6 +1,7 @@
 -- A diff page by page: the words of prices on one page and of those on later pages stand one after the other.
-use Rattle.laws.proofs.Prelude.{ℕ, suc, ◌+◌, ◌-◌, ◌*◌, ◌%◌, ◌≤◌, ◌<◌, ◌≡◌, refl, sym, ap, ◌∙◌, List, [], ◌∷◌, ◌++◌}
-use Rattle.laws.proofs.Prelude.{Bool, true, false, arith, dec_lt, length, get_or, set, take, drop}
+use Rattle.std.specs.Prelude.{ℕ, suc, ◌+◌, ◌-◌, ◌*◌, ◌%◌, ◌≤◌, ◌<◌, ◌≡◌, List, [], ◌∷◌, ◌++◌, Bool, true, false, length}
+use Rattle.std.specs.Prelude.{get_or, set, take, drop}
+use Rattle.laws.proofs.Prelude.{refl, sym, ap, ◌∙◌, arith, dec_lt}
 use mathlib.Core.List.{append_assoc}
 use native.Mathlib.Nat.{zero-add}
 use lib.ListN.{length-append}

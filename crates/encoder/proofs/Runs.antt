@@ -1,6 +1,7 @@
 -- The runs of a page: what the words of a page from one on bring to a diff, by the word of its marks.
-use Rattle.laws.proofs.Prelude.{ℕ, zero, suc, ◌+◌, ◌-◌, ◌*◌, ◌/◌, ◌%◌, ◌^◌, ◌≤◌, ◌<◌, ◌≡◌, refl, sym, ap, ◌∙◌, arith}
-use Rattle.laws.proofs.Prelude.{List, [], ◌∷◌, ◌++◌, Bool, true, false, length, take, drop, get_or, dec_lt, eq-eqb, ne_eqb}
+use Rattle.std.specs.Prelude.{ℕ, zero, suc, ◌+◌, ◌-◌, ◌*◌, ◌/◌, ◌%◌, ◌^◌, ◌≤◌, ◌<◌, ◌≡◌, List, [], ◌∷◌, ◌++◌, Bool}
+use Rattle.std.specs.Prelude.{true, false, length, take, drop, get_or}
+use Rattle.laws.proofs.Prelude.{refl, sym, ap, ◌∙◌, arith, dec_lt, eq-eqb, ne_eqb}
 use native.Mathlib.Nat.{add-zero, div-one}
 use native.Mathlib.Numerals.{add-one}
 use lib.Pow.{shr_le}

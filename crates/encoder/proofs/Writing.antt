@@ -1,6 +1,6 @@
 -- Writing the runs of a page, one after the other.
-use Rattle.laws.proofs.Prelude.{ℕ, suc, ◌+◌, ◌-◌, ◌/◌, ◌^◌, ◌≤◌, ◌<◌, ◌≡◌, refl, sym, ap, ◌∙◌, List, ◌∷◌, ◌++◌, arith}
-use Rattle.laws.proofs.Prelude.{length, set, take, drop}
+use Rattle.std.specs.Prelude.{ℕ, suc, ◌+◌, ◌-◌, ◌/◌, ◌^◌, ◌≤◌, ◌<◌, ◌≡◌, List, ◌∷◌, ◌++◌, length, set, take, drop}
+use Rattle.laws.proofs.Prelude.{refl, sym, ap, ◌∙◌, arith}
 use Rattle.laws.proofs.Lists.{sets-append}
 use native.Mathlib.Nat.{div-one}
 use native.Mathlib.Numerals.{add-one}

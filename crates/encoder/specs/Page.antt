@@ -1,6 +1,6 @@
 -- Inner contracts only. What one page brings to a diff, by the word of its marks, and the first run of marked words.
 -- Assumes nothing: these are definitions.
-use Rattle.laws.specs.Prelude.{ℕ, ◌+◌, ◌*◌, ◌%◌, ◌<◌, ◌≤◌, ◌≡◌, List, Bool, get_or, drop}
+use Rattle.std.specs.Prelude.{ℕ, ◌+◌, ◌*◌, ◌%◌, ◌<◌, ◌≤◌, ◌≡◌, List, Bool, get_or, drop}
 use Rattle.diff.specs.Encoding.{listed, encode_from}
 use Rattle.diff.specs.Marks.{bit, is_set}
 pub use Rattle.encoder.specs.declared.page.Run.{Run}

@@ -1,5 +1,5 @@
 // The marks of what differs on a page, in the form in which a diff is written from marks.
-ghost use Rattle.laws.specs.Prelude.{◌≡◌, length};
+ghost use Rattle.std.specs.Prelude.{◌≡◌, length};
 ghost use Rattle.diff.specs.Marks.{changed_words};
 
 // The marks of the words of a page that differ from their twins.

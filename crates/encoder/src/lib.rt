@@ -2,7 +2,7 @@
 // their prices; how many words it has, and what becomes of it by the room that there is for it.
 #![tactic(auto)]
 
-ghost use Rattle.laws.specs.Prelude.{◌≡◌, ◌*◌, ◌≤◌, List, ℕ, length};
+ghost use Rattle.std.specs.Prelude.{◌≡◌, ◌*◌, ◌≤◌, List, ℕ, length};
 ghost use Rattle.std.proofs.lemmas.List.Edits.{sets};
 ghost use Rattle.answer.specs.Outcome.{answer_of, wrong_buffer};
 ghost use Rattle.diff.specs.Room.{room_for, written_by};

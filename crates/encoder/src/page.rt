@@ -1,6 +1,6 @@
 // One page of a diff: how many words it takes, and these words, by the word of its marks (bit w for
 // word w). Ones of the marks size the page; trailing zeros place its runs and size each.
-ghost use Rattle.laws.specs.Prelude.{◌≡◌, ℕ, ◌+◌, ◌/◌, ◌^◌, ◌<◌, ◌≤◌, List, length};
+ghost use Rattle.std.specs.Prelude.{◌≡◌, ℕ, ◌+◌, ◌/◌, ◌^◌, ◌<◌, ◌≤◌, List, length};
 ghost use Rattle.std.proofs.lemmas.List.Edits.{sets};
 ghost use Rattle.diff.specs.Format.{run_word};
 ghost use Rattle.encoder.specs.Page.{page_words, run_words, FirstRun};

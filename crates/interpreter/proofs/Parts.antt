@@ -1,6 +1,7 @@
 -- Bytes of the input one after the other; and a part of it up to a line feed: the state after it, and what it prints.
-use Rattle.laws.proofs.Prelude.{ℕ, zero, suc, ◌+◌, ◌-◌, ◌≤◌, ◌<◌, ◌≡◌, refl, sym, ap, ◌∙◌, List, [], ◌∷◌, ◌++◌, Bool}
-use Rattle.laws.proofs.Prelude.{true, false, arith, eqb-true, eqb, length, take, drop, get_or}
+use Rattle.std.specs.Prelude.{ℕ, zero, suc, ◌+◌, ◌-◌, ◌≤◌, ◌<◌, ◌≡◌, List, [], ◌∷◌, ◌++◌, Bool, true, false, eqb}
+use Rattle.std.specs.Prelude.{length, take, drop, get_or}
+use Rattle.laws.proofs.Prelude.{refl, sym, ap, ◌∙◌, arith, eqb-true}
 use Rattle.std.proofs.Common.{append_assoc, append-nil, zero-add, length-append, length-drop, take-suc, take-add}
 use lib.Seq.{sets}
 use Rattle.laws.proofs.Lists.{sets-append}

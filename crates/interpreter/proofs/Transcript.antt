@@ -1,6 +1,6 @@
 -- What is printed byte by byte is document 01's transcript, an answer for each line.
-use Rattle.laws.proofs.Prelude.{ℕ, ◌+◌, ◌%◌, ◌^◌, ◌≡◌, refl, sym, ap, ◌∙◌, List, [], ◌∷◌, ◌++◌, Bool, true, false}
-use Rattle.laws.proofs.Prelude.{eqb-true, eqb}
+use Rattle.std.specs.Prelude.{ℕ, ◌+◌, ◌%◌, ◌^◌, ◌≡◌, List, [], ◌∷◌, ◌++◌, Bool, true, false, eqb}
+use Rattle.laws.proofs.Prelude.{refl, sym, ap, ◌∙◌, eqb-true}
 use Rattle.std.proofs.Common.{append_assoc, append-nil}
 use Rattle.directory.specs.declared.Directory.{Directory}
 use Rattle.protocol.specs.Formatting.{formatting}

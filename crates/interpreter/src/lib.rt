@@ -2,7 +2,7 @@
 // answered, one part of the input after the other.
 #![tactic(auto)]
 
-ghost use Rattle.laws.specs.Prelude.{◌≡◌, ◌+◌, ◌-◌, ◌≤◌, ◌<◌, length, take, drop};
+ghost use Rattle.std.specs.Prelude.{◌≡◌, ◌+◌, ◌-◌, ◌≤◌, ◌<◌, length, take, drop};
 ghost use Rattle.std.proofs.lemmas.List.Edits.{sets};
 ghost use Rattle.protocol.specs.Formatting.{formatting};
 ghost use Rattle.interpreter.specs.Transcript.{executed, answered, next_line, with_line};

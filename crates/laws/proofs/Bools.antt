@@ -1,5 +1,6 @@
 -- Choices by a test: a property of both outcomes, and what a conjunction says.
-use Rattle.laws.proofs.Prelude.{◌≡◌, refl, Bool, true, false, cond, ◌&&◌, ◌||◌, false≢true, true≢false}
+use Rattle.std.specs.Prelude.{◌≡◌, Bool, true, false, cond, ◌&&◌, ◌||◌}
+use Rattle.laws.proofs.Prelude.{refl, false≢true, true≢false}
 
 -- what holds of either outcome, each under its test, holds of the choice
 pub by_cond : {A : Type 0} (P : A → Type 0) (test : Bool) (x y : A) → (test ≡ true → P x) → (test ≡ false → P y)

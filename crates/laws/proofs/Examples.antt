@@ -1,5 +1,6 @@
 -- A list of examples holds if none of the computed ones fails and each claim is shown.
-use Rattle.laws.proofs.Prelude.{ℕ, suc, ◌≡◌, refl, List, [], ◌∷◌, Bool, true, false, false≢true, eqb-true, eqb}
+use Rattle.std.specs.Prelude.{ℕ, suc, ◌≡◌, List, [], ◌∷◌, Bool, true, false, eqb}
+use Rattle.laws.proofs.Prelude.{refl, false≢true, eqb-true}
 use mathlib.Core.List.{cons≢nil}
 use Rattle.laws.proofs.Bools.{and_first, and_second}
 use Rattle.laws.specs.Examples.{Example, computed, claimed, AllHold, same_words, failures_from, failures, Claims}

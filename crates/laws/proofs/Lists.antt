@@ -1,6 +1,7 @@
 -- Lists appended, and runs of stores in a list, beside what `lib.Seq` has.
-use Rattle.laws.proofs.Prelude.{◌≡◌, refl, ap, ◌∙◌, ◌≢◌, List, [], ◌∷◌, ◌++◌, ℕ, zero, suc, ◌+◌, ◌≤◌, ◌<◌, arith}
-use Rattle.laws.proofs.Prelude.{length, get_or, set, take, drop}
+use Rattle.std.specs.Prelude.{◌≡◌, ◌≢◌, List, [], ◌∷◌, ◌++◌, ℕ, zero, suc, ◌+◌, ◌≤◌, ◌<◌, length, get_or, set, take}
+use Rattle.std.specs.Prelude.{drop}
+use Rattle.laws.proofs.Prelude.{refl, ap, ◌∙◌, arith}
 use mathlib.Core.List.{append-nil}
 use native.Mathlib.Nat.{add-zero, zero-add}
 use native.Mathlib.Numerals.{add-one}

@@ -1,7 +1,4 @@
--- The prelude of proofs: that of definitions, and beside it equations, cases, decisions, tests and arithmetic.
-pub use Rattle.laws.specs.Prelude.{ℕ, zero, suc, ◌+◌, ◌-◌, ◌*◌, ◌/◌, ◌%◌, ◌^◌, ◌<◌, ◌≤◌, ◌≡◌, ◌≢◌, ◌⊎◌, List, []}
-pub use Rattle.laws.specs.Prelude.{◌∷◌, ◌++◌, Bool, true, false, cond, not, ◌&&◌, ◌||◌, length, get_or, set, take}
-pub use Rattle.laws.specs.Prelude.{drop, replicate, eqb, ltb, leb}
+-- The prelude of proofs, beside that of the library: equations, cases, decisions, tests and arithmetic.
 pub use mathlib.Core.Path.{refl, sym, ap, ◌∙◌, subst}
 pub use mathlib.Core.Logic.{inl, inr}
 pub use mathlib.Core.Bool.{true≢false, false≢true}

@@ -1,7 +1,7 @@
 -- Laws of searches and changes over numbers below a bound.
-use Rattle.laws.proofs.Prelude.{ℕ, zero, suc, ◌+◌, ◌-◌, ◌<◌, ◌≤◌, ◌≡◌, refl, sym, ◌∙◌, ◌≢◌, Bool, true, false}
-use Rattle.laws.proofs.Prelude.{cond, true≢false, ℕ_discrete, dec_lt, arith, ltb-true, ltb-false, lt-ltb, le-ltb}
-use Rattle.laws.proofs.Prelude.{ltb, ap}
+use Rattle.std.specs.Prelude.{ℕ, zero, suc, ◌+◌, ◌-◌, ◌<◌, ◌≤◌, ◌≡◌, ◌≢◌, Bool, true, false, cond, ltb}
+use Rattle.laws.proofs.Prelude.{refl, sym, ◌∙◌, true≢false, ℕ_discrete, dec_lt, arith, ltb-true, ltb-false, lt-ltb}
+use Rattle.laws.proofs.Prelude.{le-ltb, ap}
 use native.Mathlib.Nat.{sub-zero, add-zero}
 use native.Mathlib.Numerals.{add-one}
 use Rattle.laws.specs.Search.{lowest_from, lowest, any_below, count_below, in_turn}

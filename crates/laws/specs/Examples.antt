@@ -1,7 +1,7 @@
 -- Worked examples: what definitions give, beside what their rules say. An example is computed, or is a claim about
 -- every value, which no computation shows.
 -- Assumes nothing: these are definitions.
-use Rattle.laws.specs.Prelude.{ℕ, suc, ◌≡◌, List, [], ◌∷◌, ◌++◌, Bool, true, false, cond, ◌&&◌, eqb}
+use Rattle.std.specs.Prelude.{ℕ, suc, ◌≡◌, List, [], ◌∷◌, ◌++◌, Bool, true, false, cond, ◌&&◌, eqb}
 
 pub data Example : Type 1 where
   -- the words that a definition gives, and those that its rule says

@@ -1,5 +1,4 @@
 -- Definitions that several crates cite.
-pub mod Prelude
 pub mod Search
 pub mod Examples
 pub mod Text

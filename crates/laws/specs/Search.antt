@@ -1,7 +1,7 @@
 -- Numbers below a bound, as cards and pages are: the lowest that passes a test, how many do, and a change
 -- made for each.
 -- Assumes nothing: these are definitions.
-use Rattle.laws.specs.Prelude.{ℕ, zero, suc, ◌+◌, Bool, cond, ltb}
+use Rattle.std.specs.Prelude.{ℕ, zero, suc, ◌+◌, Bool, cond, ltb}
 
 -- the lowest of the n numbers from i on that passes; i + n if none does
 unfoldable pub lowest_from : (ℕ → Bool) → ℕ → ℕ → ℕ

@@ -1,9 +1,8 @@
 -- Texts in worked examples, as the bytes that a program reads and writes.
 -- Assumes nothing: these are definitions.
-use Rattle.laws.specs.Prelude.{ℕ, List}
+use Rattle.std.specs.Prelude.{ℕ, List, [] as none, ◌∷◌ as ◌before◌}
 use Prim.Native.Char.{code}
 use Prim.Native.String.{String, [], ◌∷◌}
-use Rattle.std.specs.Prelude.{[] as none, ◌∷◌ as ◌before◌}
 
 -- the bytes of a text of plain characters, each of which is one byte
 unfoldable pub bytes_of : String → List ℕ

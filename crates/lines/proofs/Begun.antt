@@ -1,6 +1,6 @@
 -- A line has begun once a byte of it has been read.
-use Rattle.laws.proofs.Prelude.{ℕ, ◌+◌, ◌≡◌, refl, List, [], ◌∷◌, ◌++◌, Bool, true, false, cond, arith, ne_eqb, ltb}
-use Rattle.laws.proofs.Prelude.{leb, eqb}
+use Rattle.std.specs.Prelude.{ℕ, ◌+◌, ◌≡◌, List, [], ◌∷◌, ◌++◌, Bool, true, false, cond, ltb, leb, eqb}
+use Rattle.laws.proofs.Prelude.{refl, arith, ne_eqb}
 use Rattle.laws.proofs.Bools.{by_cond}
 use Rattle.lines.specs.Line.{Line, unreadable_line, ended_field, with_field, number_with, letter_read, digit_read}
 use Rattle.lines.specs.Line.{byte_read, line_read, has_begun}

@@ -1,6 +1,7 @@
 -- The fields of a line that have ended, and what is left of the line: the field that is being read ends.
-use Rattle.laws.proofs.Prelude.{ℕ, ◌+◌, ◌≤◌, ◌<◌, ◌≡◌, sym, ap, ◌∙◌, List, [], ◌∷◌, ◌++◌, true, false, cond, ◌&&◌}
-use Rattle.laws.proofs.Prelude.{arith, ne_eqb, lt-ltb, le-ltb, ltb, eqb, length, take, set}
+use Rattle.std.specs.Prelude.{ℕ, ◌+◌, ◌≤◌, ◌<◌, ◌≡◌, List, [], ◌∷◌, ◌++◌, true, false, cond, ◌&&◌, ltb, eqb, length}
+use Rattle.std.specs.Prelude.{take, set}
+use Rattle.laws.proofs.Prelude.{sym, ap, ◌∙◌, arith, ne_eqb, lt-ltb, le-ltb}
 use native.Mathlib.Numerals.{add-one}
 use lib.ListN.{length-set, length-append}
 use lib.Seq.{take-suc-set}

@@ -1,6 +1,6 @@
 -- A form looks at the fields that have ended alone, and none has more than six.
-use Rattle.laws.proofs.Prelude.{ℕ, ◌≤◌, ◌<◌, ◌≡◌, refl, sym, ◌∙◌, List, Bool, true, false, cond, arith, eqb-true}
-use Rattle.laws.proofs.Prelude.{leb-true, ne_eqb, leb, eqb, take}
+use Rattle.std.specs.Prelude.{ℕ, ◌≤◌, ◌<◌, ◌≡◌, List, Bool, true, false, cond, leb, eqb, take}
+use Rattle.laws.proofs.Prelude.{refl, sym, ◌∙◌, arith, eqb-true, leb-true, ne_eqb}
 use lib.Seq.{get_or-take}
 use Rattle.laws.proofs.Bools.{by_cond, and_first, and_second}
 use Rattle.lines.specs.declared.Command.{Command}

@@ -1,5 +1,6 @@
 -- Read byte by byte, a line gives the command that document 01's grammar has for it.
-use Rattle.laws.proofs.Prelude.{ℕ, ◌≡◌, refl, sym, ◌∙◌, List, [], ◌∷◌, Bool, true, false, arith, eqb-true, eqb}
+use Rattle.std.specs.Prelude.{ℕ, ◌≡◌, List, [], ◌∷◌, Bool, true, false, eqb}
+use Rattle.laws.proofs.Prelude.{refl, sym, ◌∙◌, arith, eqb-true}
 use Rattle.lines.specs.declared.Command.TheVariants.{Unreadable}
 use Rattle.lines.specs.Line.{Line, fresh_line, unreadable_line, ended_field, with_field, letter_read, byte_read}
 use Rattle.lines.specs.Line.{line_read}

@@ -1,6 +1,7 @@
 -- A field that is being read: a number that goes on with more bytes.
-use Rattle.laws.proofs.Prelude.{ℕ, suc, ◌+◌, ◌-◌, ◌*◌, ◌≤◌, ◌<◌, ◌≡◌, List, [], ◌∷◌, Bool, true, false, ◌&&◌, arith}
-use Rattle.laws.proofs.Prelude.{le-leb, lt-leb, leb, eqb, length}
+use Rattle.std.specs.Prelude.{ℕ, suc, ◌+◌, ◌-◌, ◌*◌, ◌≤◌, ◌<◌, ◌≡◌, List, [], ◌∷◌, Bool, true, false, ◌&&◌, leb, eqb}
+use Rattle.std.specs.Prelude.{length}
+use Rattle.laws.proofs.Prelude.{arith, le-leb, lt-leb}
 use mathlib.Core.Bool.{and-false}
 use native.Mathlib.Nat.{zero-add}
 use Rattle.lines.specs.Grammar.{break_at, fields_of, is_digit, all_digits, number_from, is_number}

@@ -1,6 +1,7 @@
 -- A line that is read on from its letter comes to what the grammar has for it, byte by byte.
-use Rattle.laws.proofs.Prelude.{ℕ, ◌+◌, ◌≤◌, ◌<◌, ◌≡◌, refl, sym, ap, ◌∙◌, List, [], ◌∷◌, ◌++◌, Bool, true, false, cond}
-use Rattle.laws.proofs.Prelude.{arith, eq-eqb, ne_eqb, le-leb, lt-leb, lt-ltb, le-ltb, eqb-true, ltb, leb, eqb, length}
+use Rattle.std.specs.Prelude.{ℕ, ◌+◌, ◌≤◌, ◌<◌, ◌≡◌, List, [], ◌∷◌, ◌++◌, Bool, true, false, cond, ltb, leb, eqb}
+use Rattle.std.specs.Prelude.{length}
+use Rattle.laws.proofs.Prelude.{refl, sym, ap, ◌∙◌, arith, eq-eqb, ne_eqb, le-leb, lt-leb, lt-ltb, le-ltb, eqb-true}
 use mathlib.Core.List.{append_assoc}
 use lib.ListN.{length-append}
 use Rattle.laws.proofs.Bools.{by_cond}

@@ -1,6 +1,6 @@
 -- Choices whose test is known, and a line that is unreadable: it stays so.
-use Rattle.laws.proofs.Prelude.{ℕ, ◌≤◌, ◌<◌, ◌≡◌, refl, ap, ◌∙◌, List, [], ◌∷◌, Bool, true, false, cond, ltb-true}
-use Rattle.laws.proofs.Prelude.{ltb-false, ltb, eqb}
+use Rattle.std.specs.Prelude.{ℕ, ◌≤◌, ◌<◌, ◌≡◌, List, [], ◌∷◌, Bool, true, false, cond, ltb, eqb}
+use Rattle.laws.proofs.Prelude.{refl, ap, ◌∙◌, ltb-true, ltb-false}
 use Rattle.laws.proofs.Bools.{by_cond}
 use Rattle.lines.specs.declared.Command.TheVariants.{Unreadable}
 use Rattle.lines.specs.Line.{Line, unreadable_line, ended_field, byte_read, line_read}

@@ -1,7 +1,7 @@
 -- The line that answers (document 01, "Numbers to hold it against": "line number, letter (- if unreadable), 0 or the
 -- refusal, value").
 -- Assumes nothing: these are definitions.
-use Rattle.laws.specs.Prelude.{ℕ, List, [], ◌∷◌}
+use Rattle.std.specs.Prelude.{ℕ, List, [], ◌∷◌}
 use Rattle.decimal.specs.Decimal.{decimal_before}
 
 -- fields split by a space (32), and a line feed (10)

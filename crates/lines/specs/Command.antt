@@ -1,7 +1,7 @@
 -- The command of a line that has ended (document 01, "Numbers to hold it against": the lines B, S, X, J and F; "Pages
 -- above 63, words above 31 .. are unreadable. So is any other form").
 -- Assumes nothing: these are definitions.
-use Rattle.laws.specs.Prelude.{ℕ, ◌+◌, List, [], ◌∷◌, Bool, cond, ◌&&◌, get_or, leb, eqb}
+use Rattle.std.specs.Prelude.{ℕ, ◌+◌, List, [], ◌∷◌, Bool, cond, ◌&&◌, get_or, leb, eqb}
 pub use Rattle.lines.specs.declared.Command.{Command}
 pub use Rattle.lines.specs.declared.Part.{Part}
 use Rattle.lines.specs.declared.Command.TheVariants.{Open, Step, Fail, Join, Fetch, Unreadable}

@@ -1,7 +1,7 @@
 -- Worked examples of shelfrun's lines, computed from the definitions: which lines are commands, and what an answer
 -- looks like.
 -- Assumes nothing: these are definitions.
-use Rattle.laws.specs.Prelude.{ℕ, List, [], ◌∷◌, ◌++◌}
+use Rattle.std.specs.Prelude.{ℕ, List, [], ◌∷◌, ◌++◌}
 use Prim.Native.String.{String}
 use Rattle.laws.specs.Examples.{Example, computed}
 use Rattle.laws.specs.Text.{bytes_of}

@@ -2,7 +2,7 @@
 -- split by one space", "a number is one to ten digits, a line ends at a line feed or the input's end, and nothing
 -- after the last line feed is no line".
 -- Assumes nothing: these are definitions.
-use Rattle.laws.specs.Prelude.{ℕ, ◌+◌, ◌-◌, ◌*◌, ◌≡◌, List, [], ◌∷◌, Bool, true, false, cond, ◌&&◌, length, leb, eqb}
+use Rattle.std.specs.Prelude.{ℕ, ◌+◌, ◌-◌, ◌*◌, ◌≡◌, List, [], ◌∷◌, Bool, true, false, cond, ◌&&◌, length, leb, eqb}
 use Rattle.lines.specs.declared.Command.{Command}
 use Rattle.lines.specs.declared.Command.TheVariants.{Unreadable}
 use Rattle.lines.specs.Line.{fresh_line, line_read}

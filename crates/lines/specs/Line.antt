@@ -1,7 +1,7 @@
 -- A line read byte by byte (document 01, "Numbers to hold it against": "fields split by one space", "a number is one
 -- to ten digits").
 -- Assumes nothing: these are definitions.
-use Rattle.laws.specs.Prelude.{ℕ, ◌+◌, ◌-◌, ◌*◌, List, [], ◌∷◌, Bool, true, false, cond, set, replicate, ltb, leb, eqb}
+use Rattle.std.specs.Prelude.{ℕ, ◌+◌, ◌-◌, ◌*◌, List, [], ◌∷◌, Bool, true, false, cond, set, replicate, ltb, leb, eqb}
 pub use Rattle.lines.specs.declared.Line.{Line}
 
 -- before the first byte

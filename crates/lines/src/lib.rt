@@ -2,7 +2,7 @@
 // by byte into a command, and the line that answers it.
 #![tactic(auto)]
 
-ghost use Rattle.laws.specs.Prelude.{◌≡◌, ◌+◌, ◌≤◌, length, drop};
+ghost use Rattle.std.specs.Prelude.{◌≡◌, ◌+◌, ◌≤◌, length, drop};
 ghost use Rattle.std.proofs.lemmas.List.Edits.{sets};
 ghost use Rattle.laws.specs.Examples.{AllHold};
 ghost use Rattle.lines.specs.Line.{fresh_line, unreadable_line, ended_field, letter_read};

@@ -1,5 +1,6 @@
 -- One word of marks for each page, told by a product and by a quotient, and what it comes to.
-use Rattle.laws.proofs.Prelude.{ℕ, ◌*◌, ◌/◌, ◌%◌, ◌≡◌, List, true, arith, ℕ_discrete, eq-eqb, ne_eqb, length, eqb}
+use Rattle.std.specs.Prelude.{ℕ, ◌*◌, ◌/◌, ◌%◌, ◌≡◌, List, true, length, eqb}
+use Rattle.laws.proofs.Prelude.{arith, ℕ_discrete, eq-eqb, ne_eqb}
 use Rattle.diff.specs.Making.{lent_marked}
 use Rattle.diff.specs.MadeDiff.{Lent}
 use Rattle.diff.proofs.Making.{lent_marked_lem, lent_by_pages}

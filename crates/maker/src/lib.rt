@@ -2,7 +2,7 @@
 // the marks of what differs, for a desk that keeps none.
 #![tactic(auto)]
 
-ghost use Rattle.laws.specs.Prelude.{◌≡◌, ◌*◌, ◌≤◌, length};
+ghost use Rattle.std.specs.Prelude.{◌≡◌, ◌*◌, ◌≤◌, length};
 ghost use Rattle.answer.specs.Outcome.{answer_of};
 ghost use Rattle.diff.specs.Marks.{change_marks};
 ghost use Rattle.diff.specs.Making.{lent_pages, lent_marked, make_diff, buffer_after, mark_changes};

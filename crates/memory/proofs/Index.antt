@@ -1,5 +1,6 @@
 -- Where a word of a card's area stands in the memory: different cards and offsets have different indices.
-use Rattle.laws.proofs.Prelude.{ℕ, ◌+◌, ◌*◌, ◌/◌, ◌%◌, ◌<◌, ◌≤◌, ◌≡◌, sym, ap, ◌∙◌, ◌≢◌, arith}
+use Rattle.std.specs.Prelude.{ℕ, ◌+◌, ◌*◌, ◌/◌, ◌%◌, ◌<◌, ◌≤◌, ◌≡◌, ◌≢◌}
+use Rattle.laws.proofs.Prelude.{sym, ap, ◌∙◌, arith}
 use native.Mathlib.Nat.{suc-mul, mul-le-mul_right}
 use lib.Arith.{digits_div, digits_mod}
 use Rattle.memory.specs.Words.{index_of, AreaIn}

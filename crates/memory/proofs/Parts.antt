@@ -1,5 +1,6 @@
 -- A part of a slice that is lent on: what the stores made in it make of the whole.
-use Rattle.laws.proofs.Prelude.{ℕ, suc, ◌+◌, ◌-◌, ◌<◌, ◌≤◌, ◌≡◌, sym, ap, ◌∙◌, List, [], ◌∷◌, arith, length, set, drop}
+use Rattle.std.specs.Prelude.{ℕ, suc, ◌+◌, ◌-◌, ◌<◌, ◌≤◌, ◌≡◌, List, [], ◌∷◌, length, set, drop}
+use Rattle.laws.proofs.Prelude.{sym, ap, ◌∙◌, arith}
 use native.Mathlib.Nat.{add-zero}
 use lib.Seq.{sets, take-set-le, take-set-lt, drop-set-lt, drop-set-add}
 use borrow.Rule.Slice.PartMut.{put_mid, mid_of, put_same, mid_len}

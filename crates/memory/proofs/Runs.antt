@@ -1,6 +1,6 @@
 -- Runs of words of the memory: loaded after stores, stored one after another, cleared, copied.
-use Rattle.laws.proofs.Prelude.{ℕ, zero, suc, ◌+◌, ◌*◌, ◌-◌, ◌<◌, ◌≤◌, ◌≡◌, refl, sym, ap, ◌∙◌, List, [], ◌∷◌, ◌++◌}
-use Rattle.laws.proofs.Prelude.{arith, length, get_or, drop}
+use Rattle.std.specs.Prelude.{ℕ, zero, suc, ◌+◌, ◌*◌, ◌-◌, ◌<◌, ◌≤◌, ◌≡◌, List, [], ◌∷◌, ◌++◌, length, get_or, drop}
+use Rattle.laws.proofs.Prelude.{refl, sym, ap, ◌∙◌, arith}
 use Prim.Native.Nat.{min}
 use native.Mathlib.Nat.{add_assoc}
 use lib.ListN.{length-take, length-drop, length-replicate}

@@ -1,5 +1,6 @@
 -- One word of the memory, loaded after a store, and two stores.
-use Rattle.laws.proofs.Prelude.{ℕ, zero, suc, ◌<◌, ◌≡◌, refl, ap, ◌≢◌, List, [], ◌∷◌, length, set}
+use Rattle.std.specs.Prelude.{ℕ, zero, suc, ◌<◌, ◌≡◌, ◌≢◌, List, [], ◌∷◌, length, set}
+use Rattle.laws.proofs.Prelude.{refl, ap}
 use lib.ListN.{length-set}
 use lib.Seq.{get_or-set_same, get_or-set_other, set-get_or, set-set}
 use Rattle.memory.specs.Words.{index_of, AreaIn, load, store}

@@ -1,6 +1,6 @@
 -- Worked examples of words stored, computed from the definitions.
 -- Assumes nothing: these are definitions.
-use Rattle.laws.specs.Prelude.{ℕ, List, [], ◌∷◌}
+use Rattle.std.specs.Prelude.{ℕ, List, [], ◌∷◌}
 use Rattle.laws.specs.Examples.{Example, computed}
 use Rattle.memory.specs.Words.{load, store, load_run, store_run, clear_run, copy_run}
 

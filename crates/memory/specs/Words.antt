@@ -1,7 +1,7 @@
 -- The lent memory: "one area per card, ascending" (document 01, "Cards, pages, memory"). A word is named by the size
 -- of an area, its card and its offset in the card's area; a run of words by its first.
 -- Assumes nothing: these are definitions.
-use Rattle.laws.specs.Prelude.{ℕ, zero, suc, ◌+◌, ◌*◌, ◌≤◌, List, [], ◌∷◌, get_or, set, take, drop, replicate}
+use Rattle.std.specs.Prelude.{ℕ, zero, suc, ◌+◌, ◌*◌, ◌≤◌, List, [], ◌∷◌, get_or, set, take, drop, replicate}
 
 abbrev pub index_of : ℕ → ℕ → ℕ → ℕ
 index_of size card offset = card * size + offset

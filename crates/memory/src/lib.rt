@@ -3,7 +3,7 @@
 // area is told by `area`.
 #![tactic(auto)]
 
-ghost use Rattle.laws.specs.Prelude.{◌≡◌, ◌+◌, ◌<◌, ◌≤◌, length};
+ghost use Rattle.std.specs.Prelude.{◌≡◌, ◌+◌, ◌<◌, ◌≤◌, length};
 ghost use Rattle.std.proofs.lemmas.List.Edits.{sets};
 ghost use Rattle.laws.specs.Examples.{AllHold};
 ghost use Rattle.memory.specs.Words.{AreaIn, load, store, load_run, store_run, zeros, clear_run};

@@ -1,6 +1,7 @@
 -- What is left of an allowed diff from a page on: the first page of it that has words, and what stands behind these.
-use Rattle.laws.proofs.Prelude.{ℕ, zero, suc, ◌+◌, ◌-◌, ◌*◌, ◌%◌, ◌^◌, ◌≤◌, ◌<◌, ◌≡◌, refl, sym, ap, ◌∙◌, arith, dec_lt}
-use Rattle.laws.proofs.Prelude.{List, [], ◌∷◌, ◌++◌, false, length, get_or, drop, ℕ_discrete}
+use Rattle.std.specs.Prelude.{ℕ, zero, suc, ◌+◌, ◌-◌, ◌*◌, ◌%◌, ◌^◌, ◌≤◌, ◌<◌, ◌≡◌, List, [], ◌∷◌, ◌++◌, false, length}
+use Rattle.std.specs.Prelude.{get_or, drop}
+use Rattle.laws.proofs.Prelude.{refl, sym, ap, ◌∙◌, arith, dec_lt, ℕ_discrete}
 use mathlib.Core.List.{append_assoc}
 use lib.ListN.{length-append}
 use lib.Seq.{drop-drop, drop_at}

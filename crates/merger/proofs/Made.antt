@@ -1,6 +1,7 @@
 -- A diff made in a list of 512 words: the room that it has in a buffer, the words of it that are copied there, and what
 -- merging comes to.
-use Rattle.laws.proofs.Prelude.{ℕ, ◌≤◌, ◌≡◌, sym, ap, ◌∙◌, List, arith, dec_lt, length, take, drop}
+use Rattle.std.specs.Prelude.{ℕ, ◌≤◌, ◌≡◌, List, length, take, drop}
+use Rattle.laws.proofs.Prelude.{sym, ap, ◌∙◌, arith, dec_lt}
 use Rattle.laws.proofs.Lists.{sets_front}
 use lib.Seq.{take-append_seam}
 use Rattle.answer.specs.Outcome.{and_then, list_too_long}

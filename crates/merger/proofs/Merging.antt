@@ -1,7 +1,8 @@
 -- Two allowed diffs made one, page by page: what the pages before one bring stands in a list, and the rest of both diffs
 -- is ahead.
-use Rattle.laws.proofs.Prelude.{ℕ, ◌+◌, ◌*◌, ◌%◌, ◌≤◌, ◌<◌, ◌≡◌, refl, sym, ap, ◌∙◌, arith, dec_lt, List, [], ◌∷◌, ◌++◌}
-use Rattle.laws.proofs.Prelude.{Bool, true, false, cond, ◌||◌, true≢false, length, get_or, set}
+use Rattle.std.specs.Prelude.{ℕ, ◌+◌, ◌*◌, ◌%◌, ◌≤◌, ◌<◌, ◌≡◌, List, [], ◌∷◌, ◌++◌, Bool, true, false, cond, ◌||◌}
+use Rattle.std.specs.Prelude.{length, get_or, set}
+use Rattle.laws.proofs.Prelude.{refl, sym, ap, ◌∙◌, arith, dec_lt, true≢false}
 use Rattle.laws.proofs.Lists.{sets-append}
 use Prim.Native.Nat.{min}
 use native.Mathlib.Nat.{zero-add}

@@ -1,6 +1,7 @@
 -- A test on the words of a page as a word of marks, and their prices as a list.
-use Rattle.laws.proofs.Prelude.{ℕ, zero, suc, ◌+◌, ◌*◌, ◌/◌, ◌^◌, ◌<◌, ◌≡◌, refl, ap, arith}
-use Rattle.laws.proofs.Prelude.{List, [], ◌∷◌, Bool, true, false, cond, length, get_or, eq-eqb, ne_eqb}
+use Rattle.std.specs.Prelude.{ℕ, zero, suc, ◌+◌, ◌*◌, ◌/◌, ◌^◌, ◌<◌, ◌≡◌, List, [], ◌∷◌, Bool, true, false, cond}
+use Rattle.std.specs.Prelude.{length, get_or}
+use Rattle.laws.proofs.Prelude.{refl, ap, arith, eq-eqb, ne_eqb}
 use native.Mathlib.Nat.{pow-suc, pow-zero}
 use Rattle.diff.specs.Marks.{bit, is_set}
 use Rattle.diff.proofs.Bits.{bit_half, bit-first}

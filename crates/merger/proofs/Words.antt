@@ -1,5 +1,6 @@
 -- The words of a list from an index on, of which there are some: that the index is inside, and the first of them.
-use Rattle.laws.proofs.Prelude.{ℕ, ◌+◌, ◌<◌, ◌≡◌, sym, ap, ◌∙◌, arith, List, [], ◌∷◌, ◌++◌, length, get_or, drop}
+use Rattle.std.specs.Prelude.{ℕ, ◌+◌, ◌<◌, ◌≡◌, List, [], ◌∷◌, ◌++◌, length, get_or, drop}
+use Rattle.laws.proofs.Prelude.{sym, ap, ◌∙◌, arith}
 use native.Mathlib.Numerals.{add-one}
 use lib.ListN.{length-drop, length-append}
 use lib.Seq.{drop-cons}

@@ -1,6 +1,6 @@
 -- Inner contracts only. A diff made in a list that may be too short for it, and the number of words that is answered.
 -- Assumes nothing: these are definitions.
-use Rattle.laws.specs.Prelude.{ℕ, ◌<◌, ◌≤◌, ◌≡◌, List, length}
+use Rattle.std.specs.Prelude.{ℕ, ◌<◌, ◌≤◌, ◌≡◌, List, length}
 use Rattle.std.proofs.lemmas.List.Edits.{sets}
 
 -- the diff's length is answered, and the diff stands at the front of the list; where the list is too short for it, a number

@@ -1,7 +1,7 @@
 -- Inner contracts only. What a diff has on one page, and a page to which it is applied.
 -- Assumes nothing: these are definitions.
-use Rattle.laws.specs.Prelude.{ℕ, ◌+◌, ◌^◌, ◌<◌, ◌≡◌, ◌≢◌, List, ◌∷◌, ◌++◌, Bool, cond, ◌&&◌, ◌||◌, length, get_or, drop}
-use Rattle.laws.specs.Prelude.{ltb, leb}
+use Rattle.std.specs.Prelude.{ℕ, ◌+◌, ◌^◌, ◌<◌, ◌≡◌, ◌≢◌, List, ◌∷◌, ◌++◌, Bool, cond, ◌&&◌, ◌||◌, length, get_or, drop}
+use Rattle.std.specs.Prelude.{ltb, leb}
 use Rattle.diff.specs.Format.{kind, page_word}
 use Rattle.diff.specs.Marks.{is_set}
 use Rattle.encoder.specs.Page.{page_words}

@@ -2,8 +2,7 @@
 // the second's after the first's. The diff is made apart, and is then copied into a lent buffer.
 #![tactic(auto)]
 
-ghost use Rattle.std.specs.Prelude.{min};
-ghost use Rattle.laws.specs.Prelude.{◌≡◌, ◌<◌, length, get_or};
+ghost use Rattle.std.specs.Prelude.{min, ◌≡◌, ◌<◌, length, get_or};
 ghost use Rattle.answer.specs.Outcome.{answer_of, and_then};
 ghost use Rattle.diff.specs.Reading.{check_diff};
 ghost use Rattle.diff.specs.OnlyDiff.{Allowed};

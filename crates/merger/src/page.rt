@@ -1,5 +1,5 @@
 // One page of an allowed diff: its prices applied to the page, and its words marked.
-ghost use Rattle.laws.specs.Prelude.{ℕ, ◌≡◌, ◌+◌, ◌<◌, ◌≤◌, List, length};
+ghost use Rattle.std.specs.Prelude.{ℕ, ◌≡◌, ◌+◌, ◌<◌, ◌≤◌, List, length};
 ghost use Rattle.diff.specs.Marks.{is_set};
 ghost use Rattle.encoder.specs.Page.{page_words};
 ghost use Rattle.merger.specs.Page.{in_range, PageAt, PageApplied};

@@ -1,5 +1,6 @@
 -- What fetches and desk questions answer on a memory moved in.
-use Rattle.laws.proofs.Prelude.{ℕ, ◌+◌, ◌<◌, ◌≡◌, ap, List, true, false, arith, lt-leb, length}
+use Rattle.std.specs.Prelude.{ℕ, ◌+◌, ◌<◌, ◌≡◌, List, true, false, length}
+use Rattle.laws.proofs.Prelude.{ap, arith, lt-leb}
 use Rattle.laws.specs.Search.{any_below}
 use Rattle.laws.proofs.Search.{none_pass, none_below}
 use Rattle.answer.specs.Outcome.{given}

@@ -1,5 +1,6 @@
 -- The words of a card's area, moved from one form to another: all but the high words are kept, and these are 0.
-use Rattle.laws.proofs.Prelude.{ℕ, ◌+◌, ◌*◌, ◌<◌, ◌≤◌, ◌≡◌, refl, sym, ap, ◌∙◌, List, [], ◌∷◌, ◌++◌, arith, suc, length}
+use Rattle.std.specs.Prelude.{ℕ, ◌+◌, ◌*◌, ◌<◌, ◌≤◌, ◌≡◌, List, [], ◌∷◌, ◌++◌, suc, length}
+use Rattle.laws.proofs.Prelude.{refl, sym, ap, ◌∙◌, arith}
 use mathlib.Core.List.{append_assoc}
 use native.Mathlib.Nat.{mul-le-mul, mul-suc}
 use Rattle.memory.proofs.Index.{area_in}

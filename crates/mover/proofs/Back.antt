@@ -1,5 +1,6 @@
 -- There and back: fields moved to the form of two words and back are as they were.
-use Rattle.laws.proofs.Prelude.{ℕ, ◌≤◌, ◌≡◌, refl, sym, ap, ◌∙◌, List, [], ◌∷◌, ◌++◌, arith, length, take, drop}
+use Rattle.std.specs.Prelude.{ℕ, ◌≤◌, ◌≡◌, List, [], ◌∷◌, ◌++◌, length, take, drop}
+use Rattle.laws.proofs.Prelude.{refl, sym, ap, ◌∙◌, arith}
 use lib.ListN.{length-drop}
 use lib.Seq.{take-add, take-append_seam, drop-append_seam, length-take-le}
 use Rattle.area.specs.Prelude.{zeros}

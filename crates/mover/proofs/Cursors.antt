@@ -1,6 +1,6 @@
 -- Moves one after the other are one move of the fields of both.
-use Rattle.laws.proofs.Prelude.{ℕ, suc, ◌+◌, ◌<◌, ◌≤◌, ◌≡◌, refl, sym, ap, ◌∙◌, List, [], ◌∷◌, ◌++◌, arith}
-use Rattle.laws.proofs.Prelude.{length, get_or, take, drop, ◌-◌}
+use Rattle.std.specs.Prelude.{ℕ, suc, ◌+◌, ◌<◌, ◌≤◌, ◌≡◌, List, [], ◌∷◌, ◌++◌, length, get_or, take, drop, ◌-◌}
+use Rattle.laws.proofs.Prelude.{refl, sym, ap, ◌∙◌, arith}
 use native.Mathlib.Nat.{add-zero}
 use mathlib.Core.List.{append-nil}
 use lib.ListN.{length-drop}

@@ -1,6 +1,6 @@
 -- Fields and their words: fields that follow one another, fields repeated, and how many words they have.
-use Rattle.laws.proofs.Prelude.{ℕ, zero, suc, ◌+◌, ◌-◌, ◌*◌, ◌≤◌, ◌≡◌, refl, sym, ap, ◌∙◌, List, [], ◌∷◌, ◌++◌, arith}
-use Rattle.laws.proofs.Prelude.{length, take, drop, get_or}
+use Rattle.std.specs.Prelude.{ℕ, zero, suc, ◌+◌, ◌-◌, ◌*◌, ◌≤◌, ◌≡◌, List, [], ◌∷◌, ◌++◌, length, take, drop, get_or}
+use Rattle.laws.proofs.Prelude.{refl, sym, ap, ◌∙◌, arith}
 use mathlib.Core.List.{append-nil, append_assoc}
 use native.Mathlib.Nat.{zero-add}
 use lib.ListN.{length-append, length-drop}

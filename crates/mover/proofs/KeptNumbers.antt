@@ -1,5 +1,6 @@
 -- A move back that passes refusal 20 keeps the stamps and done marks of live cards whole.
-use Rattle.laws.proofs.Prelude.{ℕ, ◌+◌, ◌*◌, ◌<◌, ◌≡◌, ◌∙◌, List, true, false, arith, ltb-false}
+use Rattle.std.specs.Prelude.{ℕ, ◌+◌, ◌*◌, ◌<◌, ◌≡◌, List, true, false}
+use Rattle.laws.proofs.Prelude.{◌∙◌, arith, ltb-false}
 use Rattle.laws.proofs.Bools.{and_rest, neither}
 use Rattle.laws.proofs.Search.{none_below}
 use Rattle.directory.specs.declared.Directory.{Directory}

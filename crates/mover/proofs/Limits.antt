@@ -1,5 +1,6 @@
 -- What a move that passes check 1 keeps to: both memories have the length that their form says.
-use Rattle.laws.proofs.Prelude.{ℕ, ◌*◌, ◌≡◌, sym, ◌∙◌, ap, false, eqb-true, not-false, arith, eqb}
+use Rattle.std.specs.Prelude.{ℕ, ◌*◌, ◌≡◌, false, eqb}
+use Rattle.laws.proofs.Prelude.{sym, ◌∙◌, ap, eqb-true, not-false, arith}
 use Rattle.laws.proofs.Bools.{neither}
 use Rattle.directory.specs.declared.Header.{Header}
 use Rattle.area.specs.Prelude.{area_size, MemoryOf}

@@ -1,5 +1,6 @@
 -- An accepted move in: what it has passed, and that its memory passes the same checks in the new form.
-use Rattle.laws.proofs.Prelude.{ℕ, ◌*◌, ◌<◌, ◌≡◌, refl, sym, ap, ◌∙◌, List, [], true, false, arith, length}
+use Rattle.std.specs.Prelude.{ℕ, ◌*◌, ◌<◌, ◌≡◌, List, [], true, false, length}
+use Rattle.laws.proofs.Prelude.{refl, sym, ap, ◌∙◌, arith}
 use Rattle.laws.proofs.Bools.{neither}
 use Rattle.laws.specs.Search.{any_below}
 use Rattle.laws.proofs.Search.{some_agree}

@@ -1,5 +1,6 @@
 -- The parts of an area by its fields: each part, and where it starts in a form.
-use Rattle.laws.proofs.Prelude.{ℕ, suc, ◌+◌, ◌-◌, ◌*◌, ◌<◌, ◌≡◌, refl, ap, ◌∙◌, List, [], ◌∷◌, ◌++◌, arith}
+use Rattle.std.specs.Prelude.{ℕ, suc, ◌+◌, ◌-◌, ◌*◌, ◌<◌, ◌≡◌, List, [], ◌∷◌, ◌++◌}
+use Rattle.laws.proofs.Prelude.{refl, ap, ◌∙◌, arith}
 use mathlib.Core.List.{append_assoc}
 use native.Mathlib.Nat.{mul_comm}
 use Rattle.area.specs.Prelude.{desk_size, record_count, list_size, stored_page_size}

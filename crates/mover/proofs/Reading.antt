@@ -1,6 +1,6 @@
 -- Words of a memory that was moved: each stands where its form says, and is what the source had there.
-use Rattle.laws.proofs.Prelude.{ℕ, suc, ◌+◌, ◌-◌, ◌*◌, ◌<◌, ◌≤◌, ◌≡◌, sym, ap, ◌∙◌, List, ◌∷◌, ◌++◌, arith}
-use Rattle.laws.proofs.Prelude.{length, get_or, take, drop}
+use Rattle.std.specs.Prelude.{ℕ, suc, ◌+◌, ◌-◌, ◌*◌, ◌<◌, ◌≤◌, ◌≡◌, List, ◌∷◌, ◌++◌, length, get_or, take, drop}
+use Rattle.laws.proofs.Prelude.{sym, ap, ◌∙◌, arith}
 use mathlib.Core.List.{append_assoc}
 use native.Mathlib.Nat.{add-zero, mul-le-mul}
 use lib.ListN.{length-drop, get_or-append}

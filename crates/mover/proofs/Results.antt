@@ -1,5 +1,6 @@
 -- An accepted move has passed its checks and gives 0, and one that passes them is accepted.
-use Rattle.laws.proofs.Prelude.{ℕ, ◌≡◌, refl, ap, ◌∙◌, List, [], true}
+use Rattle.std.specs.Prelude.{ℕ, ◌≡◌, List, [], true}
+use Rattle.laws.proofs.Prelude.{refl, ap, ◌∙◌}
 use Rattle.answer.specs.Outcome.{given}
 use Rattle.directory.specs.declared.Directory.{Directory}
 use Rattle.protocol.specs.Checks.{Check, first_refusal}

@@ -1,6 +1,6 @@
 -- Going back after going in: refusal 20 does not meet a memory that was moved in, and every old word is returned.
-use Rattle.laws.proofs.Prelude.{ℕ, ◌+◌, ◌*◌, ◌<◌, ◌≡◌, refl, sym, ap, ◌∙◌, List, [], true, false, ◌&&◌, Bool, arith}
-use Rattle.laws.proofs.Prelude.{length, get_or, le-ltb}
+use Rattle.std.specs.Prelude.{ℕ, ◌+◌, ◌*◌, ◌<◌, ◌≡◌, List, [], true, false, ◌&&◌, Bool, length, get_or}
+use Rattle.laws.proofs.Prelude.{refl, sym, ap, ◌∙◌, arith, le-ltb}
 use lib.Seq.{take_all}
 use Rattle.laws.proofs.Search.{none_pass}
 use Rattle.answer.specs.Outcome.{given}

@@ -1,6 +1,6 @@
 -- What a memory moved in says: numbers, releases and records as the old one.
-use Rattle.laws.proofs.Prelude.{ℕ, ◌+◌, ◌*◌, ◌%◌, ◌<◌, ◌≤◌, ◌≡◌, sym, ap, ◌∙◌, List, true}
-use Rattle.laws.proofs.Prelude.{arith, length, get_or}
+use Rattle.std.specs.Prelude.{ℕ, ◌+◌, ◌*◌, ◌%◌, ◌<◌, ◌≤◌, ◌≡◌, List, true, length, get_or}
+use Rattle.laws.proofs.Prelude.{sym, ap, ◌∙◌, arith}
 use Rattle.directory.specs.declared.Directory.{Directory}
 use Rattle.memory.proofs.Index.{area_in}
 use Rattle.area.specs.Prelude.{AreaIn, load, load_run, number_at, load_number, desk_size, record_count, own_release}

@@ -1,5 +1,6 @@
 -- The theorems of the mover.
-use Rattle.laws.proofs.Prelude.{ℕ, ◌<◌, ◌≡◌, refl, List, [], true, arith, length}
+use Rattle.std.specs.Prelude.{ℕ, ◌<◌, ◌≡◌, List, [], true, length}
+use Rattle.laws.proofs.Prelude.{refl, arith}
 use Rattle.directory.specs.declared.Directory.{Directory}
 use Rattle.protocol.specs.Result.{accepted}
 use Rattle.protocol.proofs.calls.Refused.{refused_by_checks}

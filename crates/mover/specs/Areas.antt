@@ -1,6 +1,6 @@
 -- A card's area in two memories of different forms: the words that both have.
 -- Assumes nothing: these are definitions.
-use Rattle.laws.specs.Prelude.{ℕ, ◌+◌, ◌*◌, ◌%◌, ◌<◌, ◌≡◌, List, Bool, true, false, cond, eqb}
+use Rattle.std.specs.Prelude.{ℕ, ◌+◌, ◌*◌, ◌%◌, ◌<◌, ◌≡◌, List, Bool, true, false, cond, eqb}
 use Rattle.directory.specs.declared.Directory.{Directory}
 use Rattle.directory.specs.Directory.{is_live, next_live_of}
 use Rattle.area.specs.Prelude.{load, load_run, load_number, desk_size, own_stamp, record_count, record_stamp, record_done}

@@ -1,7 +1,7 @@
 -- The mover: worked examples, computed from the definitions. Racks of three cards and one page, on cards 0 and 1; an area
 -- has 740 words in the old form and 758 in the new.
 -- Assumes nothing: these are definitions.
-use Rattle.laws.specs.Prelude.{ℕ, zero, suc, List, [], ◌∷◌, ◌++◌, replicate}
+use Rattle.std.specs.Prelude.{ℕ, zero, suc, List, [], ◌∷◌, ◌++◌, replicate}
 use Rattle.laws.specs.Examples.{Example, computed}
 use Rattle.directory.specs.declared.Directory.{Directory}
 use Rattle.directory.specs.Directory.{formatted_directory, with_homes}

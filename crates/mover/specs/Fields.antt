@@ -1,7 +1,7 @@
 -- A rack's memory as fields, one after the other: numbers, which have as many words as the form says, and words that
 -- are the same in each form.
 -- Assumes nothing: these are definitions.
-use Rattle.laws.specs.Prelude.{ℕ, zero, suc, ◌+◌, ◌-◌, ◌*◌, List, [], ◌∷◌, ◌++◌, get_or, take, drop}
+use Rattle.std.specs.Prelude.{ℕ, zero, suc, ◌+◌, ◌-◌, ◌*◌, List, [], ◌∷◌, ◌++◌, get_or, take, drop}
 use Rattle.area.specs.Prelude.{zeros, desk_size, record_count, list_size, stored_page_size}
 
 pub data Field : Type 0 where

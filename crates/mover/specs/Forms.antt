@@ -2,7 +2,7 @@
 -- which it is two. A form is named by the words of a number. Where things stand follows from it, in the "same order";
 -- in the new form it is the table of `area`, specs/Layout.antt (`NewFormIsLayout`).
 -- Assumes nothing: these are definitions.
-use Rattle.laws.specs.Prelude.{ℕ, ◌+◌, ◌*◌, ◌<◌, ◌≤◌, ◌≡◌}
+use Rattle.std.specs.Prelude.{ℕ, ◌+◌, ◌*◌, ◌<◌, ◌≤◌, ◌≡◌}
 use Rattle.directory.specs.declared.Header.{Header}
 use Rattle.area.specs.Prelude.{number_size, desk_size, record_count, list_size, stored_page_size}
 use Rattle.mover.specs.declared.forms.Places.{Places}

@@ -1,7 +1,7 @@
 -- The mover (document 02, request 5): "takes an old memory to the new form and back", for a directory, from one lent
 -- memory into another.
 -- Assumes nothing: these are definitions.
-use Rattle.laws.specs.Prelude.{ℕ, ◌*◌, List, [], ◌∷◌, ◌++◌, Bool, not, ◌&&◌, ◌||◌, length, ltb, eqb}
+use Rattle.std.specs.Prelude.{ℕ, ◌*◌, List, [], ◌∷◌, ◌++◌, Bool, not, ◌&&◌, ◌||◌, length, ltb, eqb}
 use Rattle.laws.specs.Search.{any_below}
 use Rattle.answer.specs.declared.Outcome.{Outcome}
 use Rattle.answer.specs.Outcome.{limits, unfit, recovery_awaited, join_while_open, stamp_too_high}

@@ -1,6 +1,6 @@
 -- Inner contracts only. Fields moved from one memory into another: the cursor tells how far a move has come in both.
 -- A move by the outcome of its checks.
-use Rattle.laws.specs.Prelude.{ℕ, ◌+◌, ◌≤◌, ◌≡◌, List, drop}
+use Rattle.std.specs.Prelude.{ℕ, ◌+◌, ◌≤◌, ◌≡◌, List, drop}
 use Rattle.std.proofs.lemmas.List.Edits.{sets}
 use Rattle.answer.specs.declared.Outcome.{Outcome}
 use Rattle.directory.specs.declared.Directory.{Directory}

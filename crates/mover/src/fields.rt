@@ -1,6 +1,6 @@
 // Fields moved from one memory into another: numbers, of which the low word is kept, and words that are
 // the same in each form.
-ghost use Rattle.laws.specs.Prelude.{◌≡◌, [], ◌∷◌, ◌+◌, ◌-◌, ◌*◌, ◌≤◌, length};
+ghost use Rattle.std.specs.Prelude.{◌≡◌, [], ◌∷◌, ◌+◌, ◌-◌, ◌*◌, ◌≤◌, length};
 ghost use Rattle.std.proofs.lemmas.List.Edits.{sets};
 ghost use Rattle.area.specs.Prelude.{zeros, record_count};
 ghost use Rattle.mover.specs.Fields.{number, words, repeated, record_fields, head_fields};

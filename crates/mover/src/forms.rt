@@ -1,5 +1,5 @@
 // The two forms of a rack's memory, each named by the words that a number has in it.
-ghost use Rattle.laws.specs.Prelude.{◌≡◌, ◌≤◌};
+ghost use Rattle.std.specs.Prelude.{◌≡◌, ◌≤◌};
 ghost use Rattle.mover.specs.Forms.{places_in};
 
 use area::layout;

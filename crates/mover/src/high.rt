@@ -1,5 +1,5 @@
 // 20: a stamp or done mark on a live card's area that one word does not hold.
-ghost use Rattle.laws.specs.Prelude.{◌≡◌, ◌<◌, ◌≤◌, length};
+ghost use Rattle.std.specs.Prelude.{◌≡◌, ◌<◌, ◌≤◌, length};
 ghost use Rattle.laws.specs.Search.{any_below};
 ghost use Rattle.area.specs.Prelude.{AreaIn, MemoryOf, area_size, pages_start, record_count};
 ghost use Rattle.mover.specs.Move.{high_record, high_area, high_card};

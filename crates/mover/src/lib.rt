@@ -3,7 +3,7 @@
 // and directory, and a refusal changes no word of what was lent.
 #![tactic(auto)]
 
-ghost use Rattle.laws.specs.Prelude.{◌≡◌, length};
+ghost use Rattle.std.specs.Prelude.{◌≡◌, length};
 ghost use Rattle.answer.specs.Outcome.{answer_of};
 ghost use Rattle.laws.specs.Examples.{AllHold};
 ghost use Rattle.mover.specs.Moving.{ValidWidths, RackMemories, checked_move};

@@ -1,6 +1,6 @@
 // What moves refuse: 1, 2, 11 and 15, of which 2 and 15 are read in the form that is moved from, and on
 // the way back 20.
-ghost use Rattle.laws.specs.Prelude.{◌≡◌, ◌<◌, false, length};
+ghost use Rattle.std.specs.Prelude.{◌≡◌, ◌<◌, false, length};
 ghost use Rattle.laws.specs.Search.{any_below};
 ghost use Rattle.directory.specs.Directory.{directory_by, FullHomes};
 ghost use Rattle.area.specs.Prelude.{AreaIn};

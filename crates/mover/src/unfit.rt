@@ -1,7 +1,7 @@
 // 2: a memory of either form and a directory that do not fit each other. A page, the status and a
 // release are told by `checks`; its loops are for the calls alone, where they are inlined because
 // nobody else calls them (docs/DECISIONS.md, request 5).
-ghost use Rattle.laws.specs.Prelude.{◌≡◌, ◌<◌, ◌≤◌, length};
+ghost use Rattle.std.specs.Prelude.{◌≡◌, ◌<◌, ◌≤◌, length};
 ghost use Rattle.laws.specs.Search.{any_below};
 ghost use Rattle.directory.specs.Directory.{directory_by, FullHomes};
 ghost use Rattle.area.specs.Prelude.{AreaIn};

@@ -1,7 +1,7 @@
 -- Two racks that get the same calls and go by different rules for new homes answer alike (document 02, request 4: "Over
 -- each of demand 3's lists of calls, a fetch answers the same as before").
 -- Assumes nothing: these are definitions.
-use Rattle.laws.specs.Prelude.{ℕ, ◌≡◌, List, [], ◌∷◌, Bool, true, false, cond}
+use Rattle.std.specs.Prelude.{ℕ, ◌≡◌, List, [], ◌∷◌, Bool, true, false, cond}
 use Rattle.directory.specs.declared.Directory.{Directory}
 use Rattle.directory.specs.NewHome.{HomeRule, NamesLive, next_home, even_home}
 use Rattle.protocol.specs.Result.{Result, accepted}

@@ -2,7 +2,7 @@
 -- Demand 3 speaks of accepted calls; this speaks of every call, so that a rack that refuses too much, too early or at
 -- another place is shut out.
 -- Assumes nothing: these are definitions.
-use Rattle.laws.specs.Prelude.{ℕ, ◌≡◌, List, [], ◌∷◌, true, not}
+use Rattle.std.specs.Prelude.{ℕ, ◌≡◌, List, [], ◌∷◌, true, not}
 use Rattle.directory.specs.declared.Directory.{Directory}
 use Rattle.directory.specs.NewHome.{HomeRule, even_home}
 use Rattle.protocol.specs.Result.{Result, accepted}

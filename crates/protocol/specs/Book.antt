@@ -1,7 +1,7 @@
 -- The book (document 01, "The book of demand 3"). It is told each call and whether it was accepted; it sees neither
 -- memory nor directory nor an answer.
 -- Assumes nothing: these are definitions.
-use Rattle.laws.specs.Prelude.{ℕ, suc, List, [], Bool, cond, length, ltb, eqb}
+use Rattle.std.specs.Prelude.{ℕ, suc, List, [], Bool, cond, length, ltb, eqb}
 use Rattle.laws.specs.Search.{in_turn}
 use Rattle.area.specs.Prelude.{zeros, desk_size, Release}
 use Rattle.diff.specs.declared.Price.{Price}

@@ -1,7 +1,7 @@
 -- The calls of demand 3, and what each does: the definition that its contract cites. Whoever speaks of all calls finds
 -- their definitions and their checks here.
 -- Assumes nothing: these are definitions.
-use Rattle.laws.specs.Prelude.{ℕ, List}
+use Rattle.std.specs.Prelude.{ℕ, List}
 use Rattle.directory.specs.declared.Directory.{Directory}
 use Rattle.directory.specs.NewHome.{HomeRule, even_home}
 use Rattle.area.specs.Prelude.{Release}

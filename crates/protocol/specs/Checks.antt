@@ -1,7 +1,7 @@
 -- What a call refuses, in order (document 01, "What the rack refuses, by who caused it"), and refusals 1, 2 and 11.
 -- Assumes nothing: these are definitions.
-use Rattle.laws.specs.Prelude.{ℕ, ◌+◌, ◌*◌, List, [], ◌∷◌, ◌++◌, Bool, true, false, cond, not, ◌&&◌, ◌||◌, length, ltb}
-use Rattle.laws.specs.Prelude.{leb, eqb}
+use Rattle.std.specs.Prelude.{ℕ, ◌+◌, ◌*◌, List, [], ◌∷◌, ◌++◌, Bool, true, false, cond, not, ◌&&◌, ◌||◌, length, ltb}
+use Rattle.std.specs.Prelude.{leb, eqb}
 use Rattle.laws.specs.Search.{any_below, count_below}
 use Rattle.answer.specs.declared.Outcome.{Outcome}
 use Rattle.answer.specs.Outcome.{given, refused_at, limits, unfit, no_card, recovery_awaited}

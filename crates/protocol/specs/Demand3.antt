@@ -1,5 +1,5 @@
 -- Demand 3 (document 01, "The book of demand 3"): one claim about every list of calls on a newly formatted rack.
-use Rattle.laws.specs.Prelude.{ℕ, ◌+◌, ◌*◌, ◌<◌, ◌≡◌, List, [], ◌∷◌, Bool, true, false, cond, length}
+use Rattle.std.specs.Prelude.{ℕ, ◌+◌, ◌*◌, ◌<◌, ◌≡◌, List, [], ◌∷◌, Bool, true, false, cond, length}
 use Rattle.directory.specs.declared.Directory.{Directory}
 use Rattle.directory.specs.Directory.{table}
 use Rattle.directory.specs.NewHome.{HomeRule, NamesLive, even_home}

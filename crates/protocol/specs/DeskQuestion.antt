@@ -1,7 +1,7 @@
 -- A desk question (document 01, "Failure, recovery, join": "A desk question reads the own desk of a live card, or a
 -- dead card's record"; refusals 1, 2, 11, 3).
 -- Assumes nothing: these are definitions.
-use Rattle.laws.specs.Prelude.{ℕ, List, cond}
+use Rattle.std.specs.Prelude.{ℕ, List, cond}
 use Rattle.answer.specs.declared.Outcome.{Outcome}
 use Rattle.directory.specs.declared.Directory.{Directory}
 use Rattle.directory.specs.Directory.{is_live, next_live_of}

@@ -1,7 +1,7 @@
 -- The failure of a card (document 01, "Failure, recovery, join": "A failure marks the card dead"; refusals 1, 2,
 -- 11, 3, 13).
 -- Assumes nothing: these are definitions.
-use Rattle.laws.specs.Prelude.{ℕ, List, [], ◌∷◌, ◌++◌, leb}
+use Rattle.std.specs.Prelude.{ℕ, List, [], ◌∷◌, ◌++◌, leb}
 use Rattle.laws.specs.Search.{count_below}
 use Rattle.answer.specs.declared.Outcome.{Outcome}
 use Rattle.answer.specs.Outcome.{two_live}

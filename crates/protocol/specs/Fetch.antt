@@ -1,6 +1,6 @@
 -- Fetching a page (document 01: "A fetch copies the committed page at its primary"; refusals 1, 2, 11, 9, 10, 17).
 -- Assumes nothing: these are definitions.
-use Rattle.laws.specs.Prelude.{ℕ, List, [], ◌∷◌, ◌++◌, Bool, true, false, cond, not, ◌&&◌, length, leb, eqb}
+use Rattle.std.specs.Prelude.{ℕ, List, [], ◌∷◌, ◌++◌, Bool, true, false, cond, not, ◌&&◌, length, leb, eqb}
 use Rattle.laws.specs.Search.{lowest, any_below}
 use Rattle.answer.specs.declared.Outcome.{Outcome}
 use Rattle.answer.specs.Outcome.{no_page, page_in_motion, wrong_buffer}

@@ -1,6 +1,6 @@
 -- Formatting (document 01, "Cards, pages, memory": "Formatting zeroes the memory"; refusal 1).
 -- Assumes nothing: these are definitions.
-use Rattle.laws.specs.Prelude.{ℕ, List, [], ◌∷◌, length}
+use Rattle.std.specs.Prelude.{ℕ, List, [], ◌∷◌, length}
 use Rattle.answer.specs.declared.Outcome.{Outcome}
 use Rattle.answer.specs.Outcome.{limits}
 use Rattle.directory.specs.Directory.{formatted_directory, empty_directory}

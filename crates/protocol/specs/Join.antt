@@ -1,6 +1,6 @@
 -- A dead card joins again (document 01, "Failure, recovery, join"; refusals 1, 2, 11, 3, 14, 15).
 -- Assumes nothing: these are definitions.
-use Rattle.laws.specs.Prelude.{ℕ, List, [], ◌∷◌, ◌++◌, Bool, cond, not, ◌&&◌, eqb}
+use Rattle.std.specs.Prelude.{ℕ, List, [], ◌∷◌, ◌++◌, Bool, cond, not, ◌&&◌, eqb}
 use Rattle.laws.specs.Search.{any_below, in_turn}
 use Rattle.answer.specs.declared.Outcome.{Outcome}
 use Rattle.answer.specs.Outcome.{card_live, join_while_open}

@@ -4,8 +4,8 @@
 -- Each call's checks, its answer and its change stand here over that state; document 01, "What the rack refuses, by who
 -- caused it", has the same order.
 -- Assumes nothing: these are definitions.
-use Rattle.laws.specs.Prelude.{ℕ, ◌+◌, ◌*◌, List, [], ◌∷◌, ◌++◌, Bool, true, false, cond, not, ◌&&◌, ◌||◌, length, ltb, leb}
-use Rattle.laws.specs.Prelude.{eqb}
+use Rattle.std.specs.Prelude.{ℕ, ◌+◌, ◌*◌, List, [], ◌∷◌, ◌++◌, Bool, true, false, cond, not, ◌&&◌, ◌||◌, length, ltb}
+use Rattle.std.specs.Prelude.{leb, eqb}
 use Rattle.laws.specs.Search.{lowest, any_below, count_below}
 use Rattle.answer.specs.declared.Outcome.{Outcome}
 use Rattle.answer.specs.Outcome.{recovery_awaited, no_card, release_open, number_used, number_ahead, faulty_list, word_in_use}

@@ -1,6 +1,6 @@
 -- Opening a release (document 01, "A release and its 4k + 11 steps"; refusals 1, 2, 11, 3 to 8).
 -- Assumes nothing: these are definitions.
-use Rattle.laws.specs.Prelude.{ℕ, ◌+◌, List, [], ◌∷◌, ◌++◌, Bool, true, false, cond, not, ◌&&◌, ltb, leb, eqb}
+use Rattle.std.specs.Prelude.{ℕ, ◌+◌, List, [], ◌∷◌, ◌++◌, Bool, true, false, cond, not, ◌&&◌, ltb, leb, eqb}
 use Rattle.laws.specs.Search.{lowest, any_below}
 use Rattle.answer.specs.declared.Outcome.{Outcome}
 use Rattle.answer.specs.Outcome.{release_open, number_used, number_ahead, faulty_list, word_in_use}

@@ -2,7 +2,7 @@
 -- and pages are never read; formatting makes them dead and 0, all other calls keep them"), for every call on any memory
 -- and any directory, accepted or refused.
 -- Assumes nothing: these are definitions.
-use Rattle.laws.specs.Prelude.{ℕ, ◌≤◌, ◌≡◌, List, false, take, drop}
+use Rattle.std.specs.Prelude.{ℕ, ◌≤◌, ◌≡◌, List, false, take, drop}
 use Rattle.directory.specs.declared.Directory.{Directory}
 use Rattle.directory.specs.Directory.{directory_of, is_live, primary_of, secondary_of}
 use Rattle.protocol.specs.Result.{Result}

@@ -1,6 +1,6 @@
 -- Recovery of a failed card (document 01, "Failure, recovery, join"; refusals 1, 2, 12).
 -- Assumes nothing: these are definitions.
-use Rattle.laws.specs.Prelude.{ℕ, zero, suc, ◌-◌, List, [], ◌∷◌, ◌++◌, Bool, cond, not, ◌&&◌, ◌||◌, length, eqb}
+use Rattle.std.specs.Prelude.{ℕ, zero, suc, ◌-◌, List, [], ◌∷◌, ◌++◌, Bool, cond, not, ◌&&◌, ◌||◌, length, eqb}
 use Rattle.laws.specs.Search.{in_turn}
 use Rattle.answer.specs.declared.Outcome.{Outcome}
 use Rattle.answer.specs.Outcome.{none_awaited}

@@ -1,6 +1,6 @@
 -- A release and its 4k + 11 steps (document 01, "A release and its 4k + 11 steps").
 -- Assumes nothing: these are definitions.
-use Rattle.laws.specs.Prelude.{ℕ, suc, ◌+◌, ◌*◌, List, [], ◌∷◌, ◌++◌, Bool, cond, length, get_or, ltb}
+use Rattle.std.specs.Prelude.{ℕ, suc, ◌+◌, ◌*◌, List, [], ◌∷◌, ◌++◌, Bool, cond, length, get_or, ltb}
 use Rattle.directory.specs.declared.Directory.{Directory}
 use Rattle.directory.specs.Directory.{live_at, primary_of, secondary_of}
 use Rattle.area.specs.Prelude.{store, store_run, clear_run, area_size, own_stamp, open_flag, steps_made, release_size}

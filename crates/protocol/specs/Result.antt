@@ -1,6 +1,6 @@
 -- What a call comes to and leaves.
 -- Assumes nothing: these are definitions.
-use Rattle.laws.specs.Prelude.{ℕ, List, Bool, cond, eqb}
+use Rattle.std.specs.Prelude.{ℕ, List, Bool, cond, eqb}
 use Rattle.answer.specs.declared.Outcome.{Outcome}
 use Rattle.directory.specs.declared.Directory.{Directory}
 

@@ -1,6 +1,6 @@
 -- One step of a release (document 01, "A release and its 4k + 11 steps"; refusals 1, 2, 11, 3, 16).
 -- Assumes nothing: these are definitions.
-use Rattle.laws.specs.Prelude.{ℕ, List, [], ◌∷◌, ◌++◌, not}
+use Rattle.std.specs.Prelude.{ℕ, List, [], ◌∷◌, ◌++◌, not}
 use Rattle.answer.specs.declared.Outcome.{Outcome}
 use Rattle.answer.specs.Outcome.{no_open_release}
 use Rattle.directory.specs.declared.Directory.{Directory}

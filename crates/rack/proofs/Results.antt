@@ -1,5 +1,6 @@
 -- What a call leaves, by the outcome that its checks reach: a refusal leaves all as it was.
-use Rattle.laws.proofs.Prelude.{ℕ, ◌<◌, ◌≡◌, refl, sym, ◌∙◌, ◌≢◌, List, [], true, eq-eqb, ne_eqb, not-false, length}
+use Rattle.std.specs.Prelude.{ℕ, ◌<◌, ◌≡◌, ◌≢◌, List, [], true, length}
+use Rattle.laws.proofs.Prelude.{refl, sym, ◌∙◌, eq-eqb, ne_eqb, not-false}
 use Rattle.laws.proofs.Bools.{by_cond}
 use Rattle.answer.specs.declared.Outcome.{Outcome}
 use Rattle.answer.specs.Outcome.{given}

@@ -1,5 +1,6 @@
 -- A rack that passed checks 1 and 2: within its limits, with homes that are cards and open releases that read well.
-use Rattle.laws.proofs.Prelude.{ℕ, ◌<◌, ◌≡◌, List, Bool, true, false, arith, length, ltb}
+use Rattle.std.specs.Prelude.{ℕ, ◌<◌, ◌≡◌, List, Bool, true, false, length, ltb}
+use Rattle.laws.proofs.Prelude.{arith}
 use Rattle.laws.specs.Search.{any_below}
 use Rattle.laws.proofs.Bools.{neither, and_first, and_second}
 use Rattle.laws.proofs.Search.{none_below}

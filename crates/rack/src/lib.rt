@@ -3,7 +3,7 @@
 // Those that end in `_lent` take the directory's header, and its 64 homes of each kind lent.
 #![tactic(auto)]
 
-ghost use Rattle.laws.specs.Prelude.{◌≡◌, ◌<◌, length};
+ghost use Rattle.std.specs.Prelude.{◌≡◌, ◌<◌, length};
 ghost use Rattle.answer.specs.Outcome.{answer_of};
 ghost use Rattle.directory.specs.Directory.{next_live_of, header_of, directory_by, FullHomes};
 ghost use Rattle.area.specs.Prelude.{zeros, desk_size, release_of, MemoryOf};

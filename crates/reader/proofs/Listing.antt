@@ -1,6 +1,7 @@
 -- The prices of a list written out, one number for each: what is left to write, written from here on, gives the whole.
-use Rattle.laws.proofs.Prelude.{ℕ, zero, suc, ◌+◌, ◌≤◌, ◌<◌, ◌≡◌, refl, ap, ◌∙◌, List, [], ◌∷◌, Bool, true, false, cond}
-use Rattle.laws.proofs.Prelude.{sym, arith, length, get_or, ltb}
+use Rattle.std.specs.Prelude.{ℕ, zero, suc, ◌+◌, ◌≤◌, ◌<◌, ◌≡◌, List, [], ◌∷◌, Bool, true, false, cond, length, get_or}
+use Rattle.std.specs.Prelude.{ltb}
+use Rattle.laws.proofs.Prelude.{refl, ap, ◌∙◌, sym, arith}
 use mathlib.Core.List.{map, map-append}
 use native.Mathlib.Nat.{zero-add}
 use lib.ListN.{length-map, length-append}

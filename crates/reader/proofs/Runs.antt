@@ -1,6 +1,6 @@
 -- Several prices of a run read at once: the cursor moved past them. A run that is cut short ends the reading.
-use Rattle.laws.proofs.Prelude.{ℕ, zero, suc, ◌+◌, ◌-◌, ◌*◌, ◌≤◌, ◌<◌, ◌≡◌, refl, sym, ap, ◌∙◌, List, dec_lt, arith}
-use Rattle.laws.proofs.Prelude.{lt-ltb, le-ltb, length, drop, get_or}
+use Rattle.std.specs.Prelude.{ℕ, zero, suc, ◌+◌, ◌-◌, ◌*◌, ◌≤◌, ◌<◌, ◌≡◌, List, length, drop, get_or}
+use Rattle.laws.proofs.Prelude.{refl, sym, ap, ◌∙◌, dec_lt, arith, lt-ltb, le-ltb}
 use Prim.Native.Nat.{min}
 use native.Mathlib.Nat.{add-zero, sub-zero}
 use Rattle.diff.specs.declared.Cursor.{Cursor}

@@ -1,6 +1,6 @@
 -- One word of a list that is read: what is left to read, read from here, gives the whole.
-use Rattle.laws.proofs.Prelude.{ℕ, zero, suc, ◌+◌, ◌-◌, ◌≤◌, ◌<◌, ◌≡◌, refl, List, [], ◌∷◌, arith, eq-eqb, ne_eqb}
-use Rattle.laws.proofs.Prelude.{lt-ltb, length, drop, get_or}
+use Rattle.std.specs.Prelude.{ℕ, zero, suc, ◌+◌, ◌-◌, ◌≤◌, ◌<◌, ◌≡◌, List, [], ◌∷◌, length, drop, get_or}
+use Rattle.laws.proofs.Prelude.{refl, arith, eq-eqb, ne_eqb, lt-ltb}
 use native.Mathlib.Numerals.{add-one}
 use lib.ListN.{drop_of_length-le}
 use lib.Seq.{drop-cons}

@@ -1,6 +1,6 @@
 -- A walk over the words of a list: the bounds that each word keeps, and the prices that are left.
-use Rattle.laws.proofs.Prelude.{ℕ, ◌+◌, ◌-◌, ◌*◌, ◌≤◌, ◌<◌, ◌≡◌, refl, sym, ap, ◌∙◌, List, [], ◌++◌, arith, lt-ltb}
-use Rattle.laws.proofs.Prelude.{dec_lt, le-ltb, length, drop, get_or}
+use Rattle.std.specs.Prelude.{ℕ, ◌+◌, ◌-◌, ◌*◌, ◌≤◌, ◌<◌, ◌≡◌, List, [], ◌++◌, length, drop, get_or}
+use Rattle.laws.proofs.Prelude.{refl, sym, ap, ◌∙◌, arith, lt-ltb, dec_lt, le-ltb}
 use native.Mathlib.Numerals.{add-one}
 use lib.Seq.{drop-cons}
 use Rattle.diff.specs.declared.Cursor.{Cursor}

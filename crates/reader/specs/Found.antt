@@ -1,6 +1,6 @@
 -- Inner contracts only. One price of a diff, by its number.
 -- Assumes nothing: these are definitions.
-use Rattle.laws.specs.Prelude.{ℕ, zero, suc, List, [], ◌∷◌}
+use Rattle.std.specs.Prelude.{ℕ, zero, suc, List, [], ◌∷◌}
 use Rattle.diff.specs.declared.Price.{Price}
 use Rattle.reader.specs.declared.Found.{Found}
 use Rattle.reader.specs.declared.Found.TheVariants.{Priced, Nothing}

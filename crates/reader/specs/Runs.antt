@@ -1,6 +1,6 @@
 -- Inner contracts only. Several prices of a run passed at once.
 -- Assumes nothing: these are definitions.
-use Rattle.laws.specs.Prelude.{ℕ, ◌+◌, ◌-◌, List, cond, length, get_or, ltb}
+use Rattle.std.specs.Prelude.{ℕ, ◌+◌, ◌-◌, List, cond, length, get_or, ltb}
 use Rattle.diff.specs.declared.Cursor.{Cursor}
 use Rattle.diff.specs.Prices.{priced_word}
 use Rattle.reader.specs.declared.Found.{Found}

@@ -1,7 +1,7 @@
 -- Inner contracts only. A walk over the words of a list: the state of the reading, and the index of the word that comes
 -- next.
 -- Assumes nothing: these are definitions.
-use Rattle.laws.specs.Prelude.{ℕ, ◌+◌, List, [], ◌∷◌, cond, length, get_or, ltb}
+use Rattle.std.specs.Prelude.{ℕ, ◌+◌, List, [], ◌∷◌, cond, length, get_or, ltb}
 use Rattle.diff.specs.declared.Cursor.{Cursor}
 use Rattle.diff.specs.declared.Price.{Price}
 use Rattle.diff.specs.declared.Step.{Step}

@@ -1,5 +1,5 @@
 -- Inner contracts only. States that reading within 512 words can reach: their sums fit.
-use Rattle.laws.specs.Prelude.{◌+◌, ◌*◌, ◌≤◌}
+use Rattle.std.specs.Prelude.{◌+◌, ◌*◌, ◌≤◌}
 use Rattle.diff.specs.declared.Cursor.{Cursor}
 
 pub record WellFormed (s : Cursor) : Type 0 where

@@ -2,8 +2,7 @@
 // area: the whole of it, one price, and its prices as a table.
 #![tactic(auto)]
 
-ghost use Rattle.laws.specs.Prelude.{◌≡◌, ◌<◌, ◌≤◌, length};
-ghost use Rattle.std.specs.Prelude.{min, map};
+ghost use Rattle.std.specs.Prelude.{◌≡◌, ◌<◌, ◌≤◌, length, min, map};
 ghost use Rattle.std.proofs.lemmas.List.Edits.{sets};
 ghost use Rattle.diff.specs.Reading.{start, past_price, page_step, run_step, end_step, word_step};
 ghost use Rattle.diff.specs.Reading.{read_diff, check_diff};

@@ -1,5 +1,5 @@
 // A walk over a list, word by word or run by run.
-ghost use Rattle.laws.specs.Prelude.{◌≡◌, ◌<◌, ◌≤◌, length};
+ghost use Rattle.std.specs.Prelude.{◌≡◌, ◌<◌, ◌≤◌, length};
 ghost use Rattle.reader.specs.WellFormed.{WellFormed};
 ghost use Rattle.reader.specs.Walking.{at_first, past_word, past_run};
 

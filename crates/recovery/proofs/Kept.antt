@@ -1,6 +1,7 @@
 -- What recovery and join rely on: each card of a rack has its mark and area, so has the next live card after any, and
 -- the length of the memory alone counts.
-use Rattle.laws.proofs.Prelude.{ℕ, ◌<◌, ◌≤◌, ◌≡◌, arith}
+use Rattle.std.specs.Prelude.{ℕ, ◌<◌, ◌≤◌, ◌≡◌}
+use Rattle.laws.proofs.Prelude.{arith}
 use Rattle.directory.specs.declared.Directory.{Directory}
 use Rattle.directory.specs.Directory.{next_live_of}
 use Rattle.directory.proofs.Live.{next_live_below}

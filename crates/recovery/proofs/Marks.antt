@@ -1,6 +1,7 @@
 -- A directory with one card more marked live, as before its failure or after its join: what recovery and join write by
 -- it.
-use Rattle.laws.proofs.Prelude.{ℕ, ◌<◌, ◌≡◌, refl, ◌∙◌, List, Bool, true, false, cond, ℕ_discrete, length, eqb-true}
+use Rattle.std.specs.Prelude.{ℕ, ◌<◌, ◌≡◌, List, Bool, true, false, cond, length}
+use Rattle.laws.proofs.Prelude.{refl, ◌∙◌, ℕ_discrete, eqb-true}
 use lib.ListN.{length-set}
 use Rattle.laws.specs.Search.{in_turn}
 use Rattle.laws.proofs.Bools.{and_second}

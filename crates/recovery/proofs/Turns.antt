@@ -1,5 +1,6 @@
 -- A loop that makes a change of the memory for 0, 1, .. and n - 1 in turn: how far it is.
-use Rattle.laws.proofs.Prelude.{ℕ, zero, suc, ◌+◌, ◌≤◌, ◌<◌, ◌≡◌, refl, sym, ◌∙◌, List, arith, length}
+use Rattle.std.specs.Prelude.{ℕ, zero, suc, ◌+◌, ◌≤◌, ◌<◌, ◌≡◌, List, length}
+use Rattle.laws.proofs.Prelude.{refl, sym, ◌∙◌, arith}
 use Rattle.laws.specs.Search.{in_turn}
 use Rattle.laws.proofs.Search.{in_turn_none, in_turn_more}
 

@@ -1,6 +1,6 @@
 -- Inner contracts only. What closing the open releases relies on, as a rack that passed its checks has it; one release
 -- run to its close, and the memory after recovery.
-use Rattle.laws.specs.Prelude.{ℕ, ◌<◌, ◌≡◌, List, true, cond}
+use Rattle.std.specs.Prelude.{ℕ, ◌<◌, ◌≡◌, List, true, cond}
 use Rattle.directory.specs.declared.Directory.{Directory}
 use Rattle.directory.specs.Directory.{next_live_of}
 use Rattle.directory.specs.NewHome.{even_home}

@@ -1,6 +1,6 @@
 -- Inner contracts only. What recovery and join rely on, as a rack that passed its checks has it; and what they do on
 -- one card, as far as `protocol` has no name for it.
-use Rattle.laws.specs.Prelude.{ℕ, ◌+◌, ◌*◌, ◌<◌, ◌≤◌, ◌≡◌, List, Bool, true, false, cond, ◌&&◌, length, eqb}
+use Rattle.std.specs.Prelude.{ℕ, ◌+◌, ◌*◌, ◌<◌, ◌≤◌, ◌≡◌, List, Bool, true, false, cond, ◌&&◌, length, eqb}
 use Rattle.directory.specs.declared.Directory.{Directory}
 use Rattle.directory.specs.declared.Header.{Header}
 use Rattle.directory.specs.Directory.{live_at, is_live, backup_of}

@@ -1,5 +1,5 @@
 // Open releases, each run to its close.
-ghost use Rattle.laws.specs.Prelude.{◌≡◌, true, ◌<◌, length};
+ghost use Rattle.std.specs.Prelude.{◌≡◌, true, ◌<◌, length};
 ghost use Rattle.directory.specs.Directory.{backup_of, directory_by};
 ghost use Rattle.area.specs.Prelude.{has_open_release, area_size};
 ghost use Rattle.protocol.specs.Recovery.{close_releases};

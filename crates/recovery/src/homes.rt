@@ -1,5 +1,5 @@
 // Pages that lost a home: the home that each keeps, and its copies and homes from then on.
-ghost use Rattle.laws.specs.Prelude.{◌≡◌, cond, ◌||◌, length, eqb};
+ghost use Rattle.std.specs.Prelude.{◌≡◌, cond, ◌||◌, length, eqb};
 ghost use Rattle.directory.specs.NewHome.{even_home};
 ghost use Rattle.protocol.specs.Recovery.{copy_to_new_homes, moved_below};
 ghost use Rattle.recovery.specs.Rack.{RackIn, OtherLive, FailedIn, HomesOf};

@@ -1,5 +1,5 @@
 // The area of a card that joins: its own stamp and desk, and the records of the other dead cards.
-ghost use Rattle.laws.specs.Prelude.{◌≡◌, ◌<◌, length};
+ghost use Rattle.std.specs.Prelude.{◌≡◌, ◌<◌, length};
 ghost use Rattle.laws.specs.Search.{in_turn};
 ghost use Rattle.protocol.specs.Join.{reset_area, copy_dead_record};
 ghost use Rattle.recovery.specs.Rack.{RackIn, SomeLive};

@@ -3,7 +3,7 @@
 // above.
 #![tactic(auto)]
 
-ghost use Rattle.laws.specs.Prelude.{◌≡◌, ◌<◌, length};
+ghost use Rattle.std.specs.Prelude.{◌≡◌, ◌<◌, length};
 ghost use Rattle.directory.specs.Directory.{with_status};
 ghost use Rattle.directory.specs.NewHome.{even_home};
 ghost use Rattle.directory.specs.declared.Status.TheVariants.{Running};

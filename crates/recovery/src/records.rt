@@ -1,6 +1,6 @@
 // Records written: the failed card's on every live card, and on backups those made from a card's own
 // stamp and desk.
-ghost use Rattle.laws.specs.Prelude.{◌≡◌, ◌<◌, ◌≤◌, length};
+ghost use Rattle.std.specs.Prelude.{◌≡◌, ◌<◌, ◌≤◌, length};
 ghost use Rattle.laws.specs.Search.{in_turn};
 ghost use Rattle.directory.specs.Directory.{header_of, backup_of};
 ghost use Rattle.area.specs.Prelude.{release_of, area_size, desk_size, record_size, write_own_record};

@@ -1,6 +1,6 @@
 // Pages rolled forward or back: at each live home tentative is copied to committed, or committed to
 // tentative.
-ghost use Rattle.laws.specs.Prelude.{◌≡◌, ◌+◌, ◌<◌, ◌≤◌, length};
+ghost use Rattle.std.specs.Prelude.{◌≡◌, ◌+◌, ◌<◌, ◌≤◌, length};
 ghost use Rattle.directory.specs.Directory.{directory_by};
 ghost use Rattle.area.specs.Prelude.{area_size, page_size, stored_page_size};
 ghost use Rattle.protocol.specs.Recovery.{restore_page, restore_pages};

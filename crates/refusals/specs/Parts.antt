@@ -1,7 +1,7 @@
 -- Inner contracts only. The last checks of an opening (document 01, refusals 4 to 8) in the two parts that the code
 -- makes of them.
 -- Assumes nothing: these are definitions.
-use Rattle.laws.specs.Prelude.{ℕ, ◌+◌, List, [], ◌∷◌, ltb, leb}
+use Rattle.std.specs.Prelude.{ℕ, ◌+◌, List, [], ◌∷◌, ltb, leb}
 use Rattle.laws.specs.Search.{lowest, any_below}
 use Rattle.answer.specs.Outcome.{release_open, number_used, number_ahead, faulty_list, word_in_use}
 use Rattle.directory.specs.declared.Header.{Header}

@@ -3,7 +3,7 @@
 // comes as its header, by value, with its homes lent beside it.
 #![tactic(auto)]
 
-ghost use Rattle.laws.specs.Prelude.{◌≡◌, ◌<◌, length};
+ghost use Rattle.std.specs.Prelude.{◌≡◌, ◌<◌, length};
 ghost use Rattle.directory.specs.Directory.{directory_by, FullHomes};
 ghost use Rattle.area.specs.Prelude.{MemoryOf};
 ghost use Rattle.protocol.specs.Checks.{first_refusal};

@@ -1,5 +1,6 @@
 -- For those who call a step: what it relies on, from the checks of a rack.
-use Rattle.laws.proofs.Prelude.{ℕ, ◌*◌, ◌<◌, ◌≤◌, ◌≡◌, refl, List, Bool, false, true≢false, arith, ltb-false, length}
+use Rattle.std.specs.Prelude.{ℕ, ◌*◌, ◌<◌, ◌≤◌, ◌≡◌, List, Bool, false, length}
+use Rattle.laws.proofs.Prelude.{refl, true≢false, arith, ltb-false}
 use Rattle.area.specs.Prelude.{area_size, open_list, steps_of}
 use Rattle.area.proofs.Prelude.{area_in}
 use Rattle.diff.specs.declared.Verdict.{Verdict}

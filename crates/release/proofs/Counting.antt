@@ -1,6 +1,7 @@
 -- Steps that store prices, counted once: a memory whose count is still to be written, with that count, is the one that
 -- the single steps leave.
-use Rattle.laws.proofs.Prelude.{ℕ, ◌+◌, ◌-◌, ◌*◌, ◌/◌, ◌<◌, ◌≤◌, ◌≡◌, refl, sym, ap, ◌∙◌, List, Bool, arith, length}
+use Rattle.std.specs.Prelude.{ℕ, ◌+◌, ◌-◌, ◌*◌, ◌/◌, ◌<◌, ◌≤◌, ◌≡◌, List, Bool, length}
+use Rattle.laws.proofs.Prelude.{refl, sym, ap, ◌∙◌, arith}
 use native.Mathlib.Nat.{add-zero, sub-zero}
 use Rattle.laws.proofs.Bools.{by_cond}
 use Rattle.directory.specs.declared.Directory.{Directory}

@@ -1,5 +1,5 @@
 -- Opening and close: the stores that the code makes, in its order, are those of the definitions.
-use Rattle.laws.proofs.Prelude.{ℕ, ◌≡◌, List}
+use Rattle.std.specs.Prelude.{ℕ, ◌≡◌, List}
 use Rattle.area.specs.Prelude.{store, load_run, store_run, clear_run, own_stamp, own_desk, desk_size, open_flag, steps_made}
 use Rattle.area.specs.Prelude.{release_number, release_desk, release_size, list_start, list_size, release_of, open_release}
 use Rattle.area.specs.Prelude.{load_number, store_number}

@@ -1,5 +1,6 @@
 -- Which steps store a price: those of the tentative half, and after nine others those of the committed half.
-use Rattle.laws.proofs.Prelude.{ℕ, ◌+◌, ◌-◌, ◌*◌, ◌<◌, ◌≤◌, ◌≡◌, refl, dec_lt, arith, lt-ltb, le-ltb}
+use Rattle.std.specs.Prelude.{ℕ, ◌+◌, ◌-◌, ◌*◌, ◌<◌, ◌≤◌, ◌≡◌}
+use Rattle.laws.proofs.Prelude.{refl, dec_lt, arith, lt-ltb, le-ltb}
 use Rattle.area.specs.Prelude.{tentative_half, committed_half, page_size}
 use Rattle.release.specs.Stepping.{prices_next, half_next, number_next}
 

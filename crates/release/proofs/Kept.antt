@@ -1,6 +1,7 @@
 -- What a step of a release leaves as it was: the list of every card and what stands before its records, but for its
 -- own steps.
-use Rattle.laws.proofs.Prelude.{ℕ, ◌+◌, ◌*◌, ◌<◌, ◌≤◌, ◌≡◌, refl, sym, ◌∙◌, ◌≢◌, inl, List, dec_lt, arith, length}
+use Rattle.std.specs.Prelude.{ℕ, ◌+◌, ◌*◌, ◌<◌, ◌≤◌, ◌≡◌, ◌≢◌, List, length}
+use Rattle.laws.proofs.Prelude.{refl, sym, ◌∙◌, inl, dec_lt, arith}
 use native.Mathlib.Numerals.{add-one}
 use Rattle.directory.specs.declared.Directory.{Directory}
 use Rattle.area.specs.Prelude.{AreaIn, open_release, steps_of}

@@ -1,5 +1,6 @@
 -- Several steps of a release: those that it has left fall one by one.
-use Rattle.laws.proofs.Prelude.{ℕ, zero, suc, ◌+◌, ◌-◌, ◌<◌, ◌≤◌, ◌≡◌, refl, sym, ap, ◌∙◌, List, arith, length}
+use Rattle.std.specs.Prelude.{ℕ, zero, suc, ◌+◌, ◌-◌, ◌<◌, ◌≤◌, ◌≡◌, List, length}
+use Rattle.laws.proofs.Prelude.{refl, sym, ap, ◌∙◌, arith}
 use Prim.Native.Nat.{min}
 use native.Mathlib.Nat.{sub-zero}
 use Rattle.directory.specs.declared.Directory.{Directory}

@@ -1,6 +1,7 @@
 -- The prices of an open release: how many there are, the one that is found by its number, and a table of them.
-use Rattle.laws.proofs.Prelude.{ℕ, zero, suc, ◌/◌, ◌%◌, ◌<◌, ◌≤◌, ◌≡◌, refl, sym, ap, ◌∙◌, List, [], ◌∷◌, Bool, true}
-use Rattle.laws.proofs.Prelude.{false, arith, ltb-true, ltb-false, length, get_or, ltb}
+use Rattle.std.specs.Prelude.{ℕ, zero, suc, ◌/◌, ◌%◌, ◌<◌, ◌≤◌, ◌≡◌, List, [], ◌∷◌, Bool, true, false, length, get_or}
+use Rattle.std.specs.Prelude.{ltb}
+use Rattle.laws.proofs.Prelude.{refl, sym, ap, ◌∙◌, arith, ltb-true, ltb-false}
 use mathlib.Core.List.{map}
 use lib.ListN.{get_or-eq_default}
 use lib.Seq.{length-sets, sets}

@@ -1,6 +1,7 @@
 -- The store of each step: the store that the code makes is the one that the definition has at this place.
-use Rattle.laws.proofs.Prelude.{ℕ, ◌+◌, ◌*◌, ◌/◌, ◌%◌, ◌<◌, ◌≤◌, ◌≡◌, refl, sym, ◌∙◌, List, [], ◌∷◌, Bool, true, false}
-use Rattle.laws.proofs.Prelude.{arith, ltb-true, ltb-false, length, get_or, ltb, eqb}
+use Rattle.std.specs.Prelude.{ℕ, ◌+◌, ◌*◌, ◌/◌, ◌%◌, ◌<◌, ◌≤◌, ◌≡◌, List, [], ◌∷◌, Bool, true, false, length, get_or}
+use Rattle.std.specs.Prelude.{ltb, eqb}
+use Rattle.laws.proofs.Prelude.{refl, sym, ◌∙◌, arith, ltb-true, ltb-false}
 use Rattle.laws.proofs.Bools.{by_cond}
 use Rattle.directory.specs.declared.Directory.{Directory}
 use Rattle.directory.specs.Directory.{live_at}

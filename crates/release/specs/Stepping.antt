@@ -1,7 +1,7 @@
 -- Inner contracts only. What a step relies on: a memory of its stated length, homes that are cards, and a release whose
 -- list reads well. A rack that passed its checks has it.
-use Rattle.laws.specs.Prelude.{ℕ, ◌*◌, ◌+◌, ◌-◌, ◌/◌, ◌%◌, ◌<◌, ◌≤◌, ◌≡◌, List, [], ◌∷◌, Bool, cond, length, get_or, ltb}
-use Rattle.laws.specs.Prelude.{eqb}
+use Rattle.std.specs.Prelude.{ℕ, ◌*◌, ◌+◌, ◌-◌, ◌/◌, ◌%◌, ◌<◌, ◌≤◌, ◌≡◌, List, [], ◌∷◌, Bool, cond, length, get_or, ltb}
+use Rattle.std.specs.Prelude.{eqb}
 use Rattle.directory.specs.declared.Directory.{Directory}
 use Rattle.area.specs.Prelude.{AreaIn, area_size, record_stamp, record_desk, tentative_half, committed_half, desk_size}
 use Rattle.area.specs.Prelude.{list_size, open_release, open_list, steps_of, Release, number_words}

@@ -2,7 +2,7 @@
 // that passed its checks; which calls are refused is decided above.
 #![tactic(auto)]
 
-ghost use Rattle.laws.specs.Prelude.{◌≡◌, List, [], ◌∷◌, ℕ, ◌+◌, ◌*◌, ◌<◌, ◌≤◌, length, get_or};
+ghost use Rattle.std.specs.Prelude.{◌≡◌, List, [], ◌∷◌, ℕ, ◌+◌, ◌*◌, ◌<◌, ◌≤◌, length, get_or};
 ghost use Rattle.directory.specs.Directory.{directory_by};
 ghost use Rattle.area.specs.Prelude.{AreaIn, store, area_size, steps_made, page_at, record_desk};
 ghost use Rattle.area.specs.Prelude.{number_size, desk_size, list_size, page_size, stored_page_size};

@@ -1,6 +1,5 @@
 // Several steps of a release.
-ghost use Rattle.laws.specs.Prelude.{◌≡◌, ◌-◌, ◌*◌, ◌+◌, ◌<◌, ◌≤◌, length};
-ghost use Rattle.std.specs.Prelude.{min};
+ghost use Rattle.std.specs.Prelude.{◌≡◌, ◌-◌, ◌*◌, ◌+◌, ◌<◌, ◌≤◌, length, min};
 ghost use Rattle.directory.specs.Directory.{directory_by};
 ghost use Rattle.area.specs.Prelude.{AreaIn, area_size, pages_start, list_size, steps_of};
 ghost use Rattle.protocol.specs.Release.{steps_in};

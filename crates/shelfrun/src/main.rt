@@ -2,9 +2,8 @@
 // answers the commands that it reads from standard input, line by line.
 #![tactic(auto)]
 
-ghost use Rattle.laws.specs.Prelude.{◌≡◌, ◌+◌, ◌≤◌, ◌<◌, ℕ, length, take};
+ghost use Rattle.std.specs.Prelude.{◌≡◌, ◌+◌, ◌≤◌, ◌<◌, ℕ, length, take, IfOk, OnErr};
 ghost use Rattle.std.proofs.lemmas.List.Edits.{sets};
-ghost use Rattle.std.specs.Prelude.{IfOk, OnErr};
 ghost use Rattle.interpreter.specs.declared.Session.{Session};
 ghost use Rattle.interpreter.specs.Transcript.{state_of, state_after, printed};
 

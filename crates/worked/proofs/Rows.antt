@@ -1,6 +1,7 @@
 -- The rows hold: what is a number is computed, by one test over the list, and the two rows on every number and every
 -- stamp are proved.
-use Rattle.laws.proofs.Prelude.{ℕ, ◌≤◌, ◌≡◌, refl, ap, ◌∙◌, List, [], ◌∷◌, arith, le-leb, lt-leb}
+use Rattle.std.specs.Prelude.{ℕ, ◌≤◌, ◌≡◌, List, [], ◌∷◌}
+use Rattle.laws.proofs.Prelude.{refl, ap, ◌∙◌, arith, le-leb, lt-leb}
 use Rattle.laws.specs.Search.{lowest_from, count_below, in_turn}
 use Rattle.laws.specs.Examples.{AllHold, same_words, failures_from, Claims}
 use Rattle.laws.proofs.Examples.{all_hold}

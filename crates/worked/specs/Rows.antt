@@ -4,8 +4,8 @@
 -- A row shows outcomes beside words, or words that an accepted call alone changes, and buffers that are lent hold
 -- sevens: a call that is refused meets none.
 -- Assumes nothing: these are definitions.
-use Rattle.laws.specs.Prelude.{ℕ, zero, suc, ◌≤◌, ◌<◌, ◌≡◌, List, [], ◌∷◌, ◌++◌, true, false, length, set, take}
-use Rattle.laws.specs.Prelude.{replicate}
+use Rattle.std.specs.Prelude.{ℕ, zero, suc, ◌≤◌, ◌<◌, ◌≡◌, List, [], ◌∷◌, ◌++◌, true, false, length, set, take}
+use Rattle.std.specs.Prelude.{replicate}
 use Rattle.laws.specs.Examples.{Example, computed, claimed}
 use Rattle.answer.specs.Outcome.{in_words, refused_at, number_used}
 use Rattle.directory.specs.declared.Directory.{Directory}

@@ -1,6 +1,6 @@
 -- The run that a record is stored as.
-use Rattle.laws.proofs.Prelude.{ℕ, ◌+◌, ◌*◌, ◌%◌, ◌≡◌, ap, ◌∙◌, List, ◌++◌, cond, arith, ℕ_discrete, eq-eqb, ne_eqb}
-use Rattle.laws.proofs.Prelude.{eqb, length}
+use Rattle.std.specs.Prelude.{ℕ, ◌+◌, ◌*◌, ◌%◌, ◌≡◌, List, ◌++◌, cond, eqb, length}
+use Rattle.laws.proofs.Prelude.{ap, ◌∙◌, arith, ℕ_discrete, eq-eqb, ne_eqb}
 use mathlib.Core.List.{append-nil, append_assoc}
 use lib.ListN.{length-append}
 use lib.Seq.{sets, sets-eq}

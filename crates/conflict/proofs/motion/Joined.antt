@@ -1,6 +1,6 @@
 -- The pages of a list, marked aside and then joined to other marks, are marked as if among these from the first.
-use Rattle.laws.proofs.Prelude.{ℕ, zero, suc, ◌≤◌, ◌<◌, ◌≡◌, refl, sym, ◌∙◌, List, Bool, false, ◌||◌, ℕ_discrete, arith}
-use Rattle.laws.proofs.Prelude.{length, get_or}
+use Rattle.std.specs.Prelude.{ℕ, zero, suc, ◌≤◌, ◌<◌, ◌≡◌, List, Bool, false, ◌||◌, length, get_or}
+use Rattle.laws.proofs.Prelude.{refl, sym, ◌∙◌, ℕ_discrete, arith}
 use lib.ListN.{length-set}
 use lib.Seq.{get_or-set_same, get_or-set_other, ext_get_or}
 use Rattle.laws.specs.Search.{in_turn}

@@ -1,6 +1,7 @@
 -- One turn of the walk over an open list: what the price that is due adds, and what is left gives the whole.
-use Rattle.laws.proofs.Prelude.{ℕ, ◌+◌, ◌<◌, ◌≤◌, ◌≡◌, refl, ap, ◌∙◌, List, [], ◌∷◌, ◌++◌, Bool, true, false, cond}
-use Rattle.laws.proofs.Prelude.{◌||◌, ◌&&◌, arith, length, ltb, leb, eqb}
+use Rattle.std.specs.Prelude.{ℕ, ◌+◌, ◌<◌, ◌≤◌, ◌≡◌, List, [], ◌∷◌, ◌++◌, Bool, true, false, cond, ◌||◌, ◌&&◌, length}
+use Rattle.std.specs.Prelude.{ltb, leb, eqb}
+use Rattle.laws.proofs.Prelude.{refl, ap, ◌∙◌, arith}
 use lib.ListN.{length-append}
 use Rattle.area.specs.Prelude.{area_size, open_list, steps_of, has_open_release}
 use Rattle.diff.specs.declared.Cursor.{Cursor}

@@ -1,5 +1,6 @@
 -- The marks of a list's labels stand for its prices: a marked label is one that the list names.
-use Rattle.laws.proofs.Prelude.{ℕ, ◌≤◌, ◌≡◌, refl, ◌∙◌, List, [], ◌∷◌, Bool, true, false, cond, ◌||◌, get_or, arith}
+use Rattle.std.specs.Prelude.{ℕ, ◌≤◌, ◌≡◌, List, [], ◌∷◌, Bool, true, false, cond, ◌||◌, get_or}
+use Rattle.laws.proofs.Prelude.{refl, ◌∙◌, arith}
 use mathlib.Core.Bool.{and_assoc}
 use Rattle.diff.specs.declared.Price.{Price}
 use Rattle.diff.specs.Prices.{label_of, prices_of, names}

@@ -1,6 +1,6 @@
 -- One turn of the walk over another card's list: what the price that is due finds, and what is left finds the rest.
-use Rattle.laws.proofs.Prelude.{ℕ, ◌<◌, ◌≤◌, ◌≡◌, refl, ap, ◌∙◌, List, [], ◌∷◌, ◌++◌, Bool, true, false, cond, ◌||◌}
-use Rattle.laws.proofs.Prelude.{length, get_or, ltb}
+use Rattle.std.specs.Prelude.{ℕ, ◌<◌, ◌≤◌, ◌≡◌, List, [], ◌∷◌, ◌++◌, Bool, true, false, cond, ◌||◌, length, get_or, ltb}
+use Rattle.laws.proofs.Prelude.{refl, ap, ◌∙◌}
 use Rattle.area.specs.Prelude.{area_size, open_list}
 use Rattle.diff.specs.declared.Cursor.{Cursor}
 use Rattle.diff.specs.declared.Price.{Price}

@@ -1,8 +1,8 @@
 -- The runs that a diff has on a page, applied one after the other: which words are set on the page once so many runs are
 -- applied, and that the words of the list past them are those of the runs that are left.
-use Rattle.laws.proofs.Prelude.{ℕ, ◌+◌, ◌-◌, ◌/◌, ◌^◌, ◌≤◌, ◌<◌, ◌≡◌, ◌≢◌, sym, ap, ◌∙◌, arith, dec_lt}
-use Rattle.laws.proofs.Prelude.{List, ◌∷◌, ◌++◌, Bool, true, false, cond, ◌||◌, length, get_or, take, drop, ℕ_discrete}
-use Rattle.laws.proofs.Prelude.{true≢false}
+use Rattle.std.specs.Prelude.{ℕ, ◌+◌, ◌-◌, ◌/◌, ◌^◌, ◌≤◌, ◌<◌, ◌≡◌, ◌≢◌, List, ◌∷◌, ◌++◌, Bool, true, false, cond, ◌||◌}
+use Rattle.std.specs.Prelude.{length, get_or, take, drop}
+use Rattle.laws.proofs.Prelude.{sym, ap, ◌∙◌, arith, dec_lt, ℕ_discrete, true≢false}
 use Rattle.laws.proofs.Lists.{get_or-sets_outside, get_or-sets_inside}
 use mathlib.Core.Bool.{or_assoc, or-false, or-true}
 use mathlib.Core.List.{append_assoc}

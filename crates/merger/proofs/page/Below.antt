@@ -1,6 +1,6 @@
 -- The marked words of a page below one of its words: none, all, and those of one run more.
-use Rattle.laws.proofs.Prelude.{ℕ, ◌+◌, ◌-◌, ◌/◌, ◌^◌, ◌≤◌, ◌<◌, ◌≡◌, sym, ap, ◌∙◌, Bool, true, false, ◌&&◌, ◌||◌, ltb}
-use Rattle.laws.proofs.Prelude.{arith, dec_lt, eq-eqb, ne_eqb, lt-ltb, le-ltb}
+use Rattle.std.specs.Prelude.{ℕ, ◌+◌, ◌-◌, ◌/◌, ◌^◌, ◌≤◌, ◌<◌, ◌≡◌, Bool, true, false, ◌&&◌, ◌||◌, ltb}
+use Rattle.laws.proofs.Prelude.{sym, ap, ◌∙◌, arith, dec_lt, eq-eqb, ne_eqb, lt-ltb, le-ltb}
 use mathlib.Core.Bool.{or-false}
 use Rattle.diff.specs.Marks.{bit, is_set}
 use Rattle.diff.proofs.Bits.{bit_shifted}

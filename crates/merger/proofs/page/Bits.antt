@@ -1,5 +1,6 @@
 -- The bits of two words together, and of a word that has so many ones from an offset on.
-use Rattle.laws.proofs.Prelude.{ℕ, zero, suc, ◌+◌, ◌-◌, ◌*◌, ◌/◌, ◌%◌, ◌^◌, ◌<◌, ◌≤◌, ◌≡◌, refl, sym, ◌∙◌, ◌||◌, arith, eqb}
+use Rattle.std.specs.Prelude.{ℕ, zero, suc, ◌+◌, ◌-◌, ◌*◌, ◌/◌, ◌%◌, ◌^◌, ◌<◌, ◌≤◌, ◌≡◌, ◌||◌, eqb}
+use Rattle.laws.proofs.Prelude.{refl, sym, ◌∙◌, arith}
 use Prim.Native.Nat.{max}
 use native.Mathlib.Nat.{pow-suc, suc-add, zero-add, one-mul}
 use lib.Bits.{bit_or, or_step}

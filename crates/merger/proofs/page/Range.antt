@@ -1,5 +1,6 @@
 -- Words among so many from a first on.
-use Rattle.laws.proofs.Prelude.{ℕ, ◌+◌, ◌≤◌, ◌<◌, ◌≡◌, sym, ◌∙◌, true, false, arith, dec_lt, le-leb, lt-leb, lt-ltb, le-ltb}
+use Rattle.std.specs.Prelude.{ℕ, ◌+◌, ◌≤◌, ◌<◌, ◌≡◌, true, false}
+use Rattle.laws.proofs.Prelude.{sym, ◌∙◌, arith, dec_lt, le-leb, lt-leb, lt-ltb, le-ltb}
 use Rattle.merger.specs.Page.{in_range}
 
 module _ (first count word : ℕ) where

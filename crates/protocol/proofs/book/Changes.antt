@@ -1,6 +1,6 @@
 -- The book at one accepted call: what is changed for one card, and what a step makes of the book.
-use Rattle.laws.proofs.Prelude.{ℕ, suc, ◌≤◌, ◌<◌, ◌≡◌, refl, sym, ◌∙◌, subst, ◌≢◌, List, [], cond, arith, ℕ_discrete}
-use Rattle.laws.proofs.Prelude.{lt-ltb, le-ltb, eq-eqb, ne_eqb, length, ltb}
+use Rattle.std.specs.Prelude.{ℕ, suc, ◌≤◌, ◌<◌, ◌≡◌, ◌≢◌, List, [], cond, length, ltb}
+use Rattle.laws.proofs.Prelude.{refl, sym, ◌∙◌, subst, arith, ℕ_discrete, lt-ltb, le-ltb, eq-eqb, ne_eqb}
 use mathlib.Core.Path.{fun_ext}
 use Rattle.area.specs.Prelude.{Release, desk_size}
 use Rattle.diff.specs.declared.Price.{Price}

@@ -1,7 +1,7 @@
 -- The book when open releases run to their close, one card after the other: each is counted if it did not count yet,
 -- and struck out. That is what the book does at a recovery.
-use Rattle.laws.proofs.Prelude.{ℕ, zero, suc, ◌+◌, ◌-◌, ◌≤◌, ◌<◌, ◌≡◌, refl, ◌∙◌, ◌≢◌, List, Bool, true, false, cond}
-use Rattle.laws.proofs.Prelude.{arith, ℕ_discrete, dec_lt, lt-ltb, le-ltb, length, ltb}
+use Rattle.std.specs.Prelude.{ℕ, zero, suc, ◌+◌, ◌-◌, ◌≤◌, ◌<◌, ◌≡◌, ◌≢◌, List, Bool, true, false, cond, length, ltb}
+use Rattle.laws.proofs.Prelude.{refl, ◌∙◌, arith, ℕ_discrete, dec_lt, lt-ltb, le-ltb}
 use mathlib.Core.Path.{fun_ext}
 use native.Mathlib.Nat.{add-zero}
 use Rattle.laws.specs.Search.{in_turn}

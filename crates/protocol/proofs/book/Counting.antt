@@ -1,5 +1,6 @@
 -- A recovery counts nothing for a card with none open.
-use Rattle.laws.proofs.Prelude.{ℕ, zero, suc, ◌≡◌, refl, ap, ◌∙◌, ◌≢◌, Bool, true, false, cond, arith, length, ltb}
+use Rattle.std.specs.Prelude.{ℕ, zero, suc, ◌≡◌, ◌≢◌, Bool, true, false, cond, length, ltb}
+use Rattle.laws.proofs.Prelude.{refl, ap, ◌∙◌, arith}
 use Rattle.laws.specs.Search.{in_turn}
 use Rattle.protocol.specs.Release.{counts_at}
 use Rattle.protocol.specs.Book.{Opened, none, opened, list_prices, Book, count, count_uncounted, count_open}

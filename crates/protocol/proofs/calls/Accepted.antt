@@ -1,5 +1,6 @@
 -- What an accepted call must come to, and a call whose checks all pass.
-use Rattle.laws.proofs.Prelude.{ℕ, ◌≡◌, sym, ap, ◌∙◌, inl, inr, List, Bool, true, true≢false, false≢true}
+use Rattle.std.specs.Prelude.{ℕ, ◌≡◌, List, Bool, true}
+use Rattle.laws.proofs.Prelude.{sym, ap, ◌∙◌, inl, inr, true≢false, false≢true}
 use Rattle.directory.specs.declared.Directory.{Directory}
 use Rattle.directory.specs.declared.Status.TheVariants.{Running}
 use Rattle.protocol.specs.Checks.{Check, first_refusal, awaits_recovery}

@@ -1,5 +1,6 @@
 -- An accepted desk question on a card with none open answers the desk of its last release.
-use Rattle.laws.proofs.Prelude.{ℕ, ◌≡◌, refl, ap, List, Bool, true, false, cond, arith, ◌<◌}
+use Rattle.std.specs.Prelude.{ℕ, ◌≡◌, List, Bool, true, false, cond, ◌<◌}
+use Rattle.laws.proofs.Prelude.{refl, ap, arith}
 use Rattle.directory.specs.declared.Directory.{Directory}
 use Rattle.directory.specs.Directory.{is_live, next_live_of}
 use Rattle.area.specs.Prelude.{Release, own_release, recorded_release}

@@ -1,5 +1,5 @@
 -- Each accepted call answers what the book holds and keeps the invariant.
-use Rattle.laws.proofs.Prelude.{ℕ, ◌≡◌, List, Bool, true}
+use Rattle.std.specs.Prelude.{ℕ, ◌≡◌, List, Bool, true}
 use Rattle.directory.specs.declared.Directory.{Directory}
 use Rattle.directory.specs.NewHome.{HomeRule, NamesLive}
 use Rattle.protocol.specs.Result.{accepted}

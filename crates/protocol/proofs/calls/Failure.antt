@@ -1,5 +1,6 @@
 -- An accepted failure leaves a rack that awaits the recovery of the failed card.
-use Rattle.laws.proofs.Prelude.{ℕ, ◌≡◌, refl, sym, ◌∙◌, inr, List, [], Bool, true, false, true≢false, ℕ_discrete}
+use Rattle.std.specs.Prelude.{ℕ, ◌≡◌, List, [], Bool, true, false}
+use Rattle.laws.proofs.Prelude.{refl, sym, ◌∙◌, inr, true≢false, ℕ_discrete}
 use Rattle.directory.specs.declared.Directory.{Directory}
 use Rattle.directory.specs.Directory.{is_live}
 use Rattle.directory.proofs.Changes.{live_of_marked_dead, live_of_other}

@@ -1,5 +1,6 @@
 -- An accepted fetch shows the book's page.
-use Rattle.laws.proofs.Prelude.{ℕ, ◌≡◌, refl, List, Bool, true, length}
+use Rattle.std.specs.Prelude.{ℕ, ◌≡◌, List, Bool, true, length}
+use Rattle.laws.proofs.Prelude.{refl}
 use Rattle.directory.specs.declared.Directory.{Directory}
 use Rattle.protocol.specs.Book.{Book, transition}
 use Rattle.protocol.specs.Calls.{fetch_page}

@@ -1,5 +1,6 @@
 -- An accepted formatting is within its limits, and leaves the formatted directory and zeros.
-use Rattle.laws.proofs.Prelude.{ℕ, ◌≡◌, refl, List, [], ◌∷◌, true, length}
+use Rattle.std.specs.Prelude.{ℕ, ◌≡◌, List, [], ◌∷◌, true, length}
+use Rattle.laws.proofs.Prelude.{refl}
 use Rattle.answer.specs.Outcome.{limits}
 use Rattle.directory.specs.declared.Directory.{Directory}
 use Rattle.directory.specs.Directory.{formatted_directory, empty_directory}

@@ -1,5 +1,6 @@
 -- An accepted join leaves a rack that runs, beside the same book.
-use Rattle.laws.proofs.Prelude.{ℕ, ◌<◌, ◌≡◌, refl, sym, ◌∙◌, inl, List, [], Bool, true, false, ℕ_discrete, dec_lt}
+use Rattle.std.specs.Prelude.{ℕ, ◌<◌, ◌≡◌, List, [], Bool, true, false}
+use Rattle.laws.proofs.Prelude.{refl, sym, ◌∙◌, inl, ℕ_discrete, dec_lt}
 use Rattle.directory.specs.declared.Directory.{Directory}
 use Rattle.directory.specs.Directory.{is_live, marked_live}
 use Rattle.directory.proofs.Changes.{live_of_other}

@@ -1,6 +1,6 @@
 -- An accepted opening leaves a rack that runs, beside the book that has the release open.
-use Rattle.laws.proofs.Prelude.{ℕ, ◌≤◌, ◌≡◌, refl, sym, ap, ◌∙◌, ◌≢◌, List, [], ◌∷◌, Bool, true, false, cond, not}
-use Rattle.laws.proofs.Prelude.{true≢false, arith, ne_eqb, length, eqb, inl}
+use Rattle.std.specs.Prelude.{ℕ, ◌≤◌, ◌≡◌, ◌≢◌, List, [], ◌∷◌, Bool, true, false, cond, not, length, eqb}
+use Rattle.laws.proofs.Prelude.{refl, sym, ap, ◌∙◌, true≢false, arith, ne_eqb, inl}
 use mathlib.Core.List.{append-nil}
 use Rattle.laws.proofs.Bools.{and_rest}
 use Rattle.directory.specs.declared.Directory.{Directory}

@@ -1,6 +1,7 @@
 -- Every call by its checks: it comes to the first refusal of a list of checks that begins with 1 and 2, and a refused
 -- call hands back what was there.
-use Rattle.laws.proofs.Prelude.{ℕ, ◌≡◌, refl, List, ◌++◌, false, length, drop}
+use Rattle.std.specs.Prelude.{ℕ, ◌≡◌, List, ◌++◌, false, length, drop}
+use Rattle.laws.proofs.Prelude.{refl}
 use Rattle.answer.specs.Outcome.{unfit}
 use Rattle.directory.specs.declared.Directory.{Directory}
 use Rattle.directory.specs.NewHome.{HomeRule}

@@ -1,5 +1,6 @@
 -- An accepted recovery answers the failed card's last release, and leaves a rack that runs.
-use Rattle.laws.proofs.Prelude.{ℕ, ◌≡◌, refl, ap, ◌∙◌, subst, inl, List, Bool, true, not-false}
+use Rattle.std.specs.Prelude.{ℕ, ◌≡◌, List, Bool, true}
+use Rattle.laws.proofs.Prelude.{refl, ap, ◌∙◌, subst, inl, not-false}
 use Rattle.answer.specs.declared.Outcome.{Outcome}
 use Rattle.answer.specs.Outcome.{given}
 use Rattle.directory.specs.declared.Directory.{Directory}

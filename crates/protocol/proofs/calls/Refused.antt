@@ -1,5 +1,6 @@
 -- A refused call leaves memory, directory and buffers as they were: it rests on the order of its checks.
-use Rattle.laws.proofs.Prelude.{ℕ, ◌≡◌, refl, List, ◌++◌, false}
+use Rattle.std.specs.Prelude.{ℕ, ◌≡◌, List, ◌++◌, false}
+use Rattle.laws.proofs.Prelude.{refl}
 use Rattle.directory.specs.declared.Directory.{Directory}
 use Rattle.directory.specs.NewHome.{HomeRule}
 use Rattle.protocol.specs.Checks.{Check, first_refusal, fitting_checks}

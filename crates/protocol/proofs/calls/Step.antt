@@ -1,6 +1,6 @@
 -- An accepted step leaves a rack that runs, beside the book that made it.
-use Rattle.laws.proofs.Prelude.{ℕ, suc, ◌≡◌, refl, sym, ◌∙◌, ◌≢◌, List, [], Bool, true, false, cond, true≢false, length}
-use Rattle.laws.proofs.Prelude.{eqb, inl}
+use Rattle.std.specs.Prelude.{ℕ, suc, ◌≡◌, ◌≢◌, List, [], Bool, true, false, cond, length, eqb}
+use Rattle.laws.proofs.Prelude.{refl, sym, ◌∙◌, true≢false, inl}
 use Rattle.directory.specs.declared.Directory.{Directory}
 use Rattle.directory.specs.Directory.{backup_of}
 use Rattle.protocol.specs.Release.{step_memory, counts_at}

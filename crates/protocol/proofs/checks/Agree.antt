@@ -1,5 +1,6 @@
 -- Checks of two lists that agree, one by one, in their tests and places.
-use Rattle.laws.proofs.Prelude.{ℕ, ◌<◌, ◌≡◌, refl, List, ◌∷◌, Bool, false}
+use Rattle.std.specs.Prelude.{ℕ, ◌<◌, ◌≡◌, List, ◌∷◌, Bool, false}
+use Rattle.laws.proofs.Prelude.{refl}
 use Rattle.laws.specs.Search.{lowest, any_below}
 use Rattle.laws.proofs.Search.{lowest_agree}
 use Rattle.protocol.specs.Checks.{Check, check, check_at}

@@ -1,6 +1,6 @@
 -- What an accepted call has passed: each of its checks, by name.
-use Rattle.laws.proofs.Prelude.{ℕ, ◌+◌, ◌<◌, ◌≡◌, refl, List, ◌++◌, true, false, not, true≢false, arith, eqb-true}
-use Rattle.laws.proofs.Prelude.{ltb-false, leb-false, not-false, length, eqb, leb}
+use Rattle.std.specs.Prelude.{ℕ, ◌+◌, ◌<◌, ◌≡◌, List, ◌++◌, true, false, not, length, eqb, leb}
+use Rattle.laws.proofs.Prelude.{refl, true≢false, arith, eqb-true, ltb-false, leb-false, not-false}
 use Rattle.laws.specs.Search.{count_below}
 use Rattle.laws.proofs.Bools.{neither}
 use Rattle.laws.proofs.Search.{none_below}

@@ -1,5 +1,6 @@
 -- What a rack that passes check 1 keeps to.
-use Rattle.laws.proofs.Prelude.{ℕ, ◌*◌, ◌≤◌, ◌≡◌, false, ltb-false, eqb-true, not-false, ltb, eqb}
+use Rattle.std.specs.Prelude.{ℕ, ◌*◌, ◌≤◌, ◌≡◌, false, ltb, eqb}
+use Rattle.laws.proofs.Prelude.{ltb-false, eqb-true, not-false}
 use Rattle.laws.proofs.Bools.{neither}
 use Rattle.area.specs.Prelude.{area_size}
 use Rattle.protocol.specs.Checks.{outside_limits}

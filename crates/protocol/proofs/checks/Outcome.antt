@@ -1,7 +1,7 @@
 -- Checks in order: an accepted call passed all of them, a refused one has the number of the first that it failed and
 -- changes nothing.
-use Rattle.laws.proofs.Prelude.{ℕ, ◌≡◌, refl, sym, ◌∙◌, subst, List, [], ◌∷◌, Bool, true, false, cond, not, ◌&&◌}
-use Rattle.laws.proofs.Prelude.{true≢false, not-true, eqb, eq-eqb}
+use Rattle.std.specs.Prelude.{ℕ, ◌≡◌, List, [], ◌∷◌, Bool, true, false, cond, not, ◌&&◌, eqb}
+use Rattle.laws.proofs.Prelude.{refl, sym, ◌∙◌, subst, true≢false, not-true, eq-eqb}
 use Rattle.laws.proofs.Bools.{and_first, and_second}
 use Rattle.answer.specs.declared.Outcome.{Outcome}
 use Rattle.answer.specs.Outcome.{refused_at, given, refused}

@@ -1,6 +1,6 @@
 -- What a rack that passes check 2 keeps to: homes that are cards, two live cards, an awaited card that is dead.
-use Rattle.laws.proofs.Prelude.{ℕ, ◌<◌, ◌≡◌, List, Bool, true, false, false≢true, arith, ℕ_discrete, leb-false}
-use Rattle.laws.proofs.Prelude.{ltb-false, leb, eqb}
+use Rattle.std.specs.Prelude.{ℕ, ◌<◌, ◌≡◌, List, Bool, true, false, leb, eqb}
+use Rattle.laws.proofs.Prelude.{false≢true, arith, ℕ_discrete, leb-false, ltb-false}
 use Rattle.laws.specs.Search.{any_below, count_below}
 use Rattle.laws.proofs.Bools.{neither}
 use Rattle.laws.proofs.Search.{none_below, highest}

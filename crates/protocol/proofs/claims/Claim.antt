@@ -1,7 +1,7 @@
 -- The claim on page words while releases are under way: the writes that a card has still to make, made to a word that
 -- no other card's open list names, give the book's price of it, with the prices that the book has not yet.
-use Rattle.laws.proofs.Prelude.{ℕ, ◌+◌, ◌*◌, ◌<◌, ◌≡◌, refl, sym, ◌∙◌, ◌≢◌, List, [], Bool, true, false, arith}
-use Rattle.laws.proofs.Prelude.{ℕ_discrete}
+use Rattle.std.specs.Prelude.{ℕ, ◌+◌, ◌*◌, ◌<◌, ◌≡◌, ◌≢◌, List, [], Bool, true, false}
+use Rattle.laws.proofs.Prelude.{refl, sym, ◌∙◌, arith, ℕ_discrete}
 use Rattle.directory.specs.declared.Directory.{Directory}
 use Rattle.directory.specs.Directory.{is_live}
 use Rattle.area.specs.Prelude.{load, page_at, page_size}

@@ -1,6 +1,7 @@
 -- The two halves of the pages, tentative and committed, as claims on them speak of them.
-use Rattle.laws.proofs.Prelude.{ℕ, suc, ◌+◌, ◌-◌, ◌*◌, ◌≤◌, ◌<◌, ◌≡◌, refl, ◌∙◌, List, [], ◌∷◌, ◌++◌, Bool, true, false}
-use Rattle.laws.proofs.Prelude.{cond, arith, lt-ltb, le-ltb, length, drop, ltb}
+use Rattle.std.specs.Prelude.{ℕ, suc, ◌+◌, ◌-◌, ◌*◌, ◌≤◌, ◌<◌, ◌≡◌, List, [], ◌∷◌, ◌++◌, Bool, true, false, cond}
+use Rattle.std.specs.Prelude.{length, drop, ltb}
+use Rattle.laws.proofs.Prelude.{refl, ◌∙◌, arith, lt-ltb, le-ltb}
 use lib.ListN.{drop_of_length-le}
 use lib.Seq.{drop-append-add}
 use Rattle.directory.specs.declared.Directory.{Directory}

@@ -1,5 +1,6 @@
 -- Directories with the same homes have the same stores still to make.
-use Rattle.laws.proofs.Prelude.{ℕ, ◌≡◌, refl, List, [], ◌∷◌}
+use Rattle.std.specs.Prelude.{ℕ, ◌≡◌, List, [], ◌∷◌}
+use Rattle.laws.proofs.Prelude.{refl}
 use Rattle.directory.specs.declared.Directory.{Directory}
 use Rattle.area.specs.Prelude.{tentative_half, committed_half, Release}
 use Rattle.diff.specs.declared.Price.{Price}

@@ -1,6 +1,6 @@
 -- The claims on both halves survive a step of a release.
-use Rattle.laws.proofs.Prelude.{ℕ, suc, ◌+◌, ◌*◌, ◌/◌, ◌≤◌, ◌<◌, ◌≡◌, refl, sym, ap, ◌∙◌, ◌≢◌, List, false, arith}
-use Rattle.laws.proofs.Prelude.{ℕ_discrete, dec_lt, length}
+use Rattle.std.specs.Prelude.{ℕ, suc, ◌+◌, ◌*◌, ◌/◌, ◌≤◌, ◌<◌, ◌≡◌, ◌≢◌, List, false, length}
+use Rattle.laws.proofs.Prelude.{refl, sym, ap, ◌∙◌, arith, ℕ_discrete, dec_lt}
 use Rattle.directory.specs.declared.Directory.{Directory}
 use Rattle.area.specs.Prelude.{page_at, tentative_half, committed_half, desk_size, page_size, Release}
 use Rattle.area.proofs.Prelude.{length_number, NotIn}

@@ -1,5 +1,6 @@
 -- No call on a rack that agrees with its book is refused with 2.
-use Rattle.laws.proofs.Prelude.{ℕ, ◌≡◌, refl, sym, ◌∙◌, ◌≢◌, List, ◌++◌, Bool, true, false, true≢false, arith, eqb-true}
+use Rattle.std.specs.Prelude.{ℕ, ◌≡◌, ◌≢◌, List, ◌++◌, Bool, true, false}
+use Rattle.laws.proofs.Prelude.{refl, sym, ◌∙◌, true≢false, arith, eqb-true}
 use Rattle.answer.specs.declared.Outcome.{Outcome}
 use Rattle.answer.specs.Outcome.{unfit}
 use Rattle.directory.specs.declared.Directory.{Directory}

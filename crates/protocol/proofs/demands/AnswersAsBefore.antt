@@ -1,6 +1,6 @@
 -- Two racks that get the same calls answer alike, whatever rules for new homes they go by: both answer as one model.
-use Rattle.laws.proofs.Prelude.{ℕ, ◌≡◌, refl, sym, ◌∙◌, List, [], ◌∷◌, Bool, true, false, cond, not, ℕ_discrete}
-use Rattle.laws.proofs.Prelude.{true≢false, not-false}
+use Rattle.std.specs.Prelude.{ℕ, ◌≡◌, List, [], ◌∷◌, Bool, true, false, cond, not}
+use Rattle.laws.proofs.Prelude.{refl, sym, ◌∙◌, ℕ_discrete, true≢false, not-false}
 use Rattle.directory.specs.NewHome.{HomeRule}
 use Rattle.answer.specs.declared.Outcome.{Outcome}
 use Rattle.protocol.specs.Result.{accepted}

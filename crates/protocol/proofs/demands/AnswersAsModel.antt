@@ -1,6 +1,7 @@
 -- Every call answers as the reference model does: a formatted rack agrees with the new model, each call finds it so,
 -- answers alike, and leaves it so.
-use Rattle.laws.proofs.Prelude.{ℕ, ◌≡◌, refl, List, [], ◌∷◌, Bool, true, false, cond, length}
+use Rattle.std.specs.Prelude.{ℕ, ◌≡◌, List, [], ◌∷◌, Bool, true, false, cond, length}
+use Rattle.laws.proofs.Prelude.{refl}
 use Rattle.directory.specs.declared.Directory.{Directory}
 use Rattle.directory.specs.NewHome.{HomeRule, NamesLive}
 use Rattle.protocol.specs.Result.{accepted}

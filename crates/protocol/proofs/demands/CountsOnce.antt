@@ -1,6 +1,6 @@
 -- A call counts at most the next number of a card.
-use Rattle.laws.proofs.Prelude.{ℕ, zero, suc, ◌<◌, ◌≡◌, refl, ◌⊎◌, inl, inr, List, Bool, true, false, cond, arith}
-use Rattle.laws.proofs.Prelude.{eqb-true, ltb-true, length, eqb, ltb}
+use Rattle.std.specs.Prelude.{ℕ, zero, suc, ◌<◌, ◌≡◌, ◌⊎◌, List, Bool, true, false, cond, length, eqb, ltb}
+use Rattle.laws.proofs.Prelude.{refl, inl, inr, arith, eqb-true, ltb-true}
 use Rattle.laws.specs.Search.{in_turn}
 use Rattle.directory.specs.declared.Directory.{Directory}
 use Rattle.area.specs.Prelude.{Release}

@@ -1,6 +1,6 @@
 -- The proof of demand 1: refused calls change nothing, nor does a refused formatting, nor refused list work.
-use Rattle.laws.proofs.Prelude.{ℕ, ◌≡◌, ◌≢◌, refl, List, [], ◌∷◌, Bool, true, false, cond, true≢false, ℕ_discrete}
-use Rattle.laws.proofs.Prelude.{ne_eqb, length, ltb, eqb}
+use Rattle.std.specs.Prelude.{ℕ, ◌≡◌, ◌≢◌, List, [], ◌∷◌, Bool, true, false, cond, length, ltb, eqb}
+use Rattle.laws.proofs.Prelude.{refl, true≢false, ℕ_discrete, ne_eqb}
 use Rattle.answer.specs.declared.Outcome.{Outcome}
 use Rattle.answer.specs.Outcome.{given, refused, refused_at, and_then, limits, faulty_list, wrong_buffer, list_too_long}
 use Rattle.answer.proofs.InOrder.{first_refuses, first_passes}

@@ -1,5 +1,6 @@
 -- The proof of demand 3: the invariant holds of a formatted rack, is found again by each call, and each call keeps it.
-use Rattle.laws.proofs.Prelude.{ℕ, ◌≡◌, refl, inl, List, [], ◌∷◌, Bool, true, false, cond, length}
+use Rattle.std.specs.Prelude.{ℕ, ◌≡◌, List, [], ◌∷◌, Bool, true, false, cond, length}
+use Rattle.laws.proofs.Prelude.{refl, inl}
 use Rattle.directory.specs.declared.Directory.{Directory}
 use Rattle.directory.specs.NewHome.{HomeRule, NamesLive}
 use Rattle.protocol.specs.Result.{accepted}

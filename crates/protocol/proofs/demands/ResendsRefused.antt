@@ -1,5 +1,6 @@
 -- A release that the book has is refused with 4 or 5 when it is sent again.
-use Rattle.laws.proofs.Prelude.{ℕ, ◌≤◌, ◌≡◌, refl, ap, ◌⊎◌, inl, inr, List, [], ◌∷◌, true, arith, le-leb, lt-leb, drop}
+use Rattle.std.specs.Prelude.{ℕ, ◌≤◌, ◌≡◌, ◌⊎◌, List, [], ◌∷◌, true, drop}
+use Rattle.laws.proofs.Prelude.{refl, ap, inl, inr, arith, le-leb, lt-leb}
 use Rattle.answer.specs.declared.Outcome.{Outcome}
 use Rattle.directory.specs.declared.Directory.{Directory}
 use Rattle.directory.specs.Directory.{is_live}

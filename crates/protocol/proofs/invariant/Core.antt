@@ -1,8 +1,8 @@
 -- The invariant between memory, directory and book that a step keeps, with the rack running or awaiting recovery.
 -- `backup` is each card's backup, from before the failure where one is awaited. T and C say when the claims on the
 -- tentative and the committed words are made. `old` is what the records of dead cards say.
-use Rattle.laws.proofs.Prelude.{ℕ, suc, ◌+◌, ◌*◌, ◌≤◌, ◌<◌, ◌≡◌, refl, sym, ap, ◌∙◌, ◌≢◌, List, true, false, true≢false}
-use Rattle.laws.proofs.Prelude.{arith, ℕ_discrete, length}
+use Rattle.std.specs.Prelude.{ℕ, suc, ◌+◌, ◌*◌, ◌≤◌, ◌<◌, ◌≡◌, ◌≢◌, List, true, false, length}
+use Rattle.laws.proofs.Prelude.{refl, sym, ap, ◌∙◌, true≢false, arith, ℕ_discrete}
 use Rattle.directory.specs.declared.Directory.{Directory}
 use Rattle.directory.specs.Directory.{is_live}
 use Rattle.area.specs.Prelude.{AreaIn, load, area_size, open_flag, desk_size, records_start, Release, own_release, open_list}

@@ -1,6 +1,6 @@
 -- A failure takes a rack that runs to one that awaits the recovery of the failed card.
-use Rattle.laws.proofs.Prelude.{ℕ, ◌+◌, ◌*◌, ◌≤◌, ◌<◌, ◌≡◌, refl, sym, ◌∙◌, subst, ◌≢◌, ◌⊎◌, inl, inr, List, [], true}
-use Rattle.laws.proofs.Prelude.{false, false≢true, arith, ℕ_discrete, dec_lt, length}
+use Rattle.std.specs.Prelude.{ℕ, ◌+◌, ◌*◌, ◌≤◌, ◌<◌, ◌≡◌, ◌≢◌, ◌⊎◌, List, [], true, false, length}
+use Rattle.laws.proofs.Prelude.{refl, sym, ◌∙◌, subst, inl, inr, false≢true, arith, ℕ_discrete, dec_lt}
 use mathlib.Core.Path.{fun_ext}
 use lib.ListN.{length-set}
 use Rattle.directory.specs.declared.Directory.{Directory}

@@ -1,7 +1,7 @@
 -- A rack that agrees with its book passes checks 1 and 2.
-use Rattle.laws.proofs.Prelude.{ℕ, zero, suc, ◌+◌, ◌*◌, ◌≤◌, ◌<◌, ◌≡◌, refl, sym, ◌≢◌, ◌⊎◌, inl, inr, List, Bool}
-use Rattle.laws.proofs.Prelude.{true, false, cond, not, ◌&&◌, ◌||◌, arith, ℕ_discrete, dec_lt, eq-eqb}
-use Rattle.laws.proofs.Prelude.{ne_eqb, le-ltb, lt-leb, length, ltb, eqb}
+use Rattle.std.specs.Prelude.{ℕ, zero, suc, ◌+◌, ◌*◌, ◌≤◌, ◌<◌, ◌≡◌, ◌≢◌, ◌⊎◌, List, Bool, true, false, cond, not, ◌&&◌}
+use Rattle.std.specs.Prelude.{◌||◌, length, ltb, eqb}
+use Rattle.laws.proofs.Prelude.{refl, sym, inl, inr, arith, ℕ_discrete, dec_lt, eq-eqb, ne_eqb, le-ltb, lt-leb}
 use Rattle.laws.specs.Search.{any_below, count_below}
 use Rattle.laws.proofs.Search.{none_pass}
 use Rattle.directory.specs.declared.Directory.{Directory}

@@ -1,6 +1,6 @@
 -- A formatted rack runs, and agrees with a new book.
-use Rattle.laws.proofs.Prelude.{ℕ, ◌+◌, zero, suc, ◌%◌, ◌<◌, ◌≡◌, refl, sym, ◌∙◌, ◌≢◌, true, false, true≢false, arith}
-use Rattle.laws.proofs.Prelude.{dec_lt, lt-ltb, le-ltb, ltb-true, ltb}
+use Rattle.std.specs.Prelude.{ℕ, ◌+◌, zero, suc, ◌%◌, ◌<◌, ◌≡◌, ◌≢◌, true, false, ltb}
+use Rattle.laws.proofs.Prelude.{refl, sym, ◌∙◌, true≢false, arith, dec_lt, lt-ltb, le-ltb, ltb-true}
 use native.Mathlib.Nat.{mod-lt}
 use Rattle.directory.specs.declared.Directory.{Directory}
 use Rattle.directory.specs.Directory.{next_live, is_live, primary_of, secondary_of, backup_of, formatted_marks}

@@ -1,6 +1,7 @@
 -- The invariant between two calls: what a call finds is as good as what the last call left, whatever the areas of
 -- cards that are offline hold.
-use Rattle.laws.proofs.Prelude.{ℕ, ◌≤◌, ◌<◌, ◌≡◌, refl, ◌∙◌, inl, inr, List, Bool, true, arith}
+use Rattle.std.specs.Prelude.{ℕ, ◌≤◌, ◌<◌, ◌≡◌, List, Bool, true}
+use Rattle.laws.proofs.Prelude.{refl, ◌∙◌, inl, inr, arith}
 use Rattle.directory.specs.declared.Directory.{Directory}
 use Rattle.directory.specs.Directory.{is_live, next_live_of, backup_of}
 use Rattle.area.specs.Prelude.{load, record_stamp, record_done}

@@ -1,5 +1,6 @@
 -- The invariant speaks of the words of live cards alone.
-use Rattle.laws.proofs.Prelude.{ℕ, ◌+◌, ◌≤◌, ◌<◌, ◌≡◌, ◌∙◌, List, true, arith, length}
+use Rattle.std.specs.Prelude.{ℕ, ◌+◌, ◌≤◌, ◌<◌, ◌≡◌, List, true, length}
+use Rattle.laws.proofs.Prelude.{◌∙◌, arith}
 use Rattle.directory.specs.declared.Directory.{Directory}
 use Rattle.directory.specs.Directory.{is_live}
 use Rattle.area.specs.Prelude.{load, page_at, page_size}

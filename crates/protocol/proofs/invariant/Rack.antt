@@ -1,6 +1,6 @@
 -- The invariant of demand 3: a rack that runs, and one that awaits the recovery of a card, beside the book.
-use Rattle.laws.proofs.Prelude.{ℕ, ◌+◌, ◌≤◌, ◌<◌, ◌≡◌, sym, ◌∙◌, ◌≢◌, ◌⊎◌, List, Bool, true, false, ℕ_discrete, length}
-use Rattle.laws.proofs.Prelude.{get_or, set}
+use Rattle.std.specs.Prelude.{ℕ, ◌+◌, ◌≤◌, ◌<◌, ◌≡◌, ◌≢◌, ◌⊎◌, List, Bool, true, false, length, get_or, set}
+use Rattle.laws.proofs.Prelude.{sym, ◌∙◌, ℕ_discrete}
 use lib.Seq.{set-set, set-get_or}
 use Rattle.directory.specs.declared.Directory.{Directory}
 use Rattle.directory.specs.declared.Status.TheVariants.{Running, Awaiting}

@@ -1,5 +1,6 @@
 -- What the memory of a running rack says is what the book says; a change that keeps it so.
-use Rattle.laws.proofs.Prelude.{ℕ, ◌≡◌, refl, sym, ◌∙◌, subst, List, Bool, true, false, true≢false}
+use Rattle.std.specs.Prelude.{ℕ, ◌≡◌, List, Bool, true, false}
+use Rattle.laws.proofs.Prelude.{refl, sym, ◌∙◌, subst, true≢false}
 use Rattle.directory.specs.declared.Directory.{Directory}
 use Rattle.directory.specs.Directory.{is_live, backup_of}
 use Rattle.area.specs.Prelude.{load, Release, own_release, has_open_release}

@@ -1,6 +1,7 @@
 -- The page that a fetch copies is the book's, where no open release that counts already prices a word of it.
-use Rattle.laws.proofs.Prelude.{ℕ, ◌≤◌, ◌≡◌, refl, sym, ◌∙◌, List, [], ◌∷◌, Bool, true, false, cond, true≢false, arith}
-use Rattle.laws.proofs.Prelude.{length, eqb, ◌+◌, ◌*◌, ◌<◌, inr, false≢true, dec_lt, eq-eqb, eqb-true, le-leb, get_or, leb}
+use Rattle.std.specs.Prelude.{ℕ, ◌≤◌, ◌≡◌, List, [], ◌∷◌, Bool, true, false, cond, length, eqb, ◌+◌, ◌*◌, ◌<◌, get_or}
+use Rattle.std.specs.Prelude.{leb}
+use Rattle.laws.proofs.Prelude.{refl, sym, ◌∙◌, true≢false, arith, inr, false≢true, dec_lt, eq-eqb, eqb-true, le-leb}
 use Rattle.laws.proofs.Bools.{and_both}
 use Rattle.directory.specs.declared.Directory.{Directory}
 use Rattle.directory.specs.Directory.{is_live, backup_of, primary_of}

@@ -1,6 +1,6 @@
 -- A word that no release which counts already prices shows the book's price.
-use Rattle.laws.proofs.Prelude.{ℕ, zero, suc, ◌+◌, ◌*◌, ◌≤◌, ◌<◌, ◌≡◌, refl, sym, ◌∙◌, ◌⊎◌, inl, inr, List, Bool, true}
-use Rattle.laws.proofs.Prelude.{false, false≢true, arith, ℕ_discrete, dec_lt, length}
+use Rattle.std.specs.Prelude.{ℕ, zero, suc, ◌+◌, ◌*◌, ◌≤◌, ◌<◌, ◌≡◌, ◌⊎◌, List, Bool, true, false, length}
+use Rattle.laws.proofs.Prelude.{refl, sym, ◌∙◌, inl, inr, false≢true, arith, ℕ_discrete, dec_lt}
 use Rattle.directory.specs.declared.Directory.{Directory}
 use Rattle.area.specs.Prelude.{load, page_at, committed_half, page_size, Release}
 use Rattle.diff.specs.Prices.{names}

@@ -1,6 +1,6 @@
 -- The invariant survives a step of any open release: its writes, and its close.
-use Rattle.laws.proofs.Prelude.{ℕ, suc, ◌+◌, ◌*◌, ◌≤◌, ◌<◌, ◌≡◌, refl, sym, ◌∙◌, subst, ◌≢◌, ◌⊎◌, inl, inr, List, true}
-use Rattle.laws.proofs.Prelude.{false, false≢true, arith, ℕ_discrete, dec_lt, length}
+use Rattle.std.specs.Prelude.{ℕ, suc, ◌+◌, ◌*◌, ◌≤◌, ◌<◌, ◌≡◌, ◌≢◌, ◌⊎◌, List, true, false, length}
+use Rattle.laws.proofs.Prelude.{refl, sym, ◌∙◌, subst, inl, inr, false≢true, arith, ℕ_discrete, dec_lt}
 use Rattle.directory.specs.declared.Directory.{Directory}
 use Rattle.directory.specs.Directory.{is_live}
 use Rattle.area.specs.Prelude.{load, Release, own_release, desk_size, records_start, pages_start}

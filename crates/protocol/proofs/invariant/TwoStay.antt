@@ -1,5 +1,6 @@
 -- Of three live cards, two stay when one fails.
-use Rattle.laws.proofs.Prelude.{ℕ, ◌<◌, ◌≡◌, ◌∙◌, ◌≢◌, true, false, arith, ℕ_discrete}
+use Rattle.std.specs.Prelude.{ℕ, ◌<◌, ◌≡◌, ◌≢◌, true, false}
+use Rattle.laws.proofs.Prelude.{◌∙◌, arith, ℕ_discrete}
 use Rattle.laws.specs.Search.{count_below}
 use Rattle.laws.proofs.Search.{highest}
 use Rattle.directory.specs.declared.Directory.{Directory}

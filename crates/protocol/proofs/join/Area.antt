@@ -1,7 +1,8 @@
 -- The area of a card that joins: its own stamp and desk, and the records that are copied to it. No other
 -- card's word changes.
-use Rattle.laws.proofs.Prelude.{ℕ, zero, suc, ◌+◌, ◌-◌, ◌≤◌, ◌<◌, ◌≡◌, refl, sym, ◌∙◌, ◌≢◌, ◌⊎◌, inl, inr, List, Bool}
-use Rattle.laws.proofs.Prelude.{true, false, cond, not, ◌&&◌, true≢false, arith, ℕ_discrete, ne_eqb, length, get_or, eqb}
+use Rattle.std.specs.Prelude.{ℕ, zero, suc, ◌+◌, ◌-◌, ◌≤◌, ◌<◌, ◌≡◌, ◌≢◌, ◌⊎◌, List, Bool, true, false, cond, not, ◌&&◌}
+use Rattle.std.specs.Prelude.{length, get_or, eqb}
+use Rattle.laws.proofs.Prelude.{refl, sym, ◌∙◌, inl, inr, true≢false, arith, ℕ_discrete, ne_eqb}
 use native.Mathlib.Nat.{zero-add}
 use lib.ListN.{length-append}
 use Rattle.laws.specs.Search.{in_turn}

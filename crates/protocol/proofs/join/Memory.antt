@@ -1,6 +1,7 @@
 -- The memory after a join: other cards' words as they were; on the card that joins its own stamp and desk, no open
 -- release, the other dead cards' records and that of the live card whose backup it now is.
-use Rattle.laws.proofs.Prelude.{ℕ, ◌<◌, ◌≡◌, sym, ◌∙◌, ◌≢◌, List, true, false, true≢false, arith, eq-eqb, length}
+use Rattle.std.specs.Prelude.{ℕ, ◌<◌, ◌≡◌, ◌≢◌, List, true, false, length}
+use Rattle.laws.proofs.Prelude.{sym, ◌∙◌, true≢false, arith, eq-eqb}
 use Rattle.laws.specs.Search.{in_turn}
 use Rattle.laws.proofs.Bools.{and_first, and_both}
 use Rattle.directory.specs.declared.Directory.{Directory}

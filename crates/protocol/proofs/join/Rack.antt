@@ -1,6 +1,6 @@
 -- A join leaves a rack that runs, beside the same book.
-use Rattle.laws.proofs.Prelude.{ℕ, ◌≤◌, ◌<◌, ◌≡◌, refl, sym, ◌∙◌, ◌≢◌, inl, inr, List, true, false, true≢false, arith}
-use Rattle.laws.proofs.Prelude.{ℕ_discrete}
+use Rattle.std.specs.Prelude.{ℕ, ◌≤◌, ◌<◌, ◌≡◌, ◌≢◌, List, true, false}
+use Rattle.laws.proofs.Prelude.{refl, sym, ◌∙◌, inl, inr, true≢false, arith, ℕ_discrete}
 use lib.ListN.{length-set}
 use Rattle.directory.specs.declared.Directory.{Directory}
 use Rattle.directory.specs.Directory.{is_live, primary_of, secondary_of, next_live_of, backup_of, marked_live}

@@ -1,5 +1,6 @@
 -- A rack that agrees with its reference model, and what a call finds of it.
-use Rattle.laws.proofs.Prelude.{ℕ, ◌≡◌, refl, sym, ap, ◌∙◌, inl, inr, List, Bool, true, false, not, false≢true}
+use Rattle.std.specs.Prelude.{ℕ, ◌≡◌, List, Bool, true, false, not}
+use Rattle.laws.proofs.Prelude.{refl, sym, ap, ◌∙◌, inl, inr, false≢true}
 use Rattle.directory.specs.declared.Directory.{Directory}
 use Rattle.directory.specs.Directory.{is_live, formatted_directory}
 use Rattle.area.specs.Prelude.{zeros, Release, own_release}

@@ -1,7 +1,7 @@
 -- The own number and desk of a card stay those from before its open release: no opening and no step before the close
 -- touches them.
-use Rattle.laws.proofs.Prelude.{ℕ, suc, ◌*◌, ◌+◌, ◌<◌, ◌≤◌, ◌≡◌, refl, sym, ap, ◌∙◌, List, true, true≢false, false≢true}
-use Rattle.laws.proofs.Prelude.{arith, ℕ_discrete, dec_lt, length}
+use Rattle.std.specs.Prelude.{ℕ, suc, ◌*◌, ◌+◌, ◌<◌, ◌≤◌, ◌≡◌, List, true, length}
+use Rattle.laws.proofs.Prelude.{refl, sym, ap, ◌∙◌, true≢false, false≢true, arith, ℕ_discrete, dec_lt}
 use Rattle.directory.specs.declared.Directory.{Directory}
 use Rattle.directory.specs.Directory.{is_live, backup_of}
 use Rattle.area.specs.Prelude.{AreaIn, Release, own_release, open_release, has_open_release, desk_size, list_size}

@@ -1,5 +1,6 @@
 -- Failures and joins beside the model.
-use Rattle.laws.proofs.Prelude.{ℕ, ◌≡◌, refl, sym, ◌∙◌, List, [], true, false, true≢false, false≢true, arith}
+use Rattle.std.specs.Prelude.{ℕ, ◌≡◌, List, [], true, false}
+use Rattle.laws.proofs.Prelude.{refl, sym, ◌∙◌, true≢false, false≢true, arith}
 use Rattle.directory.specs.declared.Directory.{Directory}
 use Rattle.directory.specs.Directory.{is_live, marked_live}
 use Rattle.directory.proofs.Changes.{live_of_marked_dead, live_of_marked_live, live_of_other}

@@ -1,6 +1,6 @@
 -- Each call's checks after 1 and 2 are the model's, one by one up to the first that refuses.
-use Rattle.laws.proofs.Prelude.{ℕ, ◌+◌, ◌≡◌, refl, ap, ◌∙◌, List, ◌∷◌, true, not, ◌||◌, not-false, length, drop, ltb}
-use Rattle.laws.proofs.Prelude.{leb}
+use Rattle.std.specs.Prelude.{ℕ, ◌+◌, ◌≡◌, List, ◌∷◌, true, not, ◌||◌, length, drop, ltb, leb}
+use Rattle.laws.proofs.Prelude.{refl, ap, ◌∙◌, not-false}
 use Rattle.laws.specs.Search.{count_below}
 use Rattle.laws.proofs.Bools.{neither}
 use Rattle.laws.proofs.Search.{lowest_same, count_agree}

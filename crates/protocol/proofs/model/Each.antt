@@ -1,5 +1,5 @@
 -- Each accepted call does what the model does.
-use Rattle.laws.proofs.Prelude.{ℕ, ◌≡◌, List, true}
+use Rattle.std.specs.Prelude.{ℕ, ◌≡◌, List, true}
 use Rattle.directory.specs.declared.Directory.{Directory}
 use Rattle.directory.specs.NewHome.{HomeRule}
 use Rattle.protocol.specs.Result.{accepted}

@@ -1,6 +1,6 @@
 -- What two lists share, and the pages that a list names, by the labels that the lists price.
-use Rattle.laws.proofs.Prelude.{ℕ, ◌+◌, ◌*◌, ◌<◌, ◌≡◌, refl, sym, ◌∙◌, List, [], ◌∷◌, Bool, true, false, cond, ◌&&◌}
-use Rattle.laws.proofs.Prelude.{true≢false, false≢true, arith, eqb, eqb-true, eq-eqb}
+use Rattle.std.specs.Prelude.{ℕ, ◌+◌, ◌*◌, ◌<◌, ◌≡◌, List, [], ◌∷◌, Bool, true, false, cond, ◌&&◌, eqb}
+use Rattle.laws.proofs.Prelude.{refl, sym, ◌∙◌, true≢false, false≢true, arith, eqb-true, eq-eqb}
 use Rattle.laws.specs.Search.{any_below}
 use Rattle.laws.proofs.Bools.{and_first, and_second, and_both}
 use Rattle.laws.proofs.Search.{none_pass, some_below}

@@ -1,5 +1,6 @@
 -- Every call comes to what the model says: its number, its place and its value.
-use Rattle.laws.proofs.Prelude.{ℕ, ◌≡◌, refl, ap, ◌∙◌, List, ◌++◌, not-false}
+use Rattle.std.specs.Prelude.{ℕ, ◌≡◌, List, ◌++◌}
+use Rattle.laws.proofs.Prelude.{refl, ap, ◌∙◌, not-false}
 use Rattle.directory.specs.declared.Directory.{Directory}
 use Rattle.directory.specs.NewHome.{HomeRule}
 use Rattle.area.specs.Prelude.{Release}

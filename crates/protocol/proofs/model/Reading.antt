@@ -1,5 +1,6 @@
 -- Fetches and desk questions beside the model.
-use Rattle.laws.proofs.Prelude.{ℕ, ◌<◌, ◌≡◌, refl, ap, List, Bool, true, false, cond, length}
+use Rattle.std.specs.Prelude.{ℕ, ◌<◌, ◌≡◌, List, Bool, true, false, cond, length}
+use Rattle.laws.proofs.Prelude.{refl, ap}
 use Rattle.directory.specs.declared.Directory.{Directory}
 use Rattle.area.specs.Prelude.{zeros, desk_size, Release}
 use Rattle.protocol.specs.Result.{accepted}

@@ -1,5 +1,6 @@
 -- A recovery beside the model.
-use Rattle.laws.proofs.Prelude.{ℕ, ◌≡◌, refl, sym, ap, subst, List, true, false≢true, not-false}
+use Rattle.std.specs.Prelude.{ℕ, ◌≡◌, List, true}
+use Rattle.laws.proofs.Prelude.{refl, sym, ap, subst, false≢true, not-false}
 use Rattle.directory.specs.declared.Directory.{Directory}
 use Rattle.directory.specs.NewHome.{HomeRule}
 use Rattle.area.specs.Prelude.{zeros, desk_size, Release}

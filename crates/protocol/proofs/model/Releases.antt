@@ -1,5 +1,6 @@
 -- What the memory of a running rack has of open releases is what the model's book has, card by card, dead cards too.
-use Rattle.laws.proofs.Prelude.{ℕ, ◌≡◌, refl, ap, List, [], Bool, true, false, not, ◌&&◌, true≢false, eqb}
+use Rattle.std.specs.Prelude.{ℕ, ◌≡◌, List, [], Bool, true, false, not, ◌&&◌, eqb}
+use Rattle.laws.proofs.Prelude.{refl, ap, true≢false}
 use Rattle.directory.specs.declared.Directory.{Directory}
 use Rattle.directory.specs.Directory.{is_live}
 use Rattle.area.specs.Prelude.{Release, own_release, open_list, has_open_release}

@@ -1,5 +1,6 @@
 -- Openings and steps beside the model.
-use Rattle.laws.proofs.Prelude.{ℕ, ◌≡◌, refl, List, [], true, length}
+use Rattle.std.specs.Prelude.{ℕ, ◌≡◌, List, [], true, length}
+use Rattle.laws.proofs.Prelude.{refl}
 use Rattle.directory.specs.declared.Directory.{Directory}
 use Rattle.area.specs.Prelude.{desk_size, Release}
 use Rattle.diff.proofs.OnlyDiff.{allowed_few}

@@ -1,5 +1,5 @@
 -- What an accepted call must come to beside the model: its words, and what it leaves.
-use Rattle.laws.proofs.Prelude.{ℕ, ◌≡◌, List}
+use Rattle.std.specs.Prelude.{ℕ, ◌≡◌, List}
 use Rattle.directory.specs.declared.Directory.{Directory}
 use Rattle.protocol.specs.Result.{Result}
 use Rattle.protocol.specs.Calls.{Call}

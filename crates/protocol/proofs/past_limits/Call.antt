@@ -1,6 +1,7 @@
 -- A call by a directory cut off at its cards and pages, and by the whole of it: the checks decide alike, and what an
 -- accepted call leaves is the same.
-use Rattle.laws.proofs.Prelude.{ℕ, ◌≡◌, sym, ◌∙◌, List, true}
+use Rattle.std.specs.Prelude.{ℕ, ◌≡◌, List, true}
+use Rattle.laws.proofs.Prelude.{sym, ◌∙◌}
 use Rattle.directory.specs.declared.Directory.{Directory}
 use Rattle.protocol.specs.Checks.{Check, first_refusal}
 use Rattle.protocol.specs.Result.{Result, accepted, result_of}

@@ -1,5 +1,6 @@
 -- The changes that calls make to a directory go by nothing that stands past its cards and pages, and keep it.
-use Rattle.laws.proofs.Prelude.{ℕ, zero, suc, ◌≤◌, ◌<◌, ◌≡◌, refl, ap, ◌∙◌, Bool, true, false, cond, arith}
+use Rattle.std.specs.Prelude.{ℕ, zero, suc, ◌≤◌, ◌<◌, ◌≡◌, Bool, true, false, cond}
+use Rattle.laws.proofs.Prelude.{refl, ap, ◌∙◌, arith}
 use lib.Seq.{drop-set-lt}
 use Rattle.laws.specs.Search.{in_turn}
 use Rattle.directory.specs.declared.Directory.{Directory}

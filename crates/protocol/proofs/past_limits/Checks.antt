@@ -1,5 +1,6 @@
 -- Check 2, and the checks that calls share, read nothing past a directory's cards and pages.
-use Rattle.laws.proofs.Prelude.{ℕ, ◌<◌, ◌≡◌, refl, ap, List, ◌∷◌, ◌++◌, Bool, not, ◌&&◌, arith, ltb}
+use Rattle.std.specs.Prelude.{ℕ, ◌<◌, ◌≡◌, List, ◌∷◌, ◌++◌, Bool, not, ◌&&◌, ltb}
+use Rattle.laws.proofs.Prelude.{refl, ap, arith}
 use Rattle.laws.proofs.Search.{some_agree, count_agree}
 use Rattle.answer.specs.Outcome.{unfit, no_card}
 use Rattle.directory.specs.declared.Directory.{Directory}

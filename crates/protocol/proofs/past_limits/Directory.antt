@@ -1,6 +1,6 @@
 -- What a directory says of its cards and pages is the same once the marks and homes past them are cut off.
-use Rattle.laws.proofs.Prelude.{ℕ, ◌<◌, ◌≡◌, refl, ap, ◌∙◌, List, Bool, true, false, ◌||◌, arith, dec_lt, le-leb, take}
-use Rattle.laws.proofs.Prelude.{leb}
+use Rattle.std.specs.Prelude.{ℕ, ◌<◌, ◌≡◌, List, Bool, true, false, ◌||◌, take, leb}
+use Rattle.laws.proofs.Prelude.{refl, ap, ◌∙◌, arith, dec_lt, le-leb}
 use native.Mathlib.Nat.{le_refl}
 use lib.Seq.{get_or-take, take-take}
 use Rattle.laws.proofs.Lists.{take-set}

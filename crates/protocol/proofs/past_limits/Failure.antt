@@ -1,5 +1,6 @@
 -- A failure reads nothing past a directory's cards and pages, and keeps what stands there.
-use Rattle.laws.proofs.Prelude.{ℕ, refl, ap, List, [], false, leb}
+use Rattle.std.specs.Prelude.{ℕ, List, [], false, leb}
+use Rattle.laws.proofs.Prelude.{refl, ap}
 use Rattle.laws.proofs.Search.{count_agree}
 use Rattle.answer.specs.Outcome.{two_live}
 use Rattle.directory.specs.declared.Directory.{Directory}

@@ -1,6 +1,6 @@
 -- A formatted directory is blank past its cards and pages, and so is the one of a refused formatting.
-use Rattle.laws.proofs.Prelude.{ℕ, ◌<◌, ◌≡◌, refl, sym, ◌∙◌, List, [], ◌∷◌, Bool, true, false, arith, dec_lt, le-ltb}
-use Rattle.laws.proofs.Prelude.{length, get_or, replicate}
+use Rattle.std.specs.Prelude.{ℕ, ◌<◌, ◌≡◌, List, [], ◌∷◌, Bool, true, false, length, get_or, replicate}
+use Rattle.laws.proofs.Prelude.{refl, sym, ◌∙◌, arith, dec_lt, le-ltb}
 use lib.ListN.{get_or-replicate}
 use Rattle.answer.specs.Outcome.{limits}
 use Rattle.directory.specs.Directory.{table, formatted_primary, formatted_secondary, formatted_directory, empty_directory}

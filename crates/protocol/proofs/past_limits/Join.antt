@@ -1,5 +1,6 @@
 -- A join reads nothing past a directory's cards and pages, and keeps what stands there.
-use Rattle.laws.proofs.Prelude.{ℕ, ◌<◌, ◌≡◌, refl, ap, List, [], Bool, true, leb-false}
+use Rattle.std.specs.Prelude.{ℕ, ◌<◌, ◌≡◌, List, [], Bool, true}
+use Rattle.laws.proofs.Prelude.{refl, ap, leb-false}
 use Rattle.laws.proofs.Search.{some_agree, in_turn_agree}
 use Rattle.answer.specs.Outcome.{card_live, join_while_open}
 use Rattle.directory.specs.declared.Directory.{Directory}

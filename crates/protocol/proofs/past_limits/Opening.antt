@@ -1,5 +1,6 @@
 -- Opening a release reads nothing past a directory's cards and pages.
-use Rattle.laws.proofs.Prelude.{ℕ, ◌<◌, ◌≡◌, refl, ap, List, [], Bool}
+use Rattle.std.specs.Prelude.{ℕ, ◌<◌, ◌≡◌, List, [], Bool}
+use Rattle.laws.proofs.Prelude.{refl, ap}
 use Rattle.answer.specs.Outcome.{release_open}
 use Rattle.directory.specs.declared.Directory.{Directory}
 use Rattle.area.specs.Prelude.{Release}

@@ -1,6 +1,7 @@
 -- The proof that nothing past a directory's cards and pages is read, and that calls keep it: it rests on each call by a
 -- directory and by the same one cut off there, and on demand 1 for refused calls.
-use Rattle.laws.proofs.Prelude.{ℕ, ◌≡◌, refl, sym, ap, ◌∙◌, List, Bool, true, false}
+use Rattle.std.specs.Prelude.{ℕ, ◌≡◌, List, Bool, true, false}
+use Rattle.laws.proofs.Prelude.{refl, sym, ap, ◌∙◌}
 use Rattle.directory.specs.declared.Directory.{Directory}
 use Rattle.directory.specs.NewHome.{even_home}
 use Rattle.protocol.specs.Result.{Result, accepted}

@@ -1,5 +1,6 @@
 -- The calls that only read, fetches and desk questions, read nothing past a directory's cards and pages.
-use Rattle.laws.proofs.Prelude.{ℕ, ◌<◌, ◌≡◌, refl, List, leb-false, length}
+use Rattle.std.specs.Prelude.{ℕ, ◌<◌, ◌≡◌, List, length}
+use Rattle.laws.proofs.Prelude.{refl, leb-false}
 use Rattle.directory.specs.declared.Directory.{Directory}
 use Rattle.area.specs.Prelude.{zeros, desk_size}
 use Rattle.protocol.specs.Release.{size_of}

@@ -1,5 +1,6 @@
 -- The memory and the release that a recovery goes by: nothing past a directory's cards and pages is read for them.
-use Rattle.laws.proofs.Prelude.{ℕ, zero, suc, ◌<◌, ◌≡◌, refl, ◌∙◌, List, Bool, true}
+use Rattle.std.specs.Prelude.{ℕ, zero, suc, ◌<◌, ◌≡◌, List, Bool, true}
+use Rattle.laws.proofs.Prelude.{refl, ◌∙◌}
 use Rattle.laws.proofs.Search.{in_turn_agree}
 use Rattle.directory.specs.declared.Directory.{Directory}
 use Rattle.directory.specs.Directory.{primary_of, secondary_of, backup_of, marked_live}

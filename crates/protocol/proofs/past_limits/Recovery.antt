@@ -1,5 +1,6 @@
 -- A recovery reads nothing past a directory's cards and pages, and keeps what stands there.
-use Rattle.laws.proofs.Prelude.{ℕ, ◌≡◌, refl, ap, List}
+use Rattle.std.specs.Prelude.{ℕ, ◌≡◌, List}
+use Rattle.laws.proofs.Prelude.{refl, ap}
 use Rattle.directory.specs.declared.Directory.{Directory}
 use Rattle.directory.specs.NewHome.{HomeRule}
 use Rattle.area.specs.Prelude.{zeros, desk_size, Release}

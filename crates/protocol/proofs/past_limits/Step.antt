@@ -1,5 +1,6 @@
 -- A step reads nothing past a directory's cards and pages.
-use Rattle.laws.proofs.Prelude.{ℕ, ◌≡◌, refl, ap, List, [], Bool, not}
+use Rattle.std.specs.Prelude.{ℕ, ◌≡◌, List, [], Bool, not}
+use Rattle.laws.proofs.Prelude.{refl, ap}
 use Rattle.answer.specs.Outcome.{no_open_release}
 use Rattle.directory.specs.declared.Directory.{Directory}
 use Rattle.directory.specs.Directory.{backup_of}

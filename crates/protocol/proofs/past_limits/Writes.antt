@@ -1,6 +1,7 @@
 -- What one step writes goes by nothing past a directory's cards and pages: the prices are on pages that the rack has,
 -- and their homes and the backup are cards that it has.
-use Rattle.laws.proofs.Prelude.{ℕ, zero, suc, ◌<◌, ◌≡◌, refl, List, [], ◌∷◌, ◌++◌, arith, get_or}
+use Rattle.std.specs.Prelude.{ℕ, zero, suc, ◌<◌, ◌≡◌, List, [], ◌∷◌, ◌++◌, get_or}
+use Rattle.laws.proofs.Prelude.{refl, arith}
 use Rattle.directory.specs.declared.Directory.{Directory}
 use Rattle.area.specs.Prelude.{record_desk, tentative_half, committed_half, Release, open_release, open_list, steps_of}
 use Rattle.diff.specs.declared.Price.{Price}

@@ -1,6 +1,6 @@
 -- The failed card's record, written on every live card.
-use Rattle.laws.proofs.Prelude.{ℕ, zero, suc, ◌<◌, ◌≡◌, refl, sym, ◌∙◌, inl, inr, List, Bool, true, false, cond}
-use Rattle.laws.proofs.Prelude.{true≢false, arith, ℕ_discrete, length}
+use Rattle.std.specs.Prelude.{ℕ, zero, suc, ◌<◌, ◌≡◌, List, Bool, true, false, cond, length}
+use Rattle.laws.proofs.Prelude.{refl, sym, ◌∙◌, inl, inr, true≢false, arith, ℕ_discrete}
 use Rattle.laws.specs.Search.{in_turn}
 use Rattle.directory.specs.declared.Directory.{Directory}
 use Rattle.directory.specs.Directory.{is_live}

@@ -1,6 +1,6 @@
 -- Records of cards made from their own stamps and desks, on the cards that are to hold them, where they are due.
-use Rattle.laws.proofs.Prelude.{ℕ, zero, suc, ◌≤◌, ◌<◌, ◌≡◌, refl, sym, ap, ◌∙◌, ◌≢◌, ◌⊎◌, inl, inr, List, Bool, true}
-use Rattle.laws.proofs.Prelude.{false, cond, true≢false, arith, ℕ_discrete, length}
+use Rattle.std.specs.Prelude.{ℕ, zero, suc, ◌≤◌, ◌<◌, ◌≡◌, ◌≢◌, ◌⊎◌, List, Bool, true, false, cond, length}
+use Rattle.laws.proofs.Prelude.{refl, sym, ap, ◌∙◌, inl, inr, true≢false, arith, ℕ_discrete}
 use Rattle.laws.specs.Search.{in_turn}
 use Rattle.area.specs.Prelude.{AreaIn, load, own_release, write_record, write_own_record, desk_size, records_start, list_start}
 use Rattle.area.specs.Prelude.{pages_start}

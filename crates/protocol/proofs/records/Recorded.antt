@@ -1,7 +1,7 @@
 -- What a card's record on its backup says beside the book, and that a step keeps it so. `f o` is the word at offset o
 -- of the backup's area.
-use Rattle.laws.proofs.Prelude.{ℕ, suc, ◌+◌, ◌*◌, ◌≤◌, ◌<◌, ◌≡◌, refl, sym, ap, ◌∙◌, ◌≢◌, List, [], ◌∷◌, arith}
-use Rattle.laws.proofs.Prelude.{ℕ_discrete, length, get_or}
+use Rattle.std.specs.Prelude.{ℕ, suc, ◌+◌, ◌*◌, ◌≤◌, ◌<◌, ◌≡◌, ◌≢◌, List, [], ◌∷◌, length, get_or}
+use Rattle.laws.proofs.Prelude.{refl, sym, ap, ◌∙◌, arith, ℕ_discrete}
 use Rattle.directory.specs.declared.Directory.{Directory}
 use Rattle.area.specs.Prelude.{record_stamp, record_done, record_desk, number_size, desk_size, Release, number_words}
 use Rattle.area.specs.Prelude.{number_at}

@@ -1,5 +1,6 @@
 -- A settled record written says what the release does, with nothing under way.
-use Rattle.laws.proofs.Prelude.{ℕ, ◌+◌, ◌≤◌, ◌<◌, ◌≡◌, refl, ◌∙◌, List, arith, length, get_or}
+use Rattle.std.specs.Prelude.{ℕ, ◌+◌, ◌≤◌, ◌<◌, ◌≡◌, List, length, get_or}
+use Rattle.laws.proofs.Prelude.{refl, ◌∙◌, arith}
 use Rattle.area.specs.Prelude.{AreaIn, load, number_size, desk_size, record_size, desk_in_record, record_at, record_stamp}
 use Rattle.area.specs.Prelude.{record_done, pages_start, settled_record, write_record, Release}
 use Rattle.area.proofs.Prelude.{number_is, settled_stamp, settled_done, settled_desk, record_word}

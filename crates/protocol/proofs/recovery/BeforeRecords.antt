@@ -1,7 +1,7 @@
 -- A recovery up to its records: the open releases are closed, the failed card's last number and desk are answered, and
 -- the pages are restored and copied to new homes.
-use Rattle.laws.proofs.Prelude.{ℕ, ◌+◌, ◌*◌, ◌≤◌, ◌<◌, ◌≡◌, refl, sym, ◌∙◌, ◌≢◌, ◌⊎◌, inl, inr, List, Bool, true, false}
-use Rattle.laws.proofs.Prelude.{subst, arith, ℕ_discrete, length}
+use Rattle.std.specs.Prelude.{ℕ, ◌+◌, ◌*◌, ◌≤◌, ◌<◌, ◌≡◌, ◌≢◌, ◌⊎◌, List, Bool, true, false, length}
+use Rattle.laws.proofs.Prelude.{refl, sym, ◌∙◌, inl, inr, subst, arith, ℕ_discrete}
 use Rattle.directory.specs.declared.Directory.{Directory}
 use Rattle.directory.specs.Directory.{live_at, is_live, primary_of, next_live_of}
 use Rattle.directory.specs.NewHome.{HomeRule, Another, NamesLive}

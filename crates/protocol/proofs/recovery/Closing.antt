@@ -1,7 +1,7 @@
 -- Open releases run to their close, one card after the other: the invariant survives, beside the book that counts
 -- those that did not count yet and strikes all out.
-use Rattle.laws.proofs.Prelude.{ℕ, zero, suc, ◌+◌, ◌-◌, ◌≤◌, ◌<◌, ◌≡◌, refl, sym, ◌∙◌, subst, List, Bool, true, false}
-use Rattle.laws.proofs.Prelude.{◌&&◌, true≢false, arith, length, eqb}
+use Rattle.std.specs.Prelude.{ℕ, zero, suc, ◌+◌, ◌-◌, ◌≤◌, ◌<◌, ◌≡◌, List, Bool, true, false, ◌&&◌, length, eqb}
+use Rattle.laws.proofs.Prelude.{refl, sym, ◌∙◌, subst, true≢false, arith}
 use Rattle.laws.specs.Search.{in_turn}
 use Rattle.directory.specs.declared.Directory.{Directory}
 use Rattle.directory.specs.Directory.{is_live}

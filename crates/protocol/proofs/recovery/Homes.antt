@@ -1,7 +1,7 @@
 -- The directory after a recovery, by any rule for new homes: marks and limits as they were, each page's homes kept or
 -- replaced.
-use Rattle.laws.proofs.Prelude.{ℕ, zero, suc, ◌≤◌, ◌<◌, ◌≡◌, refl, sym, ◌∙◌, ◌≢◌, Bool, true, false, cond, ◌||◌}
-use Rattle.laws.proofs.Prelude.{false≢true, arith, ℕ_discrete, eq-eqb, ne_eqb, length, eqb}
+use Rattle.std.specs.Prelude.{ℕ, zero, suc, ◌≤◌, ◌<◌, ◌≡◌, ◌≢◌, Bool, true, false, cond, ◌||◌, length, eqb}
+use Rattle.laws.proofs.Prelude.{refl, sym, ◌∙◌, false≢true, arith, ℕ_discrete, eq-eqb, ne_eqb}
 use lib.ListN.{length-set}
 use Rattle.laws.specs.Search.{in_turn}
 use Rattle.directory.specs.declared.Directory.{Directory}

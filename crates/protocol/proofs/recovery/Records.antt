@@ -1,7 +1,7 @@
 -- The records after a recovery: the failed card's on every live card, and that of each card whose backup it was on the
 -- card's new backup. Own words, pages and the other records stay as they were.
-use Rattle.laws.proofs.Prelude.{ℕ, ◌+◌, ◌<◌, ◌≡◌, refl, sym, ◌∙◌, ◌≢◌, List, Bool, true, false, true≢false, arith}
-use Rattle.laws.proofs.Prelude.{ℕ_discrete, eq-eqb, eqb-true, length}
+use Rattle.std.specs.Prelude.{ℕ, ◌+◌, ◌<◌, ◌≡◌, ◌≢◌, List, Bool, true, false, length}
+use Rattle.laws.proofs.Prelude.{refl, sym, ◌∙◌, true≢false, arith, ℕ_discrete, eq-eqb, eqb-true}
 use Rattle.laws.specs.Search.{in_turn}
 use Rattle.laws.proofs.Bools.{and_first, and_second}
 use Rattle.directory.specs.declared.Directory.{Directory}

@@ -1,5 +1,6 @@
 -- The rack after a recovery: it runs, beside the book that counted and struck out.
-use Rattle.laws.proofs.Prelude.{ℕ, ◌<◌, ◌≡◌, refl, sym, ◌∙◌, ◌≢◌, ◌⊎◌, inl, inr, List, Bool, true, false, arith}
+use Rattle.std.specs.Prelude.{ℕ, ◌<◌, ◌≡◌, ◌≢◌, ◌⊎◌, List, Bool, true, false}
+use Rattle.laws.proofs.Prelude.{refl, sym, ◌∙◌, inl, inr, arith}
 use Rattle.directory.specs.declared.Directory.{Directory}
 use Rattle.directory.specs.declared.Status.TheVariants.{Running}
 use Rattle.directory.specs.Directory.{directory_of, is_live, primary_of, secondary_of, backup_of}

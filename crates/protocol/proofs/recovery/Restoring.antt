@@ -1,7 +1,7 @@
 -- Restoring the pages: at each live home of each page the one half becomes what the other is, and
 -- nothing else changes.
-use Rattle.laws.proofs.Prelude.{ℕ, zero, suc, ◌+◌, ◌≤◌, ◌<◌, ◌≡◌, refl, ◌∙◌, ◌≢◌, ◌⊎◌, inl, inr, List, Bool, true}
-use Rattle.laws.proofs.Prelude.{false, cond, arith, ℕ_discrete, length}
+use Rattle.std.specs.Prelude.{ℕ, zero, suc, ◌+◌, ◌≤◌, ◌<◌, ◌≡◌, ◌≢◌, ◌⊎◌, List, Bool, true, false, cond, length}
+use Rattle.laws.proofs.Prelude.{refl, ◌∙◌, inl, inr, arith, ℕ_discrete}
 use native.Mathlib.Nat.{add-zero}
 use Rattle.laws.specs.Search.{in_turn}
 use Rattle.directory.specs.declared.Directory.{Directory}

@@ -1,5 +1,6 @@
 -- The close of a release: the card's own words, and nothing else.
-use Rattle.laws.proofs.Prelude.{ℕ, ◌+◌, ◌≤◌, ◌<◌, ◌≡◌, ◌∙◌, ◌≢◌, ◌⊎◌, inl, List, Bool, false, arith, length, get_or}
+use Rattle.std.specs.Prelude.{ℕ, ◌+◌, ◌≤◌, ◌<◌, ◌≡◌, ◌≢◌, ◌⊎◌, List, Bool, false, length, get_or}
+use Rattle.laws.proofs.Prelude.{◌∙◌, inl, arith}
 use mathlib.Core.Bool.{and-false}
 use lib.ListN.{length-append}
 use Rattle.directory.specs.Directory.{live_at}

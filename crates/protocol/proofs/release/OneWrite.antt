@@ -1,6 +1,6 @@
 -- One store of a release: the words that it changes, where its card is live.
-use Rattle.laws.proofs.Prelude.{ℕ, ◌+◌, ◌-◌, ◌≤◌, ◌<◌, ◌≡◌, refl, sym, ap, ◌∙◌, ◌⊎◌, inl, inr, List, Bool, true, false}
-use Rattle.laws.proofs.Prelude.{cond, true≢false, arith, ℕ_discrete, length}
+use Rattle.std.specs.Prelude.{ℕ, ◌+◌, ◌-◌, ◌≤◌, ◌<◌, ◌≡◌, ◌⊎◌, List, Bool, true, false, cond, length}
+use Rattle.laws.proofs.Prelude.{refl, sym, ap, ◌∙◌, inl, inr, true≢false, arith, ℕ_discrete}
 use Rattle.directory.specs.Directory.{live_at}
 use Rattle.area.specs.Prelude.{AreaIn, load, store_run}
 use Rattle.area.proofs.Prelude.{length-store_run, load-store_run_inside, load-store_run_outside, In, NotIn, in_or_not}

@@ -1,6 +1,6 @@
 -- What an opening makes of the words of an area: the release and its list stand there, and no other word changes.
-use Rattle.laws.proofs.Prelude.{ℕ, suc, ◌+◌, ◌-◌, ◌≤◌, ◌<◌, ◌≡◌, refl, sym, ap, ◌∙◌, ◌≢◌, ◌⊎◌, inr, List, ◌∷◌, ◌++◌}
-use Rattle.laws.proofs.Prelude.{arith, length, get_or}
+use Rattle.std.specs.Prelude.{ℕ, suc, ◌+◌, ◌-◌, ◌≤◌, ◌<◌, ◌≡◌, ◌≢◌, ◌⊎◌, List, ◌∷◌, ◌++◌, length, get_or}
+use Rattle.laws.proofs.Prelude.{refl, sym, ap, ◌∙◌, inr, arith}
 use native.Mathlib.Nat.{zero-add}
 use lib.ListN.{length-append}
 use Rattle.area.specs.Prelude.{AreaIn, load, load_run, store_run, release_number, desk_size, open_flag, list_start, list_size}

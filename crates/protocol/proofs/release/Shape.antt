@@ -1,5 +1,6 @@
 -- A rack within its limits: each live card's area lies in the memory.
-use Rattle.laws.proofs.Prelude.{ℕ, ◌*◌, ◌≤◌, ◌<◌, ◌≡◌, ◌∙◌, List, true, length}
+use Rattle.std.specs.Prelude.{ℕ, ◌*◌, ◌≤◌, ◌<◌, ◌≡◌, List, true, length}
+use Rattle.laws.proofs.Prelude.{◌∙◌}
 use Rattle.directory.specs.declared.Directory.{Directory}
 use Rattle.directory.specs.Directory.{is_live}
 use Rattle.area.specs.Prelude.{AreaIn}

@@ -1,6 +1,6 @@
 -- What a step makes of the words of live cards: the words that it writes, and the steps made.
-use Rattle.laws.proofs.Prelude.{ℕ, suc, ◌+◌, ◌*◌, ◌/◌, ◌≤◌, ◌<◌, ◌≡◌, ◌∙◌, ◌≢◌, ◌⊎◌, inl, inr, List, true, arith}
-use Rattle.laws.proofs.Prelude.{lt-ltb, le-ltb, length, get_or}
+use Rattle.std.specs.Prelude.{ℕ, suc, ◌+◌, ◌*◌, ◌/◌, ◌≤◌, ◌<◌, ◌≡◌, ◌≢◌, ◌⊎◌, List, true, length, get_or}
+use Rattle.laws.proofs.Prelude.{◌∙◌, inl, inr, arith, lt-ltb, le-ltb}
 use native.Mathlib.Numerals.{add-one}
 use Rattle.directory.specs.declared.Directory.{Directory}
 use Rattle.directory.specs.Directory.{is_live}

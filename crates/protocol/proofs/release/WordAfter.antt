@@ -1,7 +1,8 @@
 -- What a list of writes, made in order, leaves in one word of a card's area.
-use Rattle.laws.proofs.Prelude.{ℕ, zero, suc, ◌+◌, ◌*◌, ◌≤◌, ◌<◌, ◌≡◌, refl, sym, ap, ◌∙◌, ◌≢◌, ◌⊎◌, inl, inr, List, []}
-use Rattle.laws.proofs.Prelude.{◌∷◌, ◌++◌, Bool, true, false, cond, ◌&&◌, true≢false, arith, ℕ_discrete, eq-eqb, ne_eqb}
-use Rattle.laws.proofs.Prelude.{length, get_or, drop, eqb, leb, le-leb, lt-leb, dec_lt, ◌-◌}
+use Rattle.std.specs.Prelude.{ℕ, zero, suc, ◌+◌, ◌*◌, ◌≤◌, ◌<◌, ◌≡◌, ◌≢◌, ◌⊎◌, List, [], ◌∷◌, ◌++◌, Bool, true, false}
+use Rattle.std.specs.Prelude.{cond, ◌&&◌, length, get_or, drop, eqb, leb, ◌-◌}
+use Rattle.laws.proofs.Prelude.{refl, sym, ap, ◌∙◌, inl, inr, true≢false, arith, ℕ_discrete, eq-eqb, ne_eqb, le-leb}
+use Rattle.laws.proofs.Prelude.{lt-leb, dec_lt}
 use lib.ListN.{get_or-eq_default}
 use lib.Seq.{drop-cons}
 use Rattle.laws.proofs.Lists.{get_or_within}

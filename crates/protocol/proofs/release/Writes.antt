@@ -1,6 +1,7 @@
 -- The stores of a release: how many there are, and which one each step makes.
-use Rattle.laws.proofs.Prelude.{ℕ, zero, suc, ◌+◌, ◌-◌, ◌*◌, ◌/◌, ◌%◌, ◌<◌, ◌≡◌, refl, ap, ◌∙◌, List, [], ◌∷◌, ◌++◌}
-use Rattle.laws.proofs.Prelude.{cond, arith, dec_lt, length, get_or, eqb}
+use Rattle.std.specs.Prelude.{ℕ, zero, suc, ◌+◌, ◌-◌, ◌*◌, ◌/◌, ◌%◌, ◌<◌, ◌≡◌, List, [], ◌∷◌, ◌++◌, cond, length}
+use Rattle.std.specs.Prelude.{get_or, eqb}
+use Rattle.laws.proofs.Prelude.{refl, ap, ◌∙◌, arith, dec_lt}
 use native.Mathlib.Nat.{add-zero}
 use lib.ListN.{length-append, get_or-append}
 use Rattle.laws.proofs.Lists.{get_or_right}

@@ -1,7 +1,7 @@
 -- Joins and desk questions: worked examples. Every word of the memory is its own index, so that it shows where each
 -- word comes from.
 -- Assumes nothing: these are definitions.
-use Rattle.laws.specs.Prelude.{List, [], ◌∷◌, ◌++◌, replicate}
+use Rattle.std.specs.Prelude.{List, [], ◌∷◌, ◌++◌, replicate}
 use Rattle.laws.specs.Examples.{Example, computed}
 use Rattle.directory.specs.declared.Directory.{Directory}
 use Rattle.directory.specs.Directory.{formatted_directory, marked_dead, with_homes}

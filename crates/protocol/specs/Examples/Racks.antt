@@ -1,6 +1,6 @@
 -- The racks of the examples.
 -- Assumes nothing: these are definitions.
-use Rattle.laws.specs.Prelude.{ℕ, ◌+◌, ◌*◌, List, ◌++◌, take, drop}
+use Rattle.std.specs.Prelude.{ℕ, ◌+◌, ◌*◌, List, ◌++◌, take, drop}
 use Rattle.answer.specs.Outcome.{in_words}
 use Rattle.directory.specs.declared.Directory.{Directory}
 use Rattle.directory.specs.Directory.{is_live, formatted_directory, table}

@@ -1,6 +1,6 @@
 -- A release opened, stepped and closed: worked examples.
 -- Assumes nothing: these are definitions.
-use Rattle.laws.specs.Prelude.{ℕ, List, [], ◌∷◌, ◌++◌, length}
+use Rattle.std.specs.Prelude.{ℕ, List, [], ◌∷◌, ◌++◌, length}
 use Rattle.laws.specs.Examples.{Example, computed}
 use Rattle.area.specs.Prelude.{store, store_run, zeros, release_of, pages_start}
 use Rattle.area.specs.Examples.{numbers_from}

@@ -1,5 +1,6 @@
 -- A release run to its close: its steps fall one by one, and what other cards' releases stand in is left as it was.
-use Rattle.laws.proofs.Prelude.{ℕ, zero, suc, ◌+◌, ◌<◌, ◌≤◌, ◌≡◌, refl, sym, ◌∙◌, ◌≢◌, List, true, false, arith, length}
+use Rattle.std.specs.Prelude.{ℕ, zero, suc, ◌+◌, ◌<◌, ◌≤◌, ◌≡◌, ◌≢◌, List, true, false, length}
+use Rattle.laws.proofs.Prelude.{refl, sym, ◌∙◌, arith}
 use Rattle.laws.proofs.Bools.{by_cond}
 use Rattle.directory.specs.declared.Directory.{Directory}
 use Rattle.area.specs.Prelude.{AreaIn, has_open_release}

@@ -1,5 +1,5 @@
 -- The home that a page keeps is a card.
-use Rattle.laws.proofs.Prelude.{ℕ, ◌<◌, eqb}
+use Rattle.std.specs.Prelude.{ℕ, ◌<◌, eqb}
 use Rattle.laws.proofs.Bools.{by_cond}
 use Rattle.directory.specs.declared.Directory.{Directory}
 use Rattle.directory.specs.Directory.{primary_of}

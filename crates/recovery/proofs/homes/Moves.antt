@@ -1,6 +1,6 @@
 -- Homes moved page by page: how far it is, and where a page gets its new home.
-use Rattle.laws.proofs.Prelude.{ℕ, ◌+◌, ◌<◌, ◌≤◌, ◌≡◌, refl, sym, ◌∙◌, inl, inr, List, Bool, true, false, cond, ◌||◌}
-use Rattle.laws.proofs.Prelude.{◌⊎◌, arith, length, eqb, eqb-true}
+use Rattle.std.specs.Prelude.{ℕ, ◌+◌, ◌<◌, ◌≤◌, ◌≡◌, List, Bool, true, false, cond, ◌||◌, ◌⊎◌, length, eqb}
+use Rattle.laws.proofs.Prelude.{refl, sym, ◌∙◌, inl, inr, arith, eqb-true}
 use lib.ListN.{length-set}
 use native.Mathlib.Numerals.{add-one}
 use Rattle.directory.specs.declared.Directory.{Directory}

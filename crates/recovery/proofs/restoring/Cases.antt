@@ -1,5 +1,5 @@
 -- The two cases of restoring a page, each a copy at the secondary, then at the primary.
-use Rattle.laws.proofs.Prelude.{ℕ, ◌≡◌, List, Bool, true, false}
+use Rattle.std.specs.Prelude.{ℕ, ◌≡◌, List, Bool, true, false}
 use Rattle.directory.specs.declared.Directory.{Directory}
 use Rattle.directory.specs.Directory.{header_of, primary_of, secondary_of}
 use Rattle.area.specs.Prelude.{tentative_half, committed_half}

@@ -1,5 +1,5 @@
 -- Both homes of a page are cards, also of a memory of the same length.
-use Rattle.laws.proofs.Prelude.{ℕ, ◌<◌, ◌≡◌, List, Bool, get_or}
+use Rattle.std.specs.Prelude.{ℕ, ◌<◌, ◌≡◌, List, Bool, get_or}
 use Rattle.area.specs.Prelude.{area_size}
 use Rattle.release.specs.Stepping.{CardIn, HomesIn}
 use Rattle.release.proofs.Callers.{card_kept}

@@ -1,6 +1,6 @@
 -- The bytes passed have been read.
 use Rattle.std.proofs.Common.{length, ◌-◌}
-use Rattle.laws.specs.Prelude.{◌≡◌, ◌≤◌, take}
+use Rattle.std.specs.Prelude.{◌≡◌, ◌≤◌, take}
 use Rattle.interpreter.specs.Transcript.{state_of, state_after}
 use Rattle.shelfrun.proofs.answer_part.Given as goal
 
