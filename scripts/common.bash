@@ -101,13 +101,14 @@ crates_of() { # NAME
             print name
         }
         { sub(/#.*/, "") }
-        split($0, line, ":") == 2 { gsub(/[ \t]/, "", line[1]); below[line[1]] = line[2] }
+        split($0, line, ":") == 2 { split(line[1], words, " "); below[words[1]] = line[2] }
         END { visit(wanted) }' crates.txt
 }
 
-# One checksum over the names and the contents of all files in the paths.
+# One checksum over the names and the contents of all files in the paths but those that rt makes, crates/*/out.
 checksum() { # PATHS...
-    find "$@" ! -type d -print0 | LC_ALL=C sort -z | xargs -0 sha256sum | sha256sum | cut -d ' ' -f 1
+    find "$@" -regex 'crates/[^/]*/out' -prune -o ! -type d -print0 | LC_ALL=C sort -z | xargs -0 sha256sum |
+        sha256sum | cut -d ' ' -f 1
 }
 
 # What a build of NAME depends on: the toolchain, and the checksum of all that rt reads of the crates. Where rt is not
@@ -115,7 +116,7 @@ checksum() { # PATHS...
 sources_of() { # NAME FILE
     local crate part paths=(crates.txt rattle-version)
     for crate in $(crates_of "$1"); do
-        for part in src specs proofs stdin stdout args data; do
+        for part in src specs proofs stdin stdout args status data; do
             [ ! -e "crates/$crate/$part" ] || paths+=("crates/$crate/$part")
         done
     done
@@ -132,8 +133,8 @@ is_current() { # NAME FILE
 
 # ---- proving and building
 
-# Waits until no other run proves in this repository, since they share target/. The lock ends with this shell.
-lock_target() {
+# Waits until no other run proves in this repository, since they share crates/*/out. The lock ends with this shell.
+lock_crates() {
     mkdir -p out
     exec 9> out/lock
     flock -n 9 && return
@@ -141,50 +142,53 @@ lock_target() {
     flock 9
 }
 
-# Hands on what rt says, and says which crate of how many is proved, and which edit of how many refused.
-show_progress() { # CRATES [EDITS]
-    local line refused=0 began=$SECONDS
-    local crate='^rt: ([a-z_]+) proved \((.*)\)$' library='^rt: target/staticlib/lib([a-z_]+)\.a has '
-    local edit='^rt: must-fail ([^:]+): refused'
-    local -A proved=()
+# Hands on what rt says while it proves NAME and the crates below it, and says which crate of how many is proved. One
+# that has not changed since it was proved is not named.
+show_proving() { # NAME
+    local line crate='' count=0 began=$SECONDS
+    local begins='^crate ([a-z0-9_]+): '
+    local -A place=()
+    for crate in $(crates_of "$1"); do
+        count=$((count + 1))
+        place[$crate]=$count
+    done
     while IFS= read -r line || [ -n "$line" ]; do
-        if [[ $line =~ $crate && -z ${proved[${BASH_REMATCH[1]}]-} ]]; then
-            proved[${BASH_REMATCH[1]}]=yes
-            say "${#proved[@]} of $1 proved: ${BASH_REMATCH[1]} (${BASH_REMATCH[2]})"
+        if [[ $line =~ $begins ]]; then
+            crate=${BASH_REMATCH[1]}
+        elif [[ $line == 'logic=proved '* ]]; then
+            say "${place[$crate]-} of $count proved: $crate ($((SECONDS - began)) s)"
             began=$SECONDS
-        elif [[ $line =~ $library ]]; then
-            say "$1 of $1 proved: ${BASH_REMATCH[1]} ($((SECONDS - began)) s)"
-        elif [[ $line =~ $edit ]]; then
-            refused=$((refused + 1))
-            say "$refused of $2 wrong programs refused: ${BASH_REMATCH[1]}"
         fi
         printf '%s\n' "$line"
     done
 }
 
-# Has rt prove and build the program.
-prove_shelfrun() { rt check shelfrun; }
+# Has rt prove and build the program, which it then runs: on no input.
+prove_shelfrun() { (cd crates/shelfrun && rt run); }
 
-# Has rt prove what the library stands on, on all cores, then prove and build the library, which it does on one.
-prove_bandsawpink() {
-    crates_of bandsawpink | grep -vx bandsawpink | xargs rt check && rt staticlib bandsawpink
+# Has rt prove and build the library.
+prove_bandsawpink() { (cd crates/bandsawpink && rt lib); }
+
+# What of a log says why not all is proved: the last lines but those that say what was read or proved.
+show_failure() { # LOG
+    { grep -vE '^(crate|library|statements|axioms|logic|note:) |^(logic|only)=|: proved$' "$1" || true; } | tail -n 20
 }
 
 # Proves NAME, and keeps MADE, which rt makes of it, as FILE. In a shell of its own, whose end gives the lock back.
 prove_and_keep() ( # NAME FILE MADE
     need rt
-    lock_target
+    lock_crates
     is_current "$1" "$2" && exit
     log=out/$1.log
     crates=$(crates_of "$1" | wc -l)
     sources=$(sources_of "$1" "$2") || fail "$2 is not built: not all sources can be read"
     say "$2 is to be built: proving $crates crates, which takes about four minutes on two cores if all are new; log: $log"
-    if ! "prove_$1" < /dev/null 2>&1 | show_progress "$crates" > "$log"; then
-        sed '/^rt: .* NOT PROVED/q' "$log" | tail -n 20 >&2 # those above the first crate that is not proved
+    if ! "prove_$1" < /dev/null 2>&1 | show_proving "$1" > "$log"; then
+        show_failure "$log" >&2
         fail "$2 is not built: not all is proved; log: $log"
     fi
     [ "$(sources_of "$1" "$2")" = "$sources" ] || fail "$2 is not built: the sources changed meanwhile; run this again"
-    [ -f "$3" ] || fail "$2 is not built: rt has proved all and made no $3; remove target/ and run this again"
+    [ -f "$3" ] || fail "$2 is not built: rt has proved all and made no $3; remove ${3%/*} and run this again"
     mkdir -p "${2%/*}"
     cp -f "$3" "$2.new"
     { echo "$sources" && sha256sum < "$2.new"; } > "$2.built-from.new"
@@ -193,10 +197,12 @@ prove_and_keep() ( # NAME FILE MADE
 )
 
 # Sees to it that out/shelfrun is built from the sources as they are.
-build_program() { is_current shelfrun out/shelfrun || prove_and_keep shelfrun out/shelfrun target/bin/shelfrun; }
+build_program() {
+    is_current shelfrun out/shelfrun || prove_and_keep shelfrun out/shelfrun crates/shelfrun/out/shelfrun
+}
 
 # Sees to it that lib/libbandsawpink.a is built from the sources as they are.
 build_library() {
     local library=lib/libbandsawpink.a
-    is_current bandsawpink "$library" || prove_and_keep bandsawpink "$library" target/staticlib/libbandsawpink.a
+    is_current bandsawpink "$library" || prove_and_keep bandsawpink "$library" crates/bandsawpink/out/libbandsawpink.a
 }
