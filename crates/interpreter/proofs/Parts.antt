@@ -133,7 +133,7 @@ module _ (start : State) (input : List ℕ) where
   state_more read more =
       rw (take-add read more input) (state_append start (take read input) (take more (drop read input)))
 
-  printed_more : (read more : ℕ)
+  pub printed_more : (read more : ℕ)
       → printed start (take (read + more) input)
       ≡ printed start (take read input) ++ printed (state_after start (take read input)) (take more (drop read input))
   printed_more read more =

@@ -2,35 +2,18 @@
 // answers the commands that it reads from standard input, line by line.
 #![tactic(auto)]
 
-ghost use Rattle.std.specs.Prelude.{◌≡◌, ◌+◌, ◌≤◌, ◌<◌, ℕ, length, take, IfOk, OnErr};
-ghost use Rattle.std.proofs.lemmas.List.Edits.{sets};
+ghost use Rattle.std.specs.Prelude.{◌≡◌, ℕ, take, IfOk, OnOk, OnErr};
+ghost use Rattle.std.specs.Io.KnownBytes.{Appends};
 ghost use Rattle.interpreter.specs.declared.Session.{Session};
 ghost use Rattle.interpreter.specs.Transcript.{state_of, state_after, printed};
 
-use interpreter::{Progress, Session};
+use interpreter::Session;
 use std::io;
 use std::io::{Read, Write};
 
-// Answers as much of the input as the output has room for.
-fn answer_some(memory: &mut [u32], session: Session, input: &[u8], output: &mut [u8]) -> Progress
-    ensures read { result.read ≤ length input.now }
-    ensures room { result.written ≤ length output.old }
-    ensures full { result.read < length input.now
-        → length output.old < result.written + 80 }
-    ensures state { state_of result.session memory.new
-        ≡ state_after (state_of session memory.old)
-        (take result.read input.now) }
-    ensures end { result.written ≡ length (printed (state_of session memory.old)
-        (take result.read input.now)) }
-    ensures output { output.new
-        ≡ sets output.old 0 (printed (state_of session memory.old)
-        (take result.read input.now)) }
-{
-    interpreter::respond(memory, session, input, output)
-}
-
 // Answers a part of the input, writes the answers, an output at a time, and says where the reading
-// stands after it. Where a write fails, the memory is as some first bytes of the part leave it.
+// stands after it. Where a write fails, the memory is as some first bytes of the part leave it; what
+// was written then is not said, since the writer does not say it either.
 fn answer_part<W: Write>(
     to: &mut W,
     memory: &mut [u32],
@@ -39,6 +22,8 @@ fn answer_part<W: Write>(
 ) -> io::Result<Session>
     ensures answered { IfOk result (λ last. state_of last memory.new
         ≡ state_after (state_of session memory.old) input.now) }
+    ensures written { OnOk result (Appends (W.contents to.old) (W.contents to.new)
+        (printed (state_of session memory.old) input.now)) }
     ensures failed { OnErr result ((n : ℕ) × ((last : Session) × (state_of last memory.new
         ≡ state_after (state_of session memory.old) (take n input.now)))) }
 {
@@ -46,7 +31,7 @@ fn answer_part<W: Write>(
     let mut session = session;
     let mut at: usize = 0;
     while at < input.len() {
-        let done = answer_some(memory, session, &input[at..], &mut output);
+        let done = interpreter::respond(memory, session, &input[at..], &mut output);
         session = done.session;
         let read = done.read;
         at += read;

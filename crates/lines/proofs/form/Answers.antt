@@ -1,5 +1,5 @@
 -- Rests on the callees, by the letter.
-use borrow.Author.Tests.{ne_eqb}
+use native.Mathlib.Omega.{arith}
 use Rattle.lines.specs.Command.{form_of}
 use Rattle.lines.proofs.form.Goals as goal
 
@@ -25,12 +25,4 @@ returns-in-70 c = simp c.in-70.is c.fetch_form.ensures
 
 pub returns-in_default : goal.returns-in_default
 unfolding form_of
-returns-in_default c =
-    let rest = c.in_default.in_default-own.rest in
-    simp (
-      ne_eqb _ _ rest.0.0.0.0.1,
-      ne_eqb _ _ rest.0.0.0.1,
-      ne_eqb _ _ rest.0.0.1,
-      ne_eqb _ _ rest.0.1,
-      ne_eqb _ _ rest.1,
-    )
+returns-in_default c = grind arith

@@ -17,7 +17,6 @@ use Rattle.merger.proofs.merge.Goals as goal
 
 pub returns-then-checked-ne0 : goal.returns-then-checked-ne0
 returns-then-checked-ne0 c =
-    let args = c.args in
     let first = c.args.first.now in
     let second = c.args.second.now in
     let buffer = c.args.buffer.now in
@@ -39,7 +38,6 @@ merge_pages-words-requires c =
 
 pub returns-then-room-ne0 : goal.returns-then-room-ne0
 returns-then-room-ne0 c =
-    let args = c.args in
     let first = c.args.first.now in
     let second = c.args.second.now in
     let buffer = c.args.buffer.now in

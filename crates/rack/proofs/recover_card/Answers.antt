@@ -18,7 +18,6 @@ returns-then-refusal-ne0 c =
 
 pub recover_memory-recovered-requires : goal.recover_memory-recovered-requires
 recover_memory-recovered-requires c =
-    let a = c.args in
     let d = c.args.directory in
     let m = c.args.memory.now in
     let arrays = c.well_formed.1.0.1.1.1.1 in

@@ -1,5 +1,6 @@
 -- `reader::read_word` meets its contract: the kind decides which of its callees' definitions applies.
-use borrow.Author.Tests.{le-ltb, lt-ltb, ne_eqb}
+use native.Mathlib.Omega.{arith}
+use borrow.Author.Tests.{le-ltb, lt-ltb}
 use Rattle.diff.specs.Reading.{word_step}
 use Rattle.reader.proofs.read_word.Goals as goal
 
@@ -21,15 +22,8 @@ returns-in-15 c = simp (c.end_word.ensures, le-ltb _ _ c.if-s-gt0.false, c.in-15
 
 pub returns-in-0 : goal.returns-in-0
 unfolding word_step
-returns-in-0 c = simp (le-ltb _ _ c.if-s-gt0.false, c.in-0.in-0-own.keys4)
+returns-in-0 c = simp (le-ltb _ _ c.if-s-gt0.false) (grind arith)
 
 pub returns-in-0-2 : goal.returns-in-0-2
 unfolding word_step
-returns-in-0-2 c =
-    let rest = c.in-0.in-0-own.rest in
-    simp (
-      le-ltb _ _ c.if-s-gt0.false,
-      ne_eqb _ _ rest.0.0.0.1,
-      ne_eqb _ _ rest.0.0.1,
-      ne_eqb _ _ rest.0.1,
-    )
+returns-in-0-2 c = simp (le-ltb _ _ c.if-s-gt0.false) (grind arith)

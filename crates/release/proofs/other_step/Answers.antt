@@ -39,7 +39,6 @@ step_word-requires c =
 
 pub count_steps-requires : goal.count_steps-requires
 count_steps-requires c =
-    let pre = c.requires in
     let counted = c.requires.pages_bound.1 in
     let steps = c.requires.steps_value.0 in
     rw c.area_size-size.ensures (omega arith, omega arith, omega (arith, counted.under, counted.few))

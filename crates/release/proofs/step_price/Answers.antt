@@ -5,7 +5,6 @@ use Rattle.release.proofs.step_price.Goals as goal
 
 pub home_at-home-requires : goal.home_at-home-requires
 home_at-home-requires c =
-    let pre = c.requires in
     omega arith
 
 pub write_price-requires : goal.write_price-requires

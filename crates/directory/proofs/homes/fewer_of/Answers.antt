@@ -4,17 +4,14 @@ use Rattle.directory.proofs.homes.fewer_of.Goals as goal
 
 pub returns-then-not-live-at : goal.returns-then-not-live-at
 returns-then-not-live-at c =
-    let a = c.args in
     simp (c.if-not-live-at.true)
 
 pub returns-then-card-kept : goal.returns-then-card-kept
 returns-then-card-kept c =
-    let a = c.args in
     simp (c.if-not-live-at.false, eq-eqb _ _ c.if-card-kept.true)
 
 pub returns-then-found-cards : goal.returns-then-found-cards
 returns-then-found-cards c =
-    let a = c.args in
     simp (
       c.if-not-live-at.false,
       ne_eqb _ _ c.if-card-kept.false,
@@ -23,7 +20,6 @@ returns-then-found-cards c =
 
 pub returns-then-counts-at : goal.returns-then-counts-at
 returns-then-counts-at c =
-    let a = c.args in
     simp (
       c.if-not-live-at.false,
       ne_eqb _ _ c.if-card-kept.false,
@@ -33,7 +29,6 @@ returns-then-counts-at c =
 
 pub returns : goal.returns
 returns c =
-    let a = c.args in
     simp (
       c.if-not-live-at.false,
       ne_eqb _ _ c.if-card-kept.false,

@@ -6,7 +6,6 @@ use Rattle.reader.proofs.walk.next_run.Goals as goal
 
 pub next_word-requires : goal.next_word-requires
 next_word-requires c =
-    let pre = c.requires in
     rw c.run_read-past.ensures record {
       well_formed = record { within = omega arith; one = omega arith; few = omega arith; named = omega arith };
       index_in_bounds = c.if-index-list.true;

@@ -24,7 +24,6 @@ number_next-first-requires c =
 
 pub loop-made-init : goal.loop-made-init
 loop-made-init c =
-    let pre = c.requires in
     let some = c.requires.steps_left in
     prices_none (rw some.prices at some) (rw c.area_size-size.ensures at c.steps_made-steps.ensures)
 
