@@ -1,3 +1,3 @@
 -- Laws on answers that the calls cite.
-pub mod RoundTrip
 pub mod InOrder
+pub mod Refusals

@@ -2,17 +2,6 @@
 -- Assumes nothing: these are definitions.
 use Rattle.std.specs.Prelude.{ℕ, List, [], ◌∷◌, cond, eqb}
 use Rattle.answer.specs.declared.Outcome.{Outcome}
-use Rattle.answer.specs.declared.Answer.{Answer}
-use Rattle.answer.specs.declared.Answer.TheVariants.{Given, Refused}
-
--- Document 01's number (0: accepted) and value for each case of an answer.
-abbrev pub outcome : Answer → Outcome
-outcome (Given value) = record { number = 0; value = value }
-outcome (Refused number place) = record { number = number; value = place }
-
--- The one answer that tells an outcome: a refusal only if its number is not 0.
-abbrev pub answer_of : Outcome → Answer
-answer_of o = cond (eqb o.number 0) (Given o.value) (Refused o.number o.value)
 
 -- an accepted call that gives this value
 abbrev pub given : ℕ → Outcome

@@ -1,52 +1,100 @@
-// What a call answers, and the numbers of documents 01 and 02 for what it refuses.
+// What a call answers: the value that it gives, or the refusal. The numbers that the refusals have,
+// and the places that they name, are told where an answer crosses to C or is printed.
 #![tactic(auto)]
 
 ghost use Rattle.std.specs.Prelude.{◌≡◌};
-ghost use Rattle.answer.specs.Outcome.{outcome, answer_of, given, refused_at};
+ghost use Rattle.answer.specs.Outcome.{given, refused_at};
+ghost use Rattle.answer.specs.Refusal.{number_of, place_of, outcome_of, AnswersApart};
 
-// Document 01, "What the rack refuses, by who caused it". specs/Outcome.antt has the same table.
-pub const LIMITS: u32 = 1;
+// What a call refuses, by who caused it, and the place that the refusal names, if it names one.
+#[derive(Clone, Copy)]
+pub enum Refusal {
+    // Whoever fitted the rack: cards or pages outside their limits, or a length that is not theirs.
+    Limits,
+    // Memory and directory do not fit each other.
+    Unfit,
+    // The price desk: no such card, or a dead one.
+    NoCard,
+    // A release is open on the card.
+    ReleaseOpen,
+    // The number is at or below the card's stamp, which is the place.
+    NumberUsed(u64),
+    // The number is above the card's stamp + 1.
+    NumberAhead,
+    // A faulty list of changes; the place is the word.
+    FaultyList(u32),
+    // A word of the list stands in the open release of this other card, the lowest such one.
+    WordInUse(u32),
+    // A step with no release open.
+    NoneOpen,
+    // A list made of others would have over 512 words.
+    ListTooLong,
+    // The reader: no such page.
+    NoPage,
+    // The page is in the open release of this card, which counts already; the lowest such one.
+    PageInMotion(u32),
+    // A page buffer or a list buffer of the wrong length, or a list over 512 words.
+    WrongBuffer,
+    // The rack's state: a recovery is awaited.
+    RecoveryAwaited,
+    // Recovery with none awaited.
+    NoneAwaited,
+    // A failure with two live cards.
+    TwoLive,
+    // A live card joins.
+    CardLive,
+    // A card joins, or a rack is moved, with a release open.
+    JoinWhileOpen,
+    // A stamp or done mark above 4294967295, on the way back to numbers of one word.
+    StampTooHigh,
+    // A line that the program cannot read.
+    Unreadable,
+}
 
-pub const UNFIT: u32 = 2;
+impl Refusal {
+    // Its number. specs/Refusal.antt has the same table.
+    pub fn number(self) -> u32
+        ensures { result ≡ number_of self }
+    {
+        match self {
+            Refusal::Limits => 1,
+            Refusal::Unfit => 2,
+            Refusal::NoCard => 3,
+            Refusal::ReleaseOpen => 4,
+            Refusal::NumberUsed(_) => 5,
+            Refusal::NumberAhead => 6,
+            Refusal::FaultyList(_) => 7,
+            Refusal::WordInUse(_) => 8,
+            Refusal::NoPage => 9,
+            Refusal::PageInMotion(_) => 10,
+            Refusal::RecoveryAwaited => 11,
+            Refusal::NoneAwaited => 12,
+            Refusal::TwoLive => 13,
+            Refusal::CardLive => 14,
+            Refusal::JoinWhileOpen => 15,
+            Refusal::NoneOpen => 16,
+            Refusal::WrongBuffer => 17,
+            Refusal::Unreadable => 18,
+            Refusal::ListTooLong => 19,
+            Refusal::StampTooHigh => 20,
+        }
+    }
 
-pub const NO_CARD: u32 = 3;
+    // The place that it names, 0 where it names none.
+    pub fn place(self) -> u64
+        ensures { result ≡ place_of self }
+    {
+        match self {
+            Refusal::NumberUsed(stamp) => stamp,
+            Refusal::FaultyList(word) => word as u64,
+            Refusal::WordInUse(card) => card as u64,
+            Refusal::PageInMotion(card) => card as u64,
+            _ => 0,
+        }
+    }
+}
 
-pub const RELEASE_OPEN: u32 = 4;
-
-pub const NUMBER_USED: u32 = 5;
-
-pub const NUMBER_AHEAD: u32 = 6;
-
-pub const FAULTY_LIST: u32 = 7;
-
-pub const WORD_IN_USE: u32 = 8;
-
-pub const NO_PAGE: u32 = 9;
-
-pub const PAGE_IN_MOTION: u32 = 10;
-
-pub const RECOVERY_AWAITED: u32 = 11;
-
-pub const NONE_AWAITED: u32 = 12;
-
-pub const TWO_LIVE: u32 = 13;
-
-pub const CARD_LIVE: u32 = 14;
-
-pub const JOIN_WHILE_OPEN: u32 = 15;
-
-pub const NONE_OPEN: u32 = 16;
-
-pub const WRONG_BUFFER: u32 = 17;
-
-pub const UNREADABLE: u32 = 18;
-
-// Document 02.
-pub const LIST_TOO_LONG: u32 = 19;
-
-pub const STAMP_TOO_HIGH: u32 = 20;
-
-// What a call came to, in these numbers.
+// What a call came to in numbers, as it crosses to C and is printed.
 #[derive(Clone, Copy)]
 pub struct Outcome {
     // 0 if the call was accepted, else the refusal.
@@ -73,31 +121,18 @@ pub fn refused_at(number: u32, place: u64) -> Outcome
     }
 }
 
-#[derive(Clone, Copy)]
-pub enum Answer {
-    // The number that an accepted call gives.
-    Given(u64),
-    // A refusal: its number, and its place.
-    Refused(u32, u64),
-}
-
-// The answer that tells this outcome.
-pub fn answer_of(o: Outcome) -> Answer
-    ensures { result ≡ answer_of o }
-{
-    if o.number == 0 {
-        Answer::Given(o.value)
-    } else {
-        Answer::Refused(o.number, o.value)
-    }
-}
-
 // The outcome that an answer tells.
-pub fn outcome_of(a: Answer) -> Outcome
-    ensures { result ≡ outcome a }
+pub fn outcome_of(answer: Result<u64, Refusal>) -> Outcome
+    ensures { result ≡ outcome_of answer }
 {
-    match a {
-        Answer::Given(value) => given(value),
-        Answer::Refused(number, place) => refused_at(number, place),
+    match answer {
+        Ok(value) => given(value),
+        Err(refusal) => refused_at(refusal.number(), refusal.place()),
     }
 }
+
+// Two answers that come to the same number and value are the same. It does nothing when it is called:
+// it is where the gate shows the law.
+pub fn answers_apart()
+    ensures { AnswersApart }
+{}

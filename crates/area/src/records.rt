@@ -24,6 +24,7 @@ pub fn load_record(memory: &[u32], size: usize, holder: usize, card: usize, desk
 }
 
 // Whether the second phase of the release is under way: stamp and done mark differ.
+#[tactic(auto, unfolding(crate::specs::Record::under_way))]
 pub fn under_way(memory: &[u32], size: usize, holder: usize, card: usize) -> bool
     requires pages_start_le_size { (pages_start ≤ size) × AreaIn (length memory.now) size holder }
     requires card_bound { card < 8 }
@@ -31,10 +32,7 @@ pub fn under_way(memory: &[u32], size: usize, holder: usize, card: usize) -> boo
 {
     let stamp = numbers::load_number(memory, size, holder, layout::record_stamp(card));
     let done = numbers::load_number(memory, size, holder, layout::record_done(card));
-    if stamp == done {
-        return false;
-    }
-    true
+    stamp != done
 }
 
 // The words of a record: stamp, done mark equal to it, desk by the number's evenness, other desk 0.

@@ -9,15 +9,13 @@ use crate::layout;
 use directory::Header;
 
 // Whether a release is open on the card, which must be live.
+#[tactic(auto, unfolding(crate::specs::Releases::has_open_release))]
 pub fn is_open(memory: &[u32], size: usize, live: &[bool], card: usize) -> bool
     requires pages_start_le_size { (pages_start ≤ size) × AreaIn (length memory.now) size card }
     requires card_in_bounds { card < length live.now }
     ensures { result ≡ has_open_release live.now size memory.now card }
 {
-    if live[card] {
-        return memory::load_word(memory, size, card, layout::OPEN_FLAG) == 1;
-    }
-    false
+    live[card] && memory::load_word(memory, size, card, layout::OPEN_FLAG) == 1
 }
 
 // The same of a card of a rack with this header.

@@ -1,11 +1,11 @@
 // What the exported functions answer, in numbers.
 ghost use Rattle.std.specs.Prelude.{◌≡◌};
-ghost use Rattle.answer.specs.Outcome.{outcome};
+ghost use Rattle.answer.specs.Refusal.{outcome_of};
 ghost use Rattle.bandsawpink.specs.Answers.{exported_answer, exported_desk_answer};
 ghost use Rattle.bandsawpink.specs.Answers.{exported_steps_answer};
 ghost use Rattle.bandsawpink.specs.Answers.{exported_pages_answer};
 
-use answer::Answer;
+use answer::Refusal;
 
 // 0 and what the call gives, or the refusal and its place.
 #[repr(C)]
@@ -42,8 +42,8 @@ pub struct RackFetchAllAnswer {
     pub shown: [bool; 64],
 }
 
-pub fn in_numbers(answer: Answer) -> RackAnswer
-    ensures { result ≡ exported_answer (outcome answer) }
+pub fn in_numbers(answer: Result<u64, Refusal>) -> RackAnswer
+    ensures { result ≡ exported_answer (outcome_of answer) }
 {
     let o = answer::outcome_of(answer);
     RackAnswer {
@@ -52,8 +52,8 @@ pub fn in_numbers(answer: Answer) -> RackAnswer
     }
 }
 
-pub fn with_desk(answer: Answer, desk: [u32; 8]) -> RackDeskAnswer
-    ensures { result ≡ exported_desk_answer (outcome answer) desk }
+pub fn with_desk(answer: Result<u64, Refusal>, desk: [u32; 8]) -> RackDeskAnswer
+    ensures { result ≡ exported_desk_answer (outcome_of answer) desk }
 {
     let numbers = in_numbers(answer);
     RackDeskAnswer {
@@ -63,8 +63,8 @@ pub fn with_desk(answer: Answer, desk: [u32; 8]) -> RackDeskAnswer
     }
 }
 
-pub fn with_made(answer: Answer, made: u32) -> RackStepsAnswer
-    ensures { result ≡ exported_steps_answer (outcome answer) made }
+pub fn with_made(answer: Result<u64, Refusal>, made: u32) -> RackStepsAnswer
+    ensures { result ≡ exported_steps_answer (outcome_of answer) made }
 {
     let numbers = in_numbers(answer);
     RackStepsAnswer {
@@ -74,8 +74,8 @@ pub fn with_made(answer: Answer, made: u32) -> RackStepsAnswer
     }
 }
 
-pub fn with_shown(answer: Answer, shown: [bool; 64]) -> RackFetchAllAnswer
-    ensures { result ≡ exported_pages_answer (outcome answer) shown }
+pub fn with_shown(answer: Result<u64, Refusal>, shown: [bool; 64]) -> RackFetchAllAnswer
+    ensures { result ≡ exported_pages_answer (outcome_of answer) shown }
 {
     let numbers = in_numbers(answer);
     RackFetchAllAnswer {

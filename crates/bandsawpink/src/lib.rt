@@ -90,10 +90,8 @@ pub extern "C" fn rack_step(memory: &mut [u32], directory: &[u32; 139], card: u3
     ensures memory { memory.new
         ≡ (step (directory_in directory.now) memory.old card).memory }
 {
-    let header = words::header_in(directory);
-    let primary = words::primary_in(directory);
-    let secondary = words::secondary_in(directory);
-    let answer = rack::step_lent(memory, header, primary, secondary, card);
+    let lent = words::lent_in(directory);
+    let answer = rack::step_lent(memory, lent, card);
     answers::in_numbers(answer)
 }
 
@@ -134,10 +132,8 @@ pub extern "C" fn rack_fetch(
         ≡ (fetch (directory_in directory.now) memory.now page
         buffer.old).words }
 {
-    let header = words::header_in(directory);
-    let primary = words::primary_in(directory);
-    let secondary = words::secondary_in(directory);
-    let answer = rack::fetch_lent(memory, header, primary, secondary, page, buffer);
+    let lent = words::lent_in(directory);
+    let answer = rack::fetch_lent(memory, lent, page, buffer);
     answers::in_numbers(answer)
 }
 
@@ -158,10 +154,8 @@ pub extern "C" fn rack_fetch_all(
         ≡ (fetch_all (directory_in directory.now) memory.now
         buffer.old).pages.words }
 {
-    let header = words::header_in(directory);
-    let primary = words::primary_in(directory);
-    let secondary = words::secondary_in(directory);
-    let fetched = batch::fetch_all_lent(memory, header, primary, secondary, buffer);
+    let lent = words::lent_in(directory);
+    let fetched = batch::fetch_all_lent(memory, lent, buffer);
     let answer = fetched.answer;
     let shown = fetched.shown;
     answers::with_shown(answer, shown)
@@ -261,8 +255,7 @@ pub extern "C" fn rack_make_list(
         ≡ buffer_after working.now twins.now marks.now
         buffer.old }
 {
-    let answer = maker::make(working, twins, marks, buffer);
-    answers::in_numbers(answer)
+    answers::in_numbers(maker::make(working, twins, marks, buffer))
 }
 
 // `maker::mark_changes`.
@@ -275,8 +268,7 @@ pub extern "C" fn rack_mark_changes(working: &[u32], twins: &[u32], marks: &mut 
     ensures written { marks.new
         ≡ marks_after working.now twins.now marks.old }
 {
-    let answer = maker::mark_changes(working, twins, marks);
-    answers::in_numbers(answer)
+    answers::in_numbers(maker::mark_changes(working, twins, marks))
 }
 
 // `merger::merge`.
@@ -288,8 +280,7 @@ pub extern "C" fn rack_merge_lists(first: &[u32], second: &[u32], buffer: &mut [
     ensures written { buffer.new
         ≡ merged_buffer first.now second.now buffer.old }
 {
-    let answer = merger::merge(first, second, buffer);
-    answers::in_numbers(answer)
+    answers::in_numbers(merger::merge(first, second, buffer))
 }
 
 // `mover::move_in`, which keeps the directory and the old memory.

@@ -1,14 +1,17 @@
 -- On a rack that passed checks 1, 2 and 11, a fetch of one of its pages into 32 words is refused if the page is in
 -- motion, and only then.
-use Rattle.std.specs.Prelude.{ℕ, zero, suc, ◌*◌, ◌≤◌, ◌<◌, ◌≡◌, ◌≢◌, List, Bool, true, false, cond, length, get_or}
-use Rattle.std.specs.Prelude.{take, drop, eqb, replicate}
-use Rattle.laws.proofs.Prelude.{refl, ◌∙◌, arith, eq-eqb, ne_eqb, eqb-true, not-false, lt-leb}
+use Rattle.std.specs.Prelude.{ℕ, zero, suc, ◌*◌, ◌≤◌, ◌<◌, ◌≡◌, List, Bool, true, false, cond, length, get_or}
+use Rattle.std.specs.Prelude.{take, drop, eqb, replicate, Result, Ok, Err}
+use Rattle.laws.proofs.Prelude.{refl, ◌∙◌, arith, ne_eqb, eqb-true, not-false, lt-leb}
 use lib.ListN.{length-take, length-drop}
 use lib.Seq.{length-sets}
 use Rattle.laws.specs.Search.{lowest, in_turn, any_below}
 use Rattle.laws.proofs.Bools.{by_cond}
 use Rattle.laws.proofs.Lists.{sets_self}
-use Rattle.answer.specs.declared.Outcome.{Outcome}
+use Rattle.answer.specs.declared.Refusal.{Refusal}
+use Rattle.answer.specs.declared.Refusal.TheVariants.{PageInMotion}
+use Rattle.answer.specs.Refusal.{checked, told}
+use Rattle.answer.proofs.Refusals.{numbered, refused_told, passed_given}
 use Rattle.answer.specs.Outcome.{given, refused_at, page_in_motion}
 use Rattle.directory.specs.declared.Directory.{Directory}
 use Rattle.area.specs.Prelude.{page_size}
@@ -78,7 +81,7 @@ module _ (d : Directory) (m : List ℕ) where
             = rw room (comes_to_lem page below is)
             in
             rw (
-              fetch-refused d m page part comes (λ e. omega arith),
+              fetch-refused d m page part {first = Err (PageInMotion (lowest (in_motion d.live d.pages m page) d.cards))} comes refl,
               answer_outcome ∙ is,
               sets_self s.words (page_size * page) page_size (omega arith),
             )
@@ -86,7 +89,7 @@ module _ (d : Directory) (m : List ℕ) where
             let comes : given 0 ≡ first_refusal (fetch_checks d m page (length part)) 0
             = rw room (comes_to_lem page below is)
             in
-            rw (fetch-accepted d m page part comes refl, answer_outcome ∙ is)
+            rw (fetch-accepted d m page part {first = Ok tt} comes refl, answer_outcome ∙ is)
 
     pub pages_shown : (n : ℕ) (s : FetchedPages) → n ≤ d.pages → length s.words ≡ page_size * d.pages
         → in_turn (fetch_next d m) n s ≡ in_turn (show_next moving d m) n s
@@ -107,15 +110,16 @@ module _ (d : Directory) (m buffer : List ℕ) where
   unfolding fetch_all
   fetch_all_keeps = refl
 
-  module _ {first : Outcome} (reached : first ≡ first_refusal (fetch_all_checks d m (length buffer)) 0) where
-    pub all_refused : first.number ≢ 0 → fetch_all d m buffer ≡ fetched_to first d (fetched_pages buffer none_shown)
+  module _ {first : Result (Unit {0}) Refusal} (reached : checked first ≡ first_refusal (fetch_all_checks d m (length buffer)) 0) where
+    pub all_refused : {e : Refusal} → first ≡ Err e
+        → fetch_all d m buffer ≡ fetched_to (told e) d (fetched_pages buffer none_shown)
     unfolding fetch_all
-    all_refused some = rw (← reached) (rw (ne_eqb first.number 0 some))
+    all_refused {e} refused = rw (← refused_told reached refused) (rw (ne_eqb _ 0 (numbered e)))
 
     -- 1, 2 and 11 are passed as a desk question on card 0 passes them
-    pub all_facts : first.number ≡ 0 → AllPassed d m (length buffer)
-    all_facts none =
-        let p = all_pass (fetch_all_checks d m (length buffer)) refl reached none in
+    pub all_facts : {u : Unit {0}} → first ≡ Ok u → AllPassed d m (length buffer)
+    all_facts passed =
+        let p = all_pass (fetch_all_checks d m (length buffer)) refl reached passed in
         let some = (within_limits (length m) d.cards d.pages p.0).cards_least in
         record {
           runs = (desk_passed d m 0 (p.0, (p.1.0, (p.1.1.0, (lt-leb d.cards 0 (omega arith), tt))))).0;
@@ -123,14 +127,11 @@ module _ (d : Directory) (m buffer : List ℕ) where
               eqb-true (length buffer) _ (not-false (eqb (length buffer) (page_size * d.pages)) p.1.1.1.0);
         }
 
-    pub all_accepted : first.number ≡ 0
+    pub all_accepted : {u : Unit {0}} → first ≡ Ok u
         → fetch_all d m buffer
-        ≡ fetched_to first d (in_turn (show_next (moving_of d m) d m) d.pages (fetched_pages buffer none_shown))
+        ≡ fetched_to (given 0) d (in_turn (show_next (moving_of d m) d m) d.pages (fetched_pages buffer none_shown))
     unfolding fetch_all
-    all_accepted none =
-        let passed = all_facts none in
-        rw (← reached)
-        (rw (
-          eq-eqb first.number 0 none,
-          pages_shown d m passed.runs d.pages (fetched_pages buffer none_shown) (omega arith) passed.room_is,
-        ))
+    all_accepted passed =
+        let facts = all_facts passed in
+        rw (← passed_given reached passed)
+        (rw (pages_shown d m facts.runs d.pages (fetched_pages buffer none_shown) (omega arith) facts.room_is))

@@ -1,9 +1,12 @@
 -- Steps made one after the other on a rack that passed its checks: each up to the close is accepted, the one after it
 -- refused.
-use Rattle.std.specs.Prelude.{ℕ, zero, suc, ◌+◌, ◌-◌, ◌<◌, ◌≡◌, ◌≢◌, List, Bool, true, cond, not}
+use Rattle.std.specs.Prelude.{ℕ, zero, suc, ◌+◌, ◌-◌, ◌<◌, ◌≡◌, ◌≢◌, List, Bool, true, cond, not, Result, Ok, Err}
 use Rattle.laws.proofs.Prelude.{refl, sym, ◌∙◌, arith, dec_lt, ne_eqb, lt-leb, le-leb}
 use Prim.Native.Nat.{min}
-use Rattle.answer.specs.declared.Outcome.{Outcome}
+use Rattle.answer.specs.declared.Refusal.{Refusal}
+use Rattle.answer.specs.declared.Refusal.TheVariants.{NoneOpen}
+use Rattle.answer.specs.Refusal.{checked, told}
+use Rattle.answer.proofs.Refusals.{numbered}
 use Rattle.answer.specs.Outcome.{given, refused, no_open_release}
 use Rattle.directory.specs.declared.Directory.{Directory}
 use Rattle.directory.specs.Directory.{is_live, backup_of}
@@ -30,7 +33,7 @@ module _ (d : Directory) (c : ℕ) (below : c < d.cards) (live : is_live d c ≡
       → steps_from c (suc left) made d m ≡ stepped_to made (refused no_open_release) d m
   unfolding steps_from
   stops m left made closed =
-      rw (step-refused d m c (comes_to_lem m closed.runs closed.shut) (λ e. omega arith))
+      rw (step-refused d m c {first = Err NoneOpen} (comes_to_lem m closed.runs closed.shut) refl)
 
 module _ (d : Directory) (c : ℕ) where
   goes_on : (m : List ℕ) (left made : ℕ) → StepPassed d m c
@@ -38,14 +41,15 @@ module _ (d : Directory) (c : ℕ) where
   unfolding steps_from
   goes_on m left made passed =
       let comes = comes_to_lem d c passed.below passed.live m passed.runs passed.is_open in
-      rw (step-accepted d m c comes refl)
+      rw (step-accepted d m c {first = Ok tt} comes refl)
 
-  pub first-refused : (m : List ℕ) (count : ℕ) {first : Outcome} → first ≡ first_refusal (step_checks d m c) 0
-      → first.number ≢ 0 → count ≢ 0 → steps d m c count ≡ stepped_to 0 first d m
+  pub first-refused : (m : List ℕ) (count : ℕ) {first : Result (Unit {0}) Refusal} {e : Refusal}
+      → checked first ≡ first_refusal (step_checks d m c) 0 → first ≡ Err e → count ≢ 0
+      → steps d m c count ≡ stepped_to 0 (told e) d m
   unfolding steps_from
-  first-refused m count {first} reached refuses some =
+  first-refused m count {first} {e} reached refused some =
       let one : count ≡ suc (count - 1) = omega arith in
-      rw (one, step-refused d m c reached refuses) (simp (ne_eqb first.number 0 refuses))
+      rw (one, step-refused d m c reached refused) (simp (ne_eqb _ 0 (numbered e)))
 
   -- n steps, no more than are left
   record Ran (m : List ℕ) (n rest made : ℕ) : Type 0 where

@@ -1,9 +1,12 @@
 -- Checks in order: of two lists of checks the first decides, and where none of it refuses the second.
-use Rattle.std.specs.Prelude.{ℕ, ◌≡◌, ◌≢◌, List, [], ◌∷◌, ◌++◌, Bool, true, false, cond, not, eqb}
-use Rattle.laws.proofs.Prelude.{refl, ◌∙◌, ne_eqb, not-true}
+use Rattle.std.specs.Prelude.{ℕ, ◌≡◌, List, [], ◌∷◌, ◌++◌, Bool, true, false, cond, not, eqb, Ok, Err, Result}
+use Rattle.laws.proofs.Prelude.{refl, sym, ◌∙◌, ne_eqb, eq-eqb, not-true}
 use Rattle.laws.proofs.Bools.{and_first, and_second}
-use Rattle.answer.specs.declared.Outcome.{Outcome}
+use Rattle.answer.specs.declared.Refusal.{Refusal}
 use Rattle.answer.specs.Outcome.{given, refused_at}
+use Rattle.answer.specs.Refusal.{checked, told}
+use Rattle.answer.proofs.Refusals.{passed_zero, refused_told}
+use Rattle.answer.proofs.Refusals.{numbered as refusal_numbered}
 use Rattle.protocol.specs.Checks.{Check, check_at, first_refusal}
 use Rattle.protocol.proofs.checks.Outcome.{numbered}
 
@@ -49,9 +52,13 @@ module _ (more : List Check) (value : ℕ) where
       go true later = rw (not-true (eqb c.number 0) (and_first (not (eqb c.number 0)) (numbered cs) all))
       go false later = later
 
-  module _ (cs : List Check) (all : numbered cs ≡ true) {first : Outcome} (reached : first ≡ first_refusal cs 0) where
-    pub refused-first : first.number ≢ 0 → first_refusal (cs ++ more) value ≡ first
-    refused-first some = first_then cs all ∙ rw (← reached) (rw (ne_eqb _ _ some))
+  -- the same of checks that were made: `first` is what they came to
+  module _ (cs : List Check) (all : numbered cs ≡ true) {first : Result (Unit {0}) Refusal}
+      (reached : checked first ≡ first_refusal cs 0) where
+    pub refused_first : {e : Refusal} → first ≡ Err e → told e ≡ first_refusal (cs ++ more) value
+    refused_first {e} refused =
+        let is = refused_told reached refused in
+        is ∙ sym (first_then cs all ∙ rw (← is) (rw (ne_eqb _ _ (refusal_numbered e))))
 
-    pub passed_first : first.number ≡ 0 → first_refusal (cs ++ more) value ≡ first_refusal more value
-    passed_first none = first_then cs all ∙ rw (← reached) (rw none)
+    pub passed_first : {u : Unit {0}} → first ≡ Ok u → first_refusal (cs ++ more) value ≡ first_refusal more value
+    passed_first passed = first_then cs all ∙ rw (eq-eqb _ _ (passed_zero reached passed))

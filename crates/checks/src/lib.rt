@@ -1,40 +1,35 @@
 // Whether a memory and a directory fit each other, whether the rack runs, and whether there is such
-// a card: refusals 1, 2, 11 and 3. Each check is true where it refuses; a function that ends in
-// `_refusal` answers the outcome of several, with the number 0 where none refuses. A directory comes
-// as its header, by value, with its homes lent beside it.
+// a card: refusals 1, 2, 11 and 3. A function that answers a `bool` is true where its check refuses;
+// one that begins with `check_` makes several checks in order, and answers the first refusal.
 #![tactic(auto)]
 
 ghost use Rattle.std.specs.Prelude.{◌≡◌, ◌*◌, ◌<◌, ◌≤◌, [], ◌∷◌, not, ◌||◌, length, leb};
 ghost use Rattle.laws.specs.Search.{any_below, count_below};
-ghost use Rattle.directory.specs.Directory.{live_at, directory_by, FullHomes, awaits_card};
+ghost use Rattle.answer.specs.Refusal.{checked, number_of, place_of};
+ghost use Rattle.directory.specs.Directory.{live_at, awaits_card};
+ghost use Rattle.directory.specs.Lent.{lent};
 ghost use Rattle.area.specs.Prelude.{area_size, AreaIn, MemoryOf};
 ghost use Rattle.protocol.specs.Checks.{outside_limits, bad_home, bad_page, bad_status, bad_release};
-ghost use Rattle.protocol.specs.Checks.{bad_card, unfit_rack, check, first_refusal, fitting_checks};
+ghost use Rattle.protocol.specs.Checks.{bad_card, unfit_rack, check_at, first_refusal, fitting_checks};
 ghost use Rattle.protocol.specs.Checks.{awaits_recovery, running_checks, card_checks, live_card_checks};
 ghost use Rattle.checks.specs.Homes.{misplaced, misplaced_page};
 
-use answer::Outcome;
-use diff::Verdict;
+use answer::Refusal;
+use diff::{Extent, ReadError};
+use directory::lent::LentDirectory;
 use directory::{Header, Status};
+use laws::numbers;
 
 // 1: cards or pages outside their limits, or a memory not of the stated length.
+#[tactic(auto, unfolding(protocol::specs::Checks::outside_limits))]
 pub fn outside_limits(words: usize, cards: u32, pages: u32) -> bool
     ensures { result ≡ outside_limits words cards pages }
 {
-    if cards < 3 {
-        return true;
-    }
-    if 8 < cards {
-        return true;
-    }
-    if pages < 1 {
-        return true;
-    }
-    if 64 < pages {
-        return true;
-    }
-    let stated = (cards as usize) * area::layout::area_size(pages);
-    words != stated
+    cards < 3
+        || 8 < cards
+        || pages < 1
+        || 64 < pages
+        || words != (cards as usize) * area::layout::area_size(pages)
 }
 
 // ---- 2: memory and directory that do not fit each other
@@ -44,20 +39,7 @@ pub fn count_live(header: Header) -> u32
     requires { header.cards ≤ 8 }
     ensures { result ≡ count_below (live_at header.live) header.cards }
 {
-    let live = header.live;
-    let cards = header.cards;
-    let mut count: u32 = 0;
-    let mut card: u32 = 0;
-    while card < cards {
-        let at = card as usize;
-        if live[at] {
-            count += 1;
-            card += 1;
-        } else {
-            card += 1;
-        }
-    }
-    count
+    numbers::count_below(header.cards, |card| header.is_live(card))
 }
 
 // Whether recovery of `card` is awaited.
@@ -70,146 +52,109 @@ fn awaits(status: Status, card: u32) -> bool
     }
 }
 
+#[tactic(auto, unfolding(protocol::specs::Checks::bad_home))]
 fn bad_home(header: Header, home: u32) -> bool
     ensures { result ≡ bad_home header.cards header.live header.status home }
 {
-    if header.cards <= home {
-        return true;
-    }
-    if header.is_live(home) {
-        return false;
-    }
-    let status = header.status;
-    !awaits(status, home)
+    header.cards <= home || !header.is_live(home) && !awaits(header.status, home)
 }
 
-pub fn bad_page(header: Header, primary: &[u32], secondary: &[u32], page: u32) -> bool
-    requires { (page < length primary.now) × (page < length secondary.now) }
-    ensures { result
-        ≡ bad_page (directory_by header primary.now secondary.now) page }
+#[tactic(auto, unfolding(protocol::specs::Checks::bad_page))]
+pub fn bad_page(directory: LentDirectory<'_>, page: u32) -> bool
+    requires { page < 64 }
+    ensures { result ≡ bad_page (lent directory.entry) page }
 {
-    let at = page as usize;
-    let first = primary[at];
-    let second = secondary[at];
-    if first == second {
-        return true;
-    }
-    if bad_home(header, first) {
-        return true;
-    }
-    bad_home(header, second)
+    let primary = directory.primary[page as usize];
+    let secondary = directory.secondary[page as usize];
+    primary == secondary
+        || bad_home(directory.header, primary)
+        || bad_home(directory.header, secondary)
 }
 
-fn bad_pages(header: Header, primary: &[u32], secondary: &[u32]) -> bool
-    requires { (header.pages ≤ length primary.now)
-        × (header.pages ≤ length secondary.now) }
-    ensures { result
-        ≡ any_below (bad_page (directory_by header primary.now secondary.now))
-        header.pages }
+fn bad_pages(directory: LentDirectory<'_>) -> bool
+    requires { directory.header.pages ≤ 64 }
+    ensures { result ≡ any_below (bad_page (lent directory.entry)) directory.entry.header.pages }
 {
-    let pages = header.pages;
-    let mut page: u32 = 0;
-    while page < pages {
-        if bad_page(header, primary, secondary, page) {
-            return true;
-        }
-        page += 1;
-    }
-    false
+    numbers::any_below(directory.header.pages, |page| bad_page(directory, page))
 }
 
 // Whether the homes of a page are the same, or one of them is no card of the rack.
-fn misplaced(cards: u32, first: u32, second: u32) -> bool
-    ensures { result ≡ misplaced cards first second }
+#[tactic(auto, unfolding(crate::specs::Homes::misplaced))]
+fn misplaced(cards: u32, primary: u32, secondary: u32) -> bool
+    ensures { result ≡ misplaced cards primary secondary }
 {
-    if first == second {
-        return true;
-    }
-    if cards <= first {
-        return true;
-    }
-    cards <= second
+    primary == secondary || cards <= primary || cards <= secondary
 }
 
 // The number of such pages. The loop looks at all of them, though one is enough to refuse: without
 // an exit several pages are compared at once.
-fn count_misplaced(cards: u32, pages: u32, primary: &[u32], secondary: &[u32]) -> u32
-    requires { (pages ≤ length primary.now) × (pages ≤ length secondary.now) }
+fn count_misplaced(directory: LentDirectory<'_>) -> u32
+    requires { directory.header.pages ≤ 64 }
     ensures { result
-        ≡ count_below (misplaced_page cards primary.now secondary.now) pages }
+        ≡ count_below
+        (misplaced_page directory.entry.header.cards directory.entry.primary.now directory.entry.secondary.now)
+        directory.entry.header.pages }
 {
-    let mut count: u32 = 0;
-    let mut page: usize = 0;
-    while page < pages as usize {
-        let first = primary[page];
-        let second = secondary[page];
-        if misplaced(cards, first, second) {
-            count += 1;
-            page += 1;
-        } else {
-            page += 1;
-        }
-    }
-    count
+    numbers::count_below(directory.header.pages, |page| {
+        let primary = directory.primary[page as usize];
+        let secondary = directory.secondary[page as usize];
+        misplaced(directory.header.cards, primary, secondary)
+    })
 }
 
 // Whether a page has bad homes; `count` cards are live. Where all are, the homes' numbers tell.
-fn bad_homes(header: Header, primary: &[u32], secondary: &[u32], count: u32) -> bool
-    requires pages_in_bounds { (header.pages ≤ length primary.now)
-        × (header.pages ≤ length secondary.now) }
-    requires count_value { count ≡ count_below (live_at header.live) header.cards }
-    ensures { result
-        ≡ any_below (bad_page (directory_by header primary.now secondary.now))
-        header.pages }
+fn bad_homes(directory: LentDirectory<'_>, count: u32) -> bool
+    requires pages_bound { directory.header.pages ≤ 64 }
+    requires count_value { count
+        ≡ count_below (live_at directory.header.live) directory.header.cards }
+    ensures { result ≡ any_below (bad_page (lent directory.entry)) directory.entry.header.pages }
 {
-    if count == header.cards {
-        return 0 < count_misplaced(header.cards, header.pages, primary, secondary);
+    if count == directory.header.cards {
+        return 0 < count_misplaced(directory);
     }
-    bad_pages(header, primary, secondary)
+    bad_pages(directory)
 }
 
+#[tactic(auto, unfolding(protocol::specs::Checks::bad_status))]
 pub fn bad_status(header: Header) -> bool
     ensures { result ≡ bad_status header.cards header.live header.status }
 {
-    let status = header.status;
-    match status {
+    match header.status {
         Status::Running => false,
-        Status::Awaiting(awaited) => {
-            if header.cards <= awaited {
-                return true;
-            }
-            header.is_live(awaited)
-        }
+        Status::Awaiting(awaited) => header.cards <= awaited || header.is_live(awaited),
     }
 }
 
-pub fn bad_release(verdict: Verdict, steps: u32) -> bool
-    ensures { result ≡ bad_release verdict steps }
+#[tactic(auto, unfolding(protocol::specs::Checks::bad_release))]
+pub fn bad_release(read: Result<Extent, ReadError>, steps: u32) -> bool
+    ensures { result ≡ bad_release read steps }
 {
-    match verdict {
-        Verdict::Good(prices, _) => 4 * (prices as u64) + 10 < steps as u64,
-        Verdict::Faulty(_) => true,
+    match read {
+        Ok(extent) => 4 * (extent.prices as u64) + 10 < steps as u64,
+        Err(_) => true,
     }
 }
 
-fn bad_card(memory: &[u32], pages: u32, live: &[bool], card: usize) -> bool
-    requires pages_bound { (pages ≤ 64) × AreaIn (length memory.now) (area_size pages) card }
-    requires card_in_bounds { card < length live.now }
-    ensures { result ≡ bad_card live.now pages memory.now card }
+#[tactic(auto, unfolding(protocol::specs::Checks::bad_card))]
+fn bad_card(memory: &[u32], header: Header, card: u32) -> bool
+    requires memory_of { MemoryOf header (length memory.now) }
+    requires card_lt_cards { card < header.cards }
+    ensures { result ≡ bad_card header.live header.pages memory.now card }
 {
-    if live[card] {
-        let size = area::layout::area_size(pages);
-        let open = memory::load_word(memory, size, card, area::layout::OPEN_FLAG);
-        if 1 < open {
-            return true;
-        }
-        if open == 1 {
+    if !header.is_live(card) {
+        return false;
+    }
+    let size = area::layout::area_size(header.pages);
+    let card = card as usize;
+    match memory::load_word(memory, size, card, area::layout::OPEN_FLAG) {
+        0 => false,
+        1 => {
             let steps = area::releases::steps_made(memory, size, card);
             let list = area::releases::open_list(memory, size, card);
-            return bad_release(reader::read(list, pages), steps);
+            bad_release(reader::read(list, header.pages), steps)
         }
+        _ => true,
     }
-    false
 }
 
 fn bad_cards(memory: &[u32], header: Header) -> bool
@@ -218,76 +163,47 @@ fn bad_cards(memory: &[u32], header: Header) -> bool
         ≡ any_below (bad_card header.live header.pages memory.now)
         header.cards }
 {
-    let live = header.live;
-    let pages = header.pages;
-    let end = header.cards as usize;
-    let mut card: usize = 0;
-    while card < end {
-        if bad_card(memory, pages, &live, card) {
-            return true;
-        }
-        card += 1;
-    }
-    false
+    numbers::any_below(header.cards, |card| bad_card(memory, header, card))
 }
 
 // 2, of a rack within its limits.
-fn unfit_rack(memory: &[u32], header: Header, primary: &[u32], secondary: &[u32]) -> bool
-    requires memory_of { MemoryOf header (length memory.now) }
-    requires full_homes { FullHomes primary.now secondary.now }
-    ensures { result
-        ≡ unfit_rack (directory_by header primary.now secondary.now)
-        memory.now }
+#[tactic(auto, unfolding(protocol::specs::Checks::unfit_rack, protocol::specs::Checks::few_live))]
+fn unfit_rack(memory: &[u32], directory: LentDirectory<'_>) -> bool
+    requires { MemoryOf directory.header (length memory.now) }
+    ensures { result ≡ unfit_rack (lent directory.entry) memory.now }
 {
-    let count = count_live(header);
-    if count < 2 {
-        return true;
-    }
-    if bad_homes(header, primary, secondary, count) {
-        return true;
-    }
-    if bad_status(header) {
-        return true;
-    }
-    bad_cards(memory, header)
+    let count = count_live(directory.header);
+    count < 2
+        || bad_homes(directory, count)
+        || bad_status(directory.header)
+        || bad_cards(memory, directory.header)
 }
 
 // ---- the checks in order
 
-// The outcome of a check after which none follows.
-pub fn last_check(refuses: bool, number: u32) -> Outcome
-    ensures { result ≡ first_refusal (check refuses number ∷ []) 0 }
+// A check after which none follows.
+#[tactic(auto, unfolding(protocol::specs::Checks::first_refusal))]
+pub fn last_check(refuses: bool, refusal: Refusal) -> Result<(), Refusal>
+    ensures { checked result
+        ≡ first_refusal (check_at refuses (number_of refusal) (place_of refusal) ∷ []) 0 }
 {
-    if refuses {
-        return answer::refused_at(number, 0);
-    }
-    answer::given(0)
+    if refuses { Err(refusal) } else { Ok(()) }
 }
 
 // 1 and 2: whether the two fit.
-pub fn fitting_refusal(
-    memory: &[u32],
-    header: Header,
-    primary: &[u32],
-    secondary: &[u32],
-) -> Outcome
-    requires { FullHomes primary.now secondary.now }
-    ensures { result
-        ≡ first_refusal
-        (fitting_checks (directory_by header primary.now secondary.now)
-        memory.now)
-        0 }
+pub fn check_fitting(memory: &[u32], directory: LentDirectory<'_>) -> Result<(), Refusal>
+    ensures { checked result
+        ≡ first_refusal (fitting_checks (lent directory.entry) memory.now) 0 }
 {
+    let header = directory.header;
     if outside_limits(memory.len(), header.cards, header.pages) {
-        return answer::refused_at(answer::LIMITS, 0);
+        return Err(Refusal::Limits);
     }
-    last_check(
-        unfit_rack(memory, header, primary, secondary),
-        answer::UNFIT,
-    )
+    last_check(unfit_rack(memory, directory), Refusal::Unfit)
 }
 
 // Whether any recovery is awaited.
+#[tactic(auto, unfolding(protocol::specs::Checks::awaits_recovery))]
 pub fn awaits_recovery(status: Status) -> bool
     ensures { result ≡ awaits_recovery status }
 {
@@ -298,77 +214,40 @@ pub fn awaits_recovery(status: Status) -> bool
 }
 
 // 1, 2 and 11: whether the rack runs.
-pub fn running_refusal(
-    memory: &[u32],
-    header: Header,
-    primary: &[u32],
-    secondary: &[u32],
-) -> Outcome
-    requires { FullHomes primary.now secondary.now }
-    ensures { result
-        ≡ first_refusal
-        (running_checks (directory_by header primary.now secondary.now)
-        memory.now)
-        0 }
+pub fn check_running(memory: &[u32], directory: LentDirectory<'_>) -> Result<(), Refusal>
+    ensures { checked result
+        ≡ first_refusal (running_checks (lent directory.entry) memory.now) 0 }
 {
-    let first = fitting_refusal(memory, header, primary, secondary);
-    if first.number != 0 {
-        return first;
-    }
-    let status = header.status;
-    last_check(awaits_recovery(status), answer::RECOVERY_AWAITED)
+    check_fitting(memory, directory)?;
+    let awaited = awaits_recovery(directory.header.status);
+    last_check(awaited, Refusal::RecoveryAwaited)
 }
 
 // 1, 2, 11 and 3: whether there is such a card, live or dead.
-pub fn card_refusal(
-    memory: &[u32],
-    header: Header,
-    primary: &[u32],
-    secondary: &[u32],
-    card: u32,
-) -> Outcome
-    requires { FullHomes primary.now secondary.now }
-    ensures { result
-        ≡ first_refusal
-        (card_checks (directory_by header primary.now secondary.now)
-        memory.now card)
-        0 }
+pub fn check_card(memory: &[u32], directory: LentDirectory<'_>, card: u32) -> Result<(), Refusal>
+    ensures { checked result
+        ≡ first_refusal (card_checks (lent directory.entry) memory.now card) 0 }
 {
-    let first = running_refusal(memory, header, primary, secondary);
-    if first.number != 0 {
-        return first;
-    }
-    last_check(header.cards <= card, answer::NO_CARD)
+    check_running(memory, directory)?;
+    last_check(directory.header.cards <= card, Refusal::NoCard)
 }
 
 // Whether there is no such card, or it is dead.
 fn no_live_card(header: Header, card: u32) -> bool
     ensures { result ≡ (leb header.cards card || not (live_at header.live card)) }
 {
-    if header.cards <= card {
-        return true;
-    }
-    !header.is_live(card)
+    header.cards <= card || !header.is_live(card)
 }
 
 // 1, 2, 11 and 3: whether there is such a card, and it is live.
-pub fn live_card_refusal(
+pub fn check_live_card(
     memory: &[u32],
-    header: Header,
-    primary: &[u32],
-    secondary: &[u32],
+    directory: LentDirectory<'_>,
     card: u32,
-) -> Outcome
-    requires { FullHomes primary.now secondary.now }
-    ensures { result
-        ≡ first_refusal
-        (live_card_checks (directory_by header primary.now secondary.now)
-        memory.now card)
-        0 }
+) -> Result<(), Refusal>
+    ensures { checked result
+        ≡ first_refusal (live_card_checks (lent directory.entry) memory.now card) 0 }
 {
-    let first = running_refusal(memory, header, primary, secondary);
-    if first.number != 0 {
-        return first;
-    }
-    last_check(no_live_card(header, card), answer::NO_CARD)
+    check_running(memory, directory)?;
+    last_check(no_live_card(directory.header, card), Refusal::NoCard)
 }

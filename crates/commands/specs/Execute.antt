@@ -1,7 +1,7 @@
 -- What a command of shelfrun does (document 01, "Numbers to hold it against": the lines B, S, X, J and F; "The value
 -- is steps made (S), stamp found (X), the price (F), else 0; a refusal shows its place, but S its steps made").
 -- Assumes nothing: these are definitions.
-use Rattle.std.specs.Prelude.{ℕ, List, [], ◌∷◌, cond, get_or}
+use Rattle.std.specs.Prelude.{ℕ, List, [], ◌∷◌, cond, get_or, Option, None, Some}
 use Rattle.answer.specs.declared.Outcome.{Outcome}
 use Rattle.answer.specs.Outcome.{given, refused_at, refused, unreadable}
 use Rattle.directory.specs.declared.Directory.{Directory}
@@ -11,7 +11,7 @@ use Rattle.protocol.specs.Result.{Result, accepted}
 use Rattle.protocol.specs.Calls.{opening, fetch, failure, recovery, join}
 use Rattle.batch.specs.Steps.{Stepped, steps}
 use Rattle.lines.specs.declared.Command.{Command}
-use Rattle.lines.specs.declared.Command.TheVariants.{Open, Step, Fail, Join, Fetch, Unreadable}
+use Rattle.lines.specs.declared.Command.TheVariants.{Open, Step, Fail, Join, Fetch}
 
 -- what a command shows, and the rack that it leaves
 abbrev pub shown : Outcome → Directory → List ℕ → Result
@@ -44,19 +44,19 @@ fetch_word page word d m =
     let r : Result = fetch d m page (zeros page_size) in
     shown (cond (accepted r.outcome) (given (get_or r.words word 0)) r.outcome) r.directory m
 
-unfoldable pub execute : Command → Directory → List ℕ → Result
-execute (Open card number page word price) d m = open_one card number page word price d m
-execute (Step card count) d m = make_steps card count d m
-execute (Fail card) d m = fail_and_recover card d m
-execute (Join card) d m = join d m card
-execute (Fetch page word) d m = fetch_word page word d m
-execute Unreadable d m = shown (refused unreadable) d m
+unfoldable pub execute : Option Command → Directory → List ℕ → Result
+execute (Some (Open card number page word price)) d m = open_one card number page word price d m
+execute (Some (Step card count)) d m = make_steps card count d m
+execute (Some (Fail card)) d m = fail_and_recover card d m
+execute (Some (Join card)) d m = join d m card
+execute (Some (Fetch page word)) d m = fetch_word page word d m
+execute None d m = shown (refused unreadable) d m
 
 -- the letter that an answer shows: B, S, X, J or F, "- if unreadable"
-abbrev pub letter_of : Command → ℕ
-letter_of (Open card number page word price) = 66
-letter_of (Step card count) = 83
-letter_of (Fail card) = 88
-letter_of (Join card) = 74
-letter_of (Fetch page word) = 70
-letter_of Unreadable = 45
+abbrev pub letter_of : Option Command → ℕ
+letter_of (Some (Open card number page word price)) = 66
+letter_of (Some (Step card count)) = 83
+letter_of (Some (Fail card)) = 88
+letter_of (Some (Join card)) = 74
+letter_of (Some (Fetch page word)) = 70
+letter_of None = 45

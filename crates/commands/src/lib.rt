@@ -3,20 +3,36 @@
 
 ghost use Rattle.std.specs.Prelude.{◌≡◌, get_or};
 ghost use Rattle.laws.specs.Examples.{AllHold};
+ghost use Rattle.answer.specs.Refusal.{outcome_of};
 ghost use Rattle.protocol.specs.Join.{join};
 ghost use Rattle.commands.specs.Execute.{open_one, make_steps, fail_and_recover, fetch_word};
 ghost use Rattle.commands.specs.Execute.{execute, letter_of};
 ghost use Rattle.commands.specs.Examples.{examples};
 
-use answer::Outcome;
+use answer::{Outcome, Refusal};
+use diff::format::{END_WORD, OFFSET, PAGE_WORD, RUN_WORD};
 use directory::Directory;
 use lines::Command;
 
-// What a command shows, and the directory that it leaves.
+// What a command shows, and the directory that it leaves. The outcome is the two numbers that the line
+// has: a refusal of S comes with the steps made, which no `Result` tells.
 #[derive(Clone, Copy)]
 pub struct Shown {
     pub directory: Directory,
     pub outcome: Outcome,
+}
+
+impl Shown {
+    // What is shown of a call's answer.
+    fn of_answer(directory: Directory, answer: Result<u64, Refusal>) -> Self
+        ensures outcome { result.outcome ≡ outcome_of answer }
+        ensures directory { result.directory ≡ directory }
+    {
+        Shown {
+            directory,
+            outcome: answer::outcome_of(answer),
+        }
+    }
 }
 
 // ---- the commands
@@ -39,17 +55,14 @@ fn open_one(
         ≡ (open_one card number page word price directory memory.old).memory }
 {
     let list = [
-        0x10000000 + page as u32,
-        0x20000000 + (word as u32 * 0x10000 + 1),
+        PAGE_WORD + page as u32,
+        RUN_WORD + (word as u32 * OFFSET + 1),
         price,
-        0xF0000003,
+        END_WORD + 3,
     ];
     let desk = [0u32; area::layout::DESK_SIZE];
     let reply = rack::open_release(memory, directory, card, number as u64, desk, &list);
-    let directory = reply.directory;
-    let answer = reply.answer;
-    let outcome = answer::outcome_of(answer);
-    Shown { directory, outcome }
+    Shown::of_answer(reply.directory, reply.answer)
 }
 
 // S: makes steps, up to a count or a refusal.
@@ -62,22 +75,18 @@ fn make_steps(memory: &mut [u32], directory: Directory, card: u32, count: u32) -
         ≡ (make_steps card count directory memory.old).memory }
 {
     let reply = batch::steps(memory, directory, card, count);
-    let directory = reply.directory;
-    let answer = reply.answer;
-    let came = answer::outcome_of(answer);
-    let outcome = Outcome {
-        number: came.number,
-        value: reply.made as u64,
-    };
-    Shown { directory, outcome }
+    let came = answer::outcome_of(reply.answer);
+    Shown {
+        directory: reply.directory,
+        outcome: answer::refused_at(came.number, reply.made as u64),
+    }
 }
 
 // The price of one word of a page.
 fn price_in(page: &[u32], word: u8) -> u32
     ensures { result ≡ get_or page.now word 0 }
 {
-    let at = word as usize;
-    if at < page.len() { page[at] } else { 0 }
+    page.get(word as usize).copied().unwrap_or(0)
 }
 
 // F: fetches a page and shows one of its words.
@@ -89,17 +98,10 @@ fn fetch_word(memory: &[u32], directory: Directory, page: u8, word: u8) -> Shown
 {
     let mut buffer = [0u32; area::layout::PAGE_SIZE];
     let reply = rack::fetch_page(memory, directory, page as u32, &mut buffer);
-    let directory = reply.directory;
-    let answer = reply.answer;
-    let outcome = answer::outcome_of(answer);
-    if outcome.number != 0 {
-        return Shown { directory, outcome };
+    match reply.answer {
+        Err(refusal) => Shown::of_answer(reply.directory, Err(refusal)),
+        Ok(_) => Shown::of_answer(reply.directory, Ok(price_in(&buffer, word) as u64)),
     }
-    let outcome = Outcome {
-        number: 0,
-        value: price_in(&buffer, word) as u64,
-    };
-    Shown { directory, outcome }
 }
 
 // X: a card fails and is recovered.
@@ -112,17 +114,13 @@ fn fail_and_recover(memory: &mut [u32], directory: Directory, card: u32) -> Show
         ≡ (fail_and_recover card directory memory.old).memory }
 {
     let failed = rack::fail_card(memory, directory, card);
-    let directory = failed.directory;
-    let answer = failed.answer;
-    let outcome = answer::outcome_of(answer);
-    if outcome.number != 0 {
-        return Shown { directory, outcome };
+    match failed.answer {
+        Err(refusal) => Shown::of_answer(failed.directory, Err(refusal)),
+        Ok(_) => {
+            let recovered = rack::recover_card(memory, failed.directory);
+            Shown::of_answer(recovered.directory, recovered.answer)
+        }
     }
-    let recovered = rack::recover_card(memory, directory);
-    let directory = recovered.directory;
-    let answer = recovered.answer;
-    let outcome = answer::outcome_of(answer);
-    Shown { directory, outcome }
 }
 
 // J: a dead card joins again.
@@ -134,14 +132,12 @@ fn join_card(memory: &mut [u32], directory: Directory, card: u32) -> Shown
         ≡ (join directory memory.old card).memory }
 {
     let reply = rack::join_card(memory, directory, card);
-    let directory = reply.directory;
-    let answer = reply.answer;
-    let outcome = answer::outcome_of(answer);
-    Shown { directory, outcome }
+    Shown::of_answer(reply.directory, reply.answer)
 }
 
-// Executes a command.
-pub fn execute(memory: &mut [u32], directory: Directory, command: Command) -> Shown
+// Executes the command of a line, if it has one.
+#[tactic(auto, unfolding(crate::specs::Execute::execute, crate::specs::Execute::fetch_word))]
+pub fn execute(memory: &mut [u32], directory: Directory, command: Option<Command>) -> Shown
     ensures outcome { result.outcome
         ≡ (execute command directory memory.old).outcome }
     ensures directory { result.directory
@@ -150,44 +146,34 @@ pub fn execute(memory: &mut [u32], directory: Directory, command: Command) -> Sh
         ≡ (execute command directory memory.old).memory }
 {
     match command {
-        Command::Open {
-            card,
-            number,
-            page,
-            word,
-            price,
-        } => open_one(memory, directory, card, number, page, word, price),
-        Command::Step { card, count } => make_steps(memory, directory, card, count),
-        Command::Fail(card) => fail_and_recover(memory, directory, card),
-        Command::Join(card) => join_card(memory, directory, card),
-        Command::Fetch { page, word } => fetch_word(memory, directory, page, word),
-        Command::Unreadable => {
-            let outcome = Outcome {
-                number: answer::UNREADABLE,
-                value: 0,
-            };
-            Shown { directory, outcome }
-        }
+        Some(
+            Command::Open {
+                card,
+                number,
+                page,
+                word,
+                price,
+            },
+        ) => open_one(memory, directory, card, number, page, word, price),
+        Some(Command::Step { card, count }) => make_steps(memory, directory, card, count),
+        Some(Command::Fail(card)) => fail_and_recover(memory, directory, card),
+        Some(Command::Join(card)) => join_card(memory, directory, card),
+        Some(Command::Fetch { page, word }) => fetch_word(memory, directory, page, word),
+        None => Shown::of_answer(directory, Err(Refusal::Unreadable)),
     }
 }
 
 // The letter that an answer shows.
-pub fn letter_of(command: Command) -> u8
+pub fn letter_of(command: Option<Command>) -> u8
     ensures { result ≡ letter_of command }
 {
     match command {
-        Command::Open {
-            card: _,
-            number: _,
-            page: _,
-            word: _,
-            price: _,
-        } => b'B',
-        Command::Step { card: _, count: _ } => b'S',
-        Command::Fail(_) => b'X',
-        Command::Join(_) => b'J',
-        Command::Fetch { page: _, word: _ } => b'F',
-        Command::Unreadable => b'-',
+        Some(Command::Open { .. }) => b'B',
+        Some(Command::Step { .. }) => b'S',
+        Some(Command::Fail(_)) => b'X',
+        Some(Command::Join(_)) => b'J',
+        Some(Command::Fetch { .. }) => b'F',
+        None => b'-',
     }
 }
 

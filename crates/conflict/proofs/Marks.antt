@@ -1,18 +1,13 @@
--- Marks stand for prices: a place is marked if a price has it. And the walk that marks the prices of a list.
-use Rattle.std.specs.Prelude.{ℕ, zero, suc, ◌≤◌, ◌<◌, ◌≡◌, List, [], ◌∷◌, ◌++◌, Bool, true, false, cond, ◌||◌, ltb, eqb}
+-- Marks stand for prices: a place is marked if a price has it.
+use Rattle.std.specs.Prelude.{ℕ, zero, suc, ◌<◌, ◌≡◌, List, [], ◌∷◌, ◌++◌, Bool, true, false, cond, ◌||◌, eqb}
 use Rattle.std.specs.Prelude.{length, get_or, set, replicate}
-use Rattle.laws.proofs.Prelude.{refl, sym, ap, ◌∙◌, ℕ_discrete, arith, eq-eqb, ne_eqb}
+use Rattle.laws.proofs.Prelude.{refl, sym, ◌∙◌, ℕ_discrete, eq-eqb, ne_eqb}
 use mathlib.Core.Bool.{or-true, or-false}
 use lib.ListN.{length-set, length-replicate}
 use lib.Seq.{get_or-set_same, get_or-set_other}
-use Rattle.diff.specs.declared.Cursor.{Cursor}
 use Rattle.diff.specs.declared.Price.{Price}
-use Rattle.diff.specs.Prices.{priced_word, prices_of}
 use Rattle.diff.proofs.Stored.{OnPages}
-use Rattle.reader.specs.declared.walk.Walk.{Walk}
-use Rattle.reader.specs.Walking.{at_first, past_word, price_due}
-use Rattle.reader.proofs.Walking.{Reached, reached_next, prices_left, left_first, left_turn, left_end}
-use Rattle.conflict.specs.Marks.{marked, marked_due}
+use Rattle.conflict.specs.Marks.{marked}
 
 -- none of so many places marked
 abbrev pub unmarked : ℕ → List Bool
@@ -60,50 +55,9 @@ module _ (place : Price → ℕ) (places pages : ℕ)
       marks_more ps (unmarked places) (length-replicate places false) on
       ∙ rw (get_or_unmarked places at) (or-false (any_at place ps at))
 
--- ---- the walk: to mark what is left of the prices marks what all of them mark
-
-pub record Marking (place : Price → ℕ) (pages : ℕ) (list : List ℕ) (marks₀ marks : List Bool) (at : Walk) : Type 0
-  where
-    pub reached : Reached pages (length list) at
-    pub long : length marks ≡ length marks₀
-    pub rest : marked place (prices_left pages list at) marks ≡ marked place (prices_of pages list) marks₀
-
-pub marking_first : (place : Price → ℕ) (pages : ℕ) (list : List ℕ) (marks : List Bool)
-    → Marking place pages list marks marks at_first
-marking_first place pages list marks =
-    record { reached = omega arith; long = refl; rest = rw (left_first pages list) }
-
-marked_due_lem : (place : Price → ℕ) (s : Cursor) (w : ℕ) (ps : List Price) (marks : List Bool)
-    → marked place (price_due s w ++ ps) marks ≡ marked place ps (marked_due s (place (priced_word s w)) marks)
+-- one price more
+pub marked_next : (place : Price → ℕ) (ps : List Price) (p : Price) (marks : List Bool)
+    → set (marked place ps marks) (place p) true ≡ marked place (ps ++ p ∷ []) marks
 unfolding marked
-marked_due_lem place s w ps marks = go (ltb 0 s.due)
-  where
-    go : (due : Bool)
-        → marked place (cond due (priced_word s w ∷ []) [] ++ ps) marks
-        ≡ marked place ps (cond due (set marks (place (priced_word s w)) true) marks)
-    go true = refl
-    go false = refl
-
-module _ {place : Price → ℕ} {pages : ℕ} {list : List ℕ} {marks₀ marks : List Bool} {at : Walk}
-    (far : Marking place pages list marks₀ marks at) where
-  -- the place does not depend on the price that the word is
-  pub marking_next : at.index < length list → {due : ℕ} → ((w : ℕ) → place (priced_word at.cursor w) ≡ due)
-      → {marks' : List Bool} → marks' ≡ marked_due at.cursor due marks → length marks' ≡ length marks
-      → Marking place pages list marks₀ marks' (past_word pages list at)
-  marking_next inside here made same =
-      let w = get_or list at.index 0 in
-      let next = prices_left pages list (past_word pages list at) in
-      record {
-        reached = reached_next pages list at inside far.reached;
-        long = same ∙ far.long;
-        rest =
-            rw (made, ← here w)
-            (sym
-            (ap (λ ps. marked place ps marks) (left_turn pages list at inside)
-            ∙ marked_due_lem place at.cursor w next marks)
-            ∙ far.rest);
-      }
-
-  pub marking_end : length list ≤ at.index → marks ≡ marked place (prices_of pages list) marks₀
-  unfolding marked
-  marking_end end = sym (ap (λ ps. marked place ps marks) (left_end pages list at end)) ∙ far.rest
+marked_next place [] p marks = refl
+marked_next place (q ∷ ps) p marks = marked_next place ps p (set marks (place q) true)

@@ -1,24 +1,16 @@
 -- Inner contracts only. Refusal 10: the prices of a list, counted, and the pages that they name.
 -- Assumes nothing: these are definitions.
-use Rattle.std.specs.Prelude.{ℕ, ◌-◌, List, Bool, false, cond, ◌&&◌, ◌||◌, length, get_or, set, ltb, leb, eqb}
+use Rattle.std.specs.Prelude.{ℕ, List, Bool, false, cond, ◌&&◌, ◌||◌, length, get_or, set, leb}
 use Rattle.area.specs.Prelude.{area_size, steps_of, has_open_release}
-use Rattle.diff.specs.declared.Cursor.{Cursor}
 use Rattle.diff.specs.declared.Price.{Price}
 use Rattle.protocol.specs.Release.{open_prices, counts_at}
 use Rattle.protocol.specs.Fetch.{names_page}
 use Rattle.conflict.specs.Marks.{marked}
 pub use Rattle.conflict.specs.declared.motion.Tally.{Tally}
 
--- the page of a price, and of the price that is due
+-- the page of a price
 abbrev pub page_of : Price → ℕ
 page_of p = p.page
-
-abbrev pub page_due : Cursor → ℕ
-page_due s = s.next - 1
-
--- whether a price is due that is on the page
-abbrev pub on_page : Cursor → ℕ → Bool
-on_page s page = cond (ltb 0 s.due) (eqb (page_due s) page) false
 
 -- how many prices there are, and whether one is on the page
 abbrev pub tally_of : List Price → ℕ → Tally

@@ -1,26 +1,17 @@
 -- Inner contracts only. Refusal 8 by marks: the labels that a list names are marked, and another card's open release
 -- prices a marked one.
 -- Assumes nothing: these are definitions.
-use Rattle.std.specs.Prelude.{ℕ, ◌+◌, ◌-◌, ◌*◌, List, [], ◌∷◌, Bool, false, cond, ◌&&◌, ◌||◌, get_or, ltb}
+use Rattle.std.specs.Prelude.{ℕ, List, [], ◌∷◌, Bool, false, ◌&&◌, ◌||◌, get_or}
 use Rattle.area.specs.Prelude.{area_size}
-use Rattle.diff.specs.declared.Cursor.{Cursor}
 use Rattle.diff.specs.declared.Price.{Price}
 use Rattle.diff.specs.Prices.{label_of}
 use Rattle.protocol.specs.Release.{open_prices}
 use Rattle.conflict.specs.Others.{is_other}
 
--- the label of the price that is due
-abbrev pub label_due : Cursor → ℕ
-label_due s = 32 * (s.next - 1) + s.word
-
 -- whether some price has a marked label
 unfoldable pub any_marked : List Price → List Bool → Bool
 any_marked [] marks = false
 any_marked (p ∷ ps) marks = get_or marks (label_of p) false || any_marked ps marks
-
--- whether the price that is due has a marked label
-abbrev pub hits_due : Cursor → List Bool → Bool
-hits_due s marks = cond (ltb 0 s.due) (get_or marks (label_due s) false) false
 
 -- another card with a release open that prices a marked label
 unfoldable pub marks_with : List Bool → ℕ → List ℕ → ℕ → List Bool → ℕ → Bool

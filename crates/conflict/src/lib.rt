@@ -1,30 +1,42 @@
 // Open releases that stand in the way of a call: any (refusal 15), one that prices a word of a list
 // handed in (refusal 8, `sharing`), and one that counts already and names a page asked for (refusal
-// 10, `motion`). The searches for 8 and 10 answer the lowest such card, or the number of cards.
+// 10, `motion`). The searches for 8 and 10 answer the lowest such card.
 #![tactic(auto)]
 
-ghost use Rattle.std.specs.Prelude.{◌≡◌, ◌<◌, ◌≤◌, length};
+ghost use Rattle.std.specs.Prelude.{◌≡◌, ◌<◌, length};
 ghost use Rattle.laws.specs.Search.{any_below};
-ghost use Rattle.area.specs.Prelude.{AreaIn, MemoryOf, area_size, pages_start, has_open_release};
+ghost use Rattle.area.specs.Prelude.{MemoryOf, area_size, list_size, has_open_release, open_list};
 ghost use Rattle.conflict.specs.Others.{is_other};
 
 mod motion;
 mod sharing;
 
+use area::releases;
 use directory::Header;
+use laws::numbers;
 pub use motion::{lowest_in_motion, mark_in_motion};
 pub use sharing::lowest_sharing;
 
 // Whether it is another card, with a release open.
-pub(crate) fn is_other(memory: &[u32], size: usize, live: &[bool], card: u32, other: u32) -> bool
-    requires pages_start_le_size { (pages_start ≤ size) × AreaIn (length memory.now) size other }
-    requires other_in_bounds { other < length live.now }
-    ensures { result ≡ is_other live.now size memory.now card other }
+#[tactic(auto, unfolding(crate::specs::Others::is_other))]
+pub(crate) fn is_other(memory: &[u32], header: Header, card: u32, other: u32) -> bool
+    requires memory_of { MemoryOf header (length memory.now) }
+    requires other_lt_cards { other < header.cards }
+    ensures { result
+        ≡ is_other header.live (area_size header.pages) memory.now card other }
 {
-    if other == card {
-        return false;
-    }
-    area::releases::is_open(memory, size, live, other as usize)
+    other != card && releases::is_open_on(memory, header, other)
+}
+
+// The list of the release that is open on a card.
+pub(crate) fn open_list(memory: &[u32], header: Header, card: u32) -> &[u32]
+    requires memory_of { MemoryOf header (length memory.now) }
+    requires card_lt_cards { card < header.cards }
+    ensures result_value { result.now ≡ open_list (area_size header.pages) memory.now card }
+    ensures result_len { length result.now ≡ list_size }
+{
+    let size = area::layout::area_size(header.pages);
+    releases::open_list(memory, size, card as usize)
 }
 
 // Whether a release is open on any card but this one.
@@ -35,25 +47,19 @@ pub(crate) fn any_other(memory: &[u32], header: Header, card: u32) -> bool
         (is_other header.live (area_size header.pages) memory.now card)
         header.cards }
 {
-    let live = header.live;
-    let cards = header.cards;
-    let size = area::layout::area_size(header.pages);
-    let mut other: u32 = 0;
-    while other < cards {
-        if is_other(memory, size, &live, card, other) {
-            return true;
-        }
-        other += 1;
-    }
-    false
+    numbers::any_below(header.cards, |other| {
+        is_other(memory, header, card, other)
+    })
 }
 
-// Whether a release is open on any card. None is left out: no card has the number `cards`.
+// Whether a release is open on any card.
 pub fn any_open(memory: &[u32], header: Header) -> bool
     requires { MemoryOf header (length memory.now) }
     ensures { result
         ≡ any_below (has_open_release header.live (area_size header.pages) memory.now)
         header.cards }
 {
-    any_other(memory, header, header.cards)
+    numbers::any_below(header.cards, |card| {
+        releases::is_open_on(memory, header, card)
+    })
 }

@@ -1,37 +1,37 @@
--- Digits before a text, one at a time, and a byte stored before a text.
-use Rattle.std.specs.Prelude.{ℕ, zero, suc, ◌+◌, ◌-◌, ◌/◌, ◌%◌, ◌≤◌, ◌<◌, ◌≡◌, List, ◌∷◌, length, drop, set}
+-- Digits before a text: they are std's, and stand before it whatever it is.
+use Rattle.std.specs.Prelude.{ℕ, zero, suc, ◌+◌, ◌/◌, ◌%◌, ◌^◌, ◌≤◌, ◌<◌, ◌≡◌, List, [], ◌∷◌, ◌++◌, Bool, true, false, cond, ltb, length}
+use Rattle.std.specs.Fmt.{decimal}
+use Rattle.std.proofs.Common.{◌∙◌}
+use Rattle.std.proofs.lemmas.Fmt.{PrependsLastDigit, decimal_from_prepends, length-decimal-le}
 use Rattle.laws.proofs.Prelude.{refl, arith, lt-ltb, le-ltb}
-use native.Mathlib.Numerals.{add-one}
-use lib.ListN.{length-set}
-use lib.Seq.{drop-cons, drop-set-lt, get_or-set_same}
-use Rattle.decimal.specs.Decimal.{digits_before}
+use mathlib.Core.List.{append-nil}
+use Rattle.decimal.specs.Decimal.{digits_before, decimal_before}
 
-pub digits_none : (left n : ℕ) (text : List ℕ) → left ≤ 0 → digits_before left n text ≡ text
+prepends : PrependsLastDigit digits_before
 unfolding digits_before
-digits_none zero n text none = refl
-digits_none (suc more) n text none = absurd (omega arith)
+prepends =
+    record {
+      one = λ k n text small. simp (lt-ltb n 10 small);
+      more = λ k n text large. simp (le-ltb n 10 large);
+    }
 
-pub digits_last : (left n : ℕ) (text : List ℕ) → 0 < left → n < 10 → digits_before left n text ≡ (48 + n) ∷ text
+pub is_decimal : (n : ℕ) → n < 2 ^ 64 → (decimal_before n [] ≡ decimal n) × (length (decimal n) ≤ 20)
+is_decimal n bound =
+    let short : length (decimal n) ≤ 20 = search (arith, length-decimal-le) in
+    (decimal_from_prepends digits_before prepends 20 n [] bound short ∙ append-nil (decimal n), short)
+
+digits-append : (left n : ℕ) (text rest : List ℕ) → digits_before left n (text ++ rest) ≡ digits_before left n text ++ rest
 unfolding digits_before
-digits_last zero n text some small = absurd (omega arith)
-digits_last (suc more) n text some small = simp (lt-ltb n 10 small)
+digits-append zero n text rest = refl
+digits-append (suc more) n text rest = go (ltb n 10) (digits-append more (n / 10) ((48 + n % 10) ∷ text) rest)
+  where
+    go : (test : Bool)
+        → digits_before more (n / 10) ((48 + n % 10) ∷ (text ++ rest))
+        ≡ digits_before more (n / 10) ((48 + n % 10) ∷ text) ++ rest
+        → cond test ((48 + n) ∷ (text ++ rest)) (digits_before more (n / 10) ((48 + n % 10) ∷ (text ++ rest)))
+        ≡ cond test ((48 + n) ∷ text) (digits_before more (n / 10) ((48 + n % 10) ∷ text)) ++ rest
+    go true further = refl
+    go false further = further
 
-pub digits_more : (left n : ℕ) (text : List ℕ) → 0 < left → 10 ≤ n
-    → digits_before left n text ≡ digits_before (left - 1) (n / 10) ((48 + n % 10) ∷ text)
-unfolding digits_before
-digits_more zero n text some large = absurd (omega arith)
-digits_more (suc more) n text some large =
-    let e : suc more - 1 ≡ more = omega arith in
-    rw e (simp (le-ltb n 10 large))
-
-pub stored_before : (text : List ℕ) (at end b : ℕ) → at + 1 ≡ end → at < length text
-    → drop at (set text at b) ≡ b ∷ drop end text
-stored_before text at end b next within =
-    let inside : at < length (set text at b) = simp length-set within in
-    rw (
-      ← next,
-      add-one,
-      drop-cons (set text at b) at 0 inside,
-      get_or-set_same text at b 0 within,
-      drop-set-lt (suc at) text at b (omega arith),
-    )
+pub decimal-append : (n : ℕ) (rest : List ℕ) → decimal_before n rest ≡ decimal_before n [] ++ rest
+decimal-append n rest = digits-append 20 n [] rest

@@ -1,40 +1,32 @@
-// Numbers in decimal, written into a text from its end to its start, so that no digits are counted.
+// Numbers in decimal, put behind a text.
 #![tactic(auto)]
 
-ghost use Rattle.std.specs.Prelude.{◌≡◌, ◌+◌, ◌≤◌, ◌<◌, ◌∷◌, length, drop};
+ghost use Rattle.std.specs.Prelude.{◌≡◌, ◌+◌, ◌≤◌, [], length};
+ghost use Rattle.std.proofs.lemmas.List.Edits.{sets};
 ghost use Rattle.laws.specs.Examples.{AllHold};
 ghost use Rattle.decimal.specs.Decimal.{decimal_before};
 ghost use Rattle.decimal.specs.Examples.{examples};
 
-// Writes a byte before `end`, and says where it stands.
-pub fn put_byte(text: &mut [u8], end: usize, b: u8) -> usize
-    requires { (0 < end) × (end ≤ length text.old) }
-    ensures result_value { result + 1 ≡ end }
-    ensures text_after { drop result text.new ≡ b ∷ drop end text.old }
+// Puts bytes behind a text that ends at `end`, and says where it ends then.
+pub fn append_bytes(text: &mut [u8], end: usize, bytes: &[u8]) -> usize
+    requires { end + length bytes.now ≤ length text.old }
+    ensures result_value { result ≡ end + length bytes.now }
+    ensures text_after { text.new ≡ sets text.old end bytes.now }
 {
-    let at = end - 1;
-    text[at] = b;
-    at
+    let after = end + bytes.len();
+    text[end..after].copy_from_slice(bytes);
+    after
 }
 
-// Writes a number's digits before `end`, and says where they start.
-pub fn put_decimal(text: &mut [u8], end: usize, n: u64) -> usize
-    requires { (20 ≤ end) × (end ≤ length text.old) }
-    ensures upper_bound { (result ≤ end) × (end ≤ result + 20) }
-    ensures text_after { drop result text.new ≡ decimal_before n (drop end text.old) }
+// Puts a number's digits behind a text that ends at `end`, and says where it ends then. They are
+// not written by `write!`, which says what it wrote only if it succeeds, and nowhere that it does.
+pub fn append_decimal(text: &mut [u8], end: usize, n: u64) -> usize
+    requires { end + 20 ≤ length text.old }
+    ensures upper_bound { result ≤ end + 20 }
+    ensures result_value { result ≡ end + length (decimal_before n []) }
+    ensures text_after { text.new ≡ sets text.old end (decimal_before n []) }
 {
-    let mut at = end;
-    let mut left: usize = 20;
-    let mut rest = n;
-    while 0 < left {
-        if rest < 10 {
-            return put_byte(text, at, 48 + rest as u8);
-        }
-        at = put_byte(text, at, 48 + (rest % 10) as u8);
-        rest /= 10;
-        left -= 1;
-    }
-    at
+    append_bytes(text, end, itoa::Buffer::new().format(n).as_bytes())
 }
 
 // Worked examples of numbers in decimal, computed from the definitions. It does nothing when it is

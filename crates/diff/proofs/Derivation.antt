@@ -1,15 +1,14 @@
 -- A diff that reads well to its end, as a derivation: a word and what follows it. Reading finds just these.
 use Rattle.std.specs.Prelude.{ℕ, suc, ◌+◌, ◌/◌, ◌≤◌, ◌<◌, ◌≡◌, List, [], ◌∷◌, ◌++◌, Bool, true, false, cond, length}
-use Rattle.std.specs.Prelude.{ltb, eqb}
-use Rattle.laws.proofs.Prelude.{refl, sym, ◌∙◌, subst, arith, lt-ltb, le-ltb, lt-leb, eq-eqb, ne_eqb}
+use Rattle.std.specs.Prelude.{ltb, eqb, Ok}
+use Rattle.laws.proofs.Prelude.{refl, sym, ap, ◌∙◌, subst, arith, lt-ltb, le-ltb, lt-leb, eq-eqb, ne_eqb}
 use mathlib.Core.List.{append-nil}
 use native.Mathlib.Nat.{add-zero, lt_of_lt_of_le}
 use Rattle.diff.specs.Format.{kind, low, offset, count, page_word, run_word, end_word, most_words}
-use Rattle.diff.specs.Reading.{Cursor, Step, Verdict, past_price, past_page, past_run, word_step, verdict_after}
-use Rattle.diff.specs.Reading.{read_from}
+use Rattle.diff.specs.Reading.{Cursor, Step, Extent, Verdict, past_price, past_page, past_run, word_step, verdict_after}
+use Rattle.diff.specs.Reading.{read_well, fault_at, read_from}
 use Rattle.diff.specs.Prices.{Price, priced_word, prices_after, prices_from}
 use Rattle.diff.specs.declared.Step.TheVariants.{Next, End, Fault}
-use Rattle.diff.specs.declared.Verdict.TheVariants.{Good, Faulty}
 use Rattle.diff.proofs.Reading.{WordCase, a_price, a_page, a_run, an_end, a_fault, word_case}
 
 -- words that read well from a state and an index on, and their prices
@@ -82,14 +81,14 @@ module _ (pages : ℕ) (s : Cursor) (index w : ℕ) (ws : List ℕ) (step : Step
     unfolding prices_from
     prices_word = simp does
 
-good_as : {k k' n n' : ℕ} → k ≡ k' → n ≡ n' → Good k n ≡ Good k' n'
+good_as : {k k' n n' : ℕ} → k ≡ k' → n ≡ n' → read_well k n ≡ read_well k' n'
 good_as e f = cc
 
 -- whatever follows the end word
 module _ (pages : ℕ) (rest : List ℕ) where
   pub reads_good_then : {s : Cursor} {index : ℕ} {ws : List ℕ} {ps : List Price} → Reads pages s index ws ps
       → index + length ws ≤ most_words
-      → read_from pages (ws ++ rest) index s ≡ Good (s.prices + length ps) (index + length ws)
+      → read_from pages (ws ++ rest) index s ≡ read_well (s.prices + length ps) (index + length ws)
   reads_good_then {s} {index} (reads_end none gap) few =
       read_word pages s index (end_word index) rest End (step_end pages s index none gap (omega arith)) (omega arith)
       ∙ rw add-zero
@@ -123,7 +122,7 @@ module _ (pages : ℕ) (rest : List ℕ) where
 -- and where nothing follows
 module _ (pages : ℕ) {s : Cursor} {index : ℕ} {ws : List ℕ} {ps : List Price} (reads : Reads pages s index ws ps)
     (few : index + length ws ≤ most_words) where
-  pub reads_good : read_from pages ws index s ≡ Good (s.prices + length ps) (index + length ws)
+  pub reads_good : read_from pages ws index s ≡ read_well (s.prices + length ps) (index + length ws)
   reads_good = rw (append-nil ws) at (reads_good_then pages [] reads few)
 
   pub reads_prices : prices_from pages ws index s ≡ ps
@@ -148,14 +147,17 @@ reads_some (reads_price due rest) = omega arith
 
 -- ---- what reading finds is a derivation
 
-pub not_good : {place k n : ℕ} → Faulty place ≡ Good k n → ⊥
+pub not_good : {place k n : ℕ} → fault_at place ≡ read_well k n → ⊥
 not_good e = let z : ◌≡◌ {A = ℕ} 0 1 = cc in omega arith
 
-pub good_words : {k k' n n' : ℕ} → Good k n ≡ Good k' n' → n ≡ n'
-good_words e = cc
+same_extent : {a b : Extent} → ◌≡◌ {A = Verdict} (Ok a) (Ok b) → a ≡ b
+same_extent e = cc
 
-pub good_prices : {k k' n n' : ℕ} → Good k n ≡ Good k' n' → k ≡ k'
-good_prices e = cc
+pub good_words : {k k' n n' : ℕ} → read_well k n ≡ read_well k' n' → n ≡ n'
+good_words e = ap (λ (read : Extent). read.words) (same_extent e)
+
+pub good_prices : {k k' n n' : ℕ} → read_well k n ≡ read_well k' n' → k ≡ k'
+good_prices e = ap (λ (read : Extent). read.prices) (same_extent e)
 
 pub no_words : (ws : List ℕ) → length ws ≡ 0 → ws ≡ []
 no_words [] e = refl
@@ -163,21 +165,21 @@ no_words (w ∷ ws) e = absurd (omega arith)
 
 -- reading goes well only within 512 words
 module _ (pages k n w : ℕ) (ws : List ℕ) (s : Cursor) (index : ℕ) where
-  pub after_word_lem : read_from pages (w ∷ ws) index s ≡ Good k n
-      → verdict_after (read_from pages ws (index + 1)) s index (word_step pages s index w) ≡ Good k n
+  pub after_word_lem : read_from pages (w ∷ ws) index s ≡ read_well k n
+      → verdict_after (read_from pages ws (index + 1)) s index (word_step pages s index w) ≡ read_well k n
   unfolding read_from
   after_word_lem read = go (eqb index most_words) read
     where
-      go : {v : Verdict} (over : Bool) → cond over (Faulty most_words) v ≡ Good k n → v ≡ Good k n
+      go : {v : Verdict} (over : Bool) → cond over (fault_at most_words) v ≡ read_well k n → v ≡ read_well k n
       go true e = absurd (not_good e)
       go false e = e
 
-  pub before_limit : read_from pages (w ∷ ws) index s ≡ Good k n → index ≡ most_words → ⊥
+  pub before_limit : read_from pages (w ∷ ws) index s ≡ read_well k n → index ≡ most_words → ⊥
   unfolding read_from
   before_limit read full = not_good (simp (eq-eqb index most_words full) at read)
 
 -- and the end word is one of the words
-pub good_within : (pages k n : ℕ) (ws : List ℕ) (s : Cursor) (index : ℕ) → read_from pages ws index s ≡ Good k n
+pub good_within : (pages k n : ℕ) (ws : List ℕ) (s : Cursor) (index : ℕ) → read_from pages ws index s ≡ read_well k n
     → n ≤ index + length ws
 unfolding read_from
 good_within pages k n [] s index read = absurd (not_good read)
@@ -185,8 +187,8 @@ good_within pages k n (w ∷ ws) s index read =
     go (word_step pages s index w) (after_word_lem pages k n w ws s index read)
     (λ t. good_within pages k n ws t (index + 1))
   where
-    go : (step : Step) → verdict_after (read_from pages ws (index + 1)) s index step ≡ Good k n
-        → ((t : Cursor) → read_from pages ws (index + 1) t ≡ Good k n → n ≤ index + 1 + length ws)
+    go : (step : Step) → verdict_after (read_from pages ws (index + 1)) s index step ≡ read_well k n
+        → ((t : Cursor) → read_from pages ws (index + 1) t ≡ read_well k n → n ≤ index + 1 + length ws)
         → n ≤ index + suc (length ws)
     go (Next t) e rest = omega (arith, rest t e)
     go End e rest = omega (arith, good_words e)
@@ -195,14 +197,14 @@ good_within pages k n (w ∷ ws) s index read =
 module _ (pages : ℕ) where
   -- words that read well from an index on, k prices in all, with nothing after their end word
   abbrev pub ReadsWhole : ℕ → List ℕ → ℕ → Cursor → Type 0
-  ReadsWhole k ws index s = read_from pages ws index s ≡ Good k (index + length ws)
+  ReadsWhole k ws index s = read_from pages ws index s ≡ read_well k (index + length ws)
 
   module _ (k w : ℕ) (ws : List ℕ) (s : Cursor) (index : ℕ) where
     as_word : {v : ℕ} {ps : List Price} → w ≡ v → Reads pages s index (v ∷ ws) ps → Reads pages s index (w ∷ ws) ps
     as_word {ps = ps} word = subst (λ (v : ℕ). Reads pages s index (v ∷ ws) ps) (sym word)
 
     by_word : (step : Step) → word_step pages s index w ≡ step → WordCase pages s index w step
-        → verdict_after (read_from pages ws (index + 1)) s index step ≡ Good k (index + 1 + length ws)
+        → verdict_after (read_from pages ws (index + 1)) s index step ≡ read_well k (index + 1 + length ws)
         → ((t : Cursor) → ReadsWhole k ws (index + 1) t
         → Reads pages t (index + 1) ws (prices_from pages ws (index + 1) t))
         → Reads pages s index (w ∷ ws) (prices_from pages (w ∷ ws) index s)

@@ -16,6 +16,7 @@ pub mod Marks
 pub mod Room
 pub mod Making
 pub mod OnlyDiff
+pub mod Checking
 pub mod MadeDiff
 pub mod MadeOfChanges
 pub mod Merging

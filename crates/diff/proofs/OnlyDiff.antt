@@ -1,14 +1,12 @@
 -- For each set of labels and their prices one allowed diff: an allowed diff is the encoding of ascending prices, and
 -- these are told apart by the labels that they name and the prices that they set.
-use Rattle.std.specs.Prelude.{ℕ, ◌+◌, ◌-◌, ◌*◌, ◌≤◌, ◌≡◌, List, Bool, true, false, cond, length, ltb}
+use Rattle.std.specs.Prelude.{ℕ, ◌+◌, ◌-◌, ◌*◌, ◌≤◌, ◌≡◌, List, Bool, true, false, cond, length, ltb, Ok, Err}
 use Rattle.laws.proofs.Prelude.{refl, sym, ap, ◌∙◌, arith, dec_lt, ltb-false, le-ltb}
 use native.Mathlib.Nat.{zero-add}
 use lib.ListN.{length-append}
 use Rattle.answer.specs.Outcome.{given, refused_at, faulty_list}
 use Rattle.diff.specs.Format.{most_words}
-use Rattle.diff.specs.Reading.{start, read_diff, whole_diff, check_diff}
-use Rattle.diff.specs.declared.Verdict.{Verdict}
-use Rattle.diff.specs.declared.Verdict.TheVariants.{Good, Faulty}
+use Rattle.diff.specs.Reading.{Verdict, Extent, start, read_diff, whole_diff, check_diff}
 use Rattle.diff.specs.Prices.{Price, prices_of, names, applied_at}
 use Rattle.diff.specs.Encoding.{encode_from, encode, listed, listed_diff}
 use Rattle.diff.specs.OnlyDiff.{Allowed, DiffOf, OneDiffForPrices}
@@ -31,16 +29,16 @@ allowed_whole pages diff ok = go (read_diff pages diff) refl ok
   where
     go : (v : Verdict) → read_diff pages diff ≡ v → (whole_diff (length diff) v).number ≡ 0
         → (k : ℕ) × ReadsWhole pages k diff 0 start
-    go (Good k n) read e =
-        let all : n ≡ 0 + length diff = omega
-        (arith, good_within pages k n diff start 0 read, past n (ltb n (length diff)) refl e) in
-        (k, rw (← all) read)
+    go (Ok e) read passed =
+        let all : e.words ≡ 0 + length diff = omega
+        (arith, good_within pages e.prices e.words diff start 0 read, past e (ltb e.words (length diff)) refl passed) in
+        (e.prices, rw (← all) read)
       where
-        past : (n : ℕ) (cut : Bool) → ltb n (length diff) ≡ cut
-            → (cond cut (refused_at faulty_list n) (given k)).number ≡ 0 → length diff ≤ n
-        past n true cut e = absurd (omega arith)
-        past n false whole e = ltb-false n (length diff) whole
-    go (Faulty place) read e = absurd (omega arith)
+        past : (e : Extent) (cut : Bool) → ltb e.words (length diff) ≡ cut
+            → (cond cut (refused_at faulty_list e.words) (given e.prices)).number ≡ 0 → length diff ≤ e.words
+        past e true cut passed = absurd (omega arith)
+        past e false whole passed = ltb-false e.words (length diff) whole
+    go (Err error) read e = absurd (omega arith)
 
 pub allowed_few : (pages : ℕ) (diff : List ℕ) → Allowed pages diff → length diff ≤ 512
 allowed_few pages diff allowed =

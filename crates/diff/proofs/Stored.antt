@@ -2,15 +2,14 @@
 use Rattle.std.specs.Prelude.{ℕ, zero, suc, ◌+◌, ◌≤◌, ◌<◌, ◌≡◌, List, [], ◌∷◌, length, get_or}
 use Rattle.laws.proofs.Prelude.{refl, arith, lt-ltb, le-ltb}
 use Rattle.diff.specs.Format.{most_words}
-use Rattle.diff.specs.Reading.{Cursor, Step, start, word_step, verdict_after, read_from}
+use Rattle.diff.specs.Reading.{Cursor, Step, start, word_step, verdict_after, read_well, read_from}
 use Rattle.diff.specs.Prices.{Price, prices_from, prices_of}
-use Rattle.diff.specs.declared.Verdict.TheVariants.{Good}
 use Rattle.diff.proofs.Reading.{WordCase, a_price, a_page, a_run, an_end, a_fault, word_case}
 use Rattle.diff.proofs.Derivation.{not_good, good_words, good_prices, after_word_lem, before_limit, prices_word}
 
 -- the number of prices is that of the words read and of those before
 module _ (pages k n : ℕ) where
-  pub good_counts : (ws : List ℕ) (s : Cursor) (index : ℕ) → read_from pages ws index s ≡ Good k n
+  pub good_counts : (ws : List ℕ) (s : Cursor) (index : ℕ) → read_from pages ws index s ≡ read_well k n
       → k ≡ s.prices + length (prices_from pages ws index s)
   unfolding read_from
   good_counts [] s index read = absurd (not_good read)
@@ -19,11 +18,11 @@ module _ (pages k n : ℕ) where
       (λ t. good_counts ws t (index + 1))
     where
       Rest : Type 0
-      Rest = (t : Cursor) → read_from pages ws (index + 1) t ≡ Good k n
+      Rest = (t : Cursor) → read_from pages ws (index + 1) t ≡ read_well k n
           → k ≡ t.prices + length (prices_from pages ws (index + 1) t)
 
       go : (step : Step) → word_step pages s index w ≡ step → WordCase pages s index w step
-          → verdict_after (read_from pages ws (index + 1)) s index step ≡ Good k n → Rest
+          → verdict_after (read_from pages ws (index + 1)) s index step ≡ read_well k n → Rest
           → k ≡ s.prices + length (prices_from pages (w ∷ ws) index s)
       go _ does (a_price due) read rest =
           let r = rest _ read in
@@ -38,7 +37,7 @@ module _ (pages k n : ℕ) where
       go _ does (a_fault _) read rest = absurd (not_good read)
 
   -- each price is a word, and there are at most 512 words
-  pub good_few : (ws : List ℕ) (s : Cursor) (index : ℕ) → read_from pages ws index s ≡ Good k n → s.prices ≤ index
+  pub good_few : (ws : List ℕ) (s : Cursor) (index : ℕ) → read_from pages ws index s ≡ read_well k n → s.prices ≤ index
       → index ≤ most_words → (k < n) × (n ≤ most_words)
   unfolding read_from
   good_few [] s index read few low = absurd (not_good read)
@@ -49,11 +48,11 @@ module _ (pages k n : ℕ) where
       within = before_limit pages k n w ws s index read
 
       Rest : Type 0
-      Rest = (t : Cursor) → read_from pages ws (index + 1) t ≡ Good k n → t.prices ≤ index + 1 → index + 1 ≤ most_words
+      Rest = (t : Cursor) → read_from pages ws (index + 1) t ≡ read_well k n → t.prices ≤ index + 1 → index + 1 ≤ most_words
           → (k < n) × (n ≤ most_words)
 
       go : (step : Step) → WordCase pages s index w step
-          → verdict_after (read_from pages ws (index + 1)) s index step ≡ Good k n
+          → verdict_after (read_from pages ws (index + 1)) s index step ≡ read_well k n
           → Rest → (k < n) × (n ≤ most_words)
       go _ (a_price due) read rest = rest _ read (omega arith) (omega (arith, within))
       go _ (a_page _ _ _ _ _) read rest = rest _ read (omega arith) (omega (arith, within))

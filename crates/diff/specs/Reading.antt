@@ -1,14 +1,14 @@
 -- Reading a diff word by word, against the rules of document 01, "The list of changes", and refusal 7 with its place.
 -- Assumes nothing: these are definitions.
-use Rattle.std.specs.Prelude.{ℕ, ◌+◌, ◌-◌, List, [], ◌∷◌, Bool, cond, length, ltb, leb, eqb}
+use Rattle.std.specs.Prelude.{ℕ, ◌+◌, ◌-◌, List, [], ◌∷◌, Bool, cond, length, ltb, leb, eqb, Result, Ok, Err}
 use Rattle.answer.specs.declared.Outcome.{Outcome}
 use Rattle.answer.specs.Outcome.{given, refused_at, faulty_list}
 use Rattle.diff.specs.Format.{kind, low, offset, count, most_words}
 pub use Rattle.diff.specs.declared.Cursor.{Cursor}
 pub use Rattle.diff.specs.declared.Step.{Step}
 use Rattle.diff.specs.declared.Step.TheVariants.{Next, End, Fault}
-pub use Rattle.diff.specs.declared.Verdict.{Verdict}
-use Rattle.diff.specs.declared.Verdict.TheVariants.{Good, Faulty}
+pub use Rattle.diff.specs.declared.Extent.{Extent}
+pub use Rattle.diff.specs.declared.ReadError.{ReadError}
 
 -- before the first word: no page yet, so nothing that lacks a run
 abbrev pub start : Cursor
@@ -86,18 +86,32 @@ word_step pages s index w =
     (cond (eqb (kind w) 2) (run_step s w)
     (cond (eqb (kind w) 15) (end_step s index w) Fault)))
 
+-- ---- all words
+
+-- what reading a diff comes to
+abbrev pub Verdict : Type 0
+Verdict = Result Extent ReadError
+
+-- read to an end word: so many prices, and so many words, the end word among them
+abbrev pub read_well : ℕ → ℕ → Verdict
+read_well prices words = Ok (record { prices = prices; words = words })
+
+-- a fault at a place
+abbrev pub fault_at : ℕ → Verdict
+fault_at place = Err (record { place = place })
+
 -- reading goes on after a word, or is over
 abbrev pub verdict_after : (Cursor → Verdict) → Cursor → ℕ → Step → Verdict
 verdict_after rest s index (Next t) = rest t
-verdict_after rest s index End = Good s.prices (index + 1)
-verdict_after rest s index Fault = Faulty index
+verdict_after rest s index End = read_well s.prices (index + 1)
+verdict_after rest s index Fault = fault_at index
 
 -- The words from an index on. A place is the first word that breaks a rule, the length if the list stops early,
 -- 512 if it is longer.
 unfoldable pub read_from : ℕ → List ℕ → ℕ → Cursor → Verdict
-read_from pages [] index s = Faulty index
+read_from pages [] index s = fault_at index
 read_from pages (w ∷ ws) index s =
-    cond (eqb index most_words) (Faulty most_words)
+    cond (eqb index most_words) (fault_at most_words)
     (verdict_after (read_from pages ws (index + 1)) s index (word_step pages s index w))
 
 -- a list read to its end word, as those in a card's area are
@@ -106,8 +120,8 @@ read_diff pages ws = read_from pages ws 0 start
 
 -- "Nothing follows the end word of a list handed in."
 abbrev pub whole_diff : ℕ → Verdict → Outcome
-whole_diff words (Good prices end) = cond (ltb end words) (refused_at faulty_list end) (given prices)
-whole_diff words (Faulty place) = refused_at faulty_list place
+whole_diff words (Ok read) = cond (ltb read.words words) (refused_at faulty_list read.words) (given read.prices)
+whole_diff words (Err error) = refused_at faulty_list error.place
 
 -- a list handed in: the number of its prices, or refusal 7 with its place
 unfoldable pub check_diff : ℕ → List ℕ → Outcome

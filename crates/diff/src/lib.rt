@@ -3,7 +3,10 @@
 // The types are declared here; the code that reads and makes diffs stands in the crates above.
 #![tactic(auto)]
 
+ghost use Rattle.std.specs.Prelude.{◌≡◌, ◌<◌};
 ghost use Rattle.laws.specs.Examples.{AllHold};
+ghost use Rattle.answer.specs.declared.Refusal.TheVariants.{FaultyList};
+ghost use Rattle.diff.specs.Prices.{label_of};
 ghost use Rattle.diff.specs.OnlyDiff.{OneDiffForPrices};
 ghost use Rattle.diff.specs.MadeDiff.{MadeOfMarksOnly, MakesAllowedDiff, MarksAreChanges};
 ghost use Rattle.diff.specs.MadeDiff.{StoresChanges, MadeIsOnlyDiff};
@@ -11,6 +14,10 @@ ghost use Rattle.diff.specs.MergedDiff.{MergedIsBoth, AnswersMerges, MergesEithe
 ghost use Rattle.diff.specs.MergedDiff.{EmptyChangesNothing};
 ghost use Rattle.diff.specs.Examples.{examples};
 ghost use Rattle.diff.specs.MergeExamples.{merge_examples};
+
+pub mod format;
+
+use answer::Refusal;
 
 // Where the reading of a diff stands.
 #[derive(Clone, Copy)]
@@ -30,7 +37,8 @@ pub struct Cursor {
     pub prices: u32,
 }
 
-// What one word does to the reading.
+// What one word does to the reading. It has three cases of one weight, which no `Option` or `Result`
+// names.
 #[derive(Clone, Copy)]
 pub enum Step {
     Next(Cursor),
@@ -38,13 +46,27 @@ pub enum Step {
     Fault,
 }
 
-// What reading a diff comes to.
+// How much a diff has that was read to its end word.
 #[derive(Clone, Copy)]
-pub enum Verdict {
-    // Its prices and its words, the end word among them.
-    Good(u32, u32),
-    // The place of the fault.
-    Faulty(u32),
+pub struct Extent {
+    pub prices: u32,
+    // The end word among them.
+    pub words: u32,
+}
+
+// Why a diff was not read to an end word.
+#[derive(Clone, Copy)]
+pub struct ReadError {
+    // The first word that breaks a rule, or the length of a list that stops early.
+    pub place: u32,
+}
+
+impl From<ReadError> for Refusal {
+    ghost from_gives = { λ error refusal. refusal ≡ FaultyList error.place };
+
+    fn from(error: ReadError) -> Refusal {
+        Refusal::FaultyList(error.place)
+    }
 }
 
 // One word of one page, and the price that it is set to.
@@ -53,6 +75,16 @@ pub struct Price {
     pub page: u32,
     pub word: u32,
     pub price: u32,
+}
+
+impl Price {
+    // The number of its word among those of all pages.
+    pub fn label(self) -> u32
+        requires { (self.page < 64) × (self.word < 32) }
+        ensures { result ≡ label_of self }
+    {
+        32 * self.page + self.word
+    }
 }
 
 // For each set of labels and their prices document 01 allows one diff, where the gate shows it. It

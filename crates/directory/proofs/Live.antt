@@ -1,11 +1,14 @@
 -- Laws of the search for a live card, and of the next live card.
 use Rattle.std.specs.Prelude.{ℕ, zero, suc, ◌+◌, ◌-◌, ◌<◌, ◌≤◌, ◌≡◌, List, [], ◌∷◌, Bool, true, false, cond, ◌≢◌}
-use Rattle.std.specs.Prelude.{length, get_or, set}
+use Rattle.std.specs.Prelude.{length, get_or, set, Option, None, Some, MatchOption}
+use Rattle.std.specs.Option.{unwrap_or}
+use Rattle.std.proofs.lemmas.Option.{MatchOption-at_some, MatchOption-at_none}
 use Rattle.laws.proofs.Prelude.{refl, sym, ap, ◌∙◌, true≢false, dec_lt, ℕ_discrete, arith, lt-ltb, le-ltb}
 use lib.ListN.{get_or-eq_default}
 use lib.Seq.{get_or-set_other}
-use Rattle.laws.proofs.Search.{Stops, lowest_stops, lowest_all_fail}
-use Rattle.directory.specs.Live.{live_at, first_live, next_live}
+use Prim.Native.Nat.{min}
+use Rattle.laws.proofs.Search.{Stops, lowest_stops, lowest_all_fail, lowest_end}
+use Rattle.directory.specs.Live.{live_at, first_live, found_live, next_live}
 
 -- ---- one mark
 
@@ -45,6 +48,30 @@ pub first_live_stops : (marks : List Bool) (from cards : ℕ)
     → Stops (live_at marks) from (cards - from) (first_live marks from cards)
 first_live_stops marks from cards = lowest_stops (live_at marks) from (cards - from)
 
+-- ---- the card found, if there is one
+
+module _ (marks : List Bool) (from cards : ℕ) where
+  pub found_live_some : (card : ℕ) → first_live marks from cards ≡ card → card < cards
+      → Some card ≡ found_live marks from cards
+  found_live_some card e below = rw (e, lt-ltb card cards below)
+
+  pub found_live_none : cards ≤ first_live marks from cards → None ≡ found_live marks from cards
+  found_live_none past = rw (le-ltb _ _ past)
+
+  -- of the numbers from `cards` on none is a card's
+  found_live_late : cards ≤ from → None ≡ found_live marks from cards
+  found_live_late late = found_live_none (omega (arith, lowest_end (live_at marks) from cards late))
+
+-- a search that begins at the highest number of n bits, where the one meant is past it
+pub found_live_capped : (marks : List Bool) (from cap cards : ℕ) → cards ≤ cap
+    → found_live marks (min from cap) cards ≡ found_live marks from cards
+found_live_capped marks from cap cards few =
+    elim (dec_lt cap from) [
+      | yes past ↦
+          sym (found_live_late marks (min from cap) cards (omega arith)) ∙ found_live_late marks from cards (omega arith)
+      | no within ↦ let same : min from cap ≡ from = omega arith in rw same
+    ]
+
 -- ---- the next live card, by its properties
 
 module _ (marks : List Bool) (cards c : ℕ) where
@@ -59,6 +86,30 @@ module _ (marks : List Bool) (cards c : ℕ) where
   pub next_live_round : cards ≤ first_live marks (c + 1) cards → next_live marks cards c ≡ first_live marks 0 cards
   unfolding next_live
   next_live_round h = ap next_if (le-ltb _ _ h)
+
+-- the card found above c, else the one found from 0 on
+pub next_live_found : (marks : List Bool) (cards c : ℕ) (above other : Option ℕ)
+    → above ≡ found_live marks (c + 1) cards
+    → MatchOption above (other ≡ found_live marks 0 cards) (λ card. other ≡ Some card)
+    → unwrap_or other cards ≡ next_live marks cards c
+next_live_found marks cards c above other is either =
+    elim (dec_lt (first_live marks (c + 1) cards) cards) [
+      | yes up ↦
+          let found = is ∙ sym (found_live_some marks (c + 1) cards _ refl up) in
+          rw (MatchOption-at_some _ _ _ found either) (sym (next_live_up marks cards c up))
+      | no none ↦
+          let missed = is ∙ sym (found_live_none marks (c + 1) cards (omega arith)) in
+          rw (MatchOption-at_none _ _ missed either, next_live_round marks cards c (omega arith)) first
+    ]
+  where
+    first : unwrap_or (found_live marks 0 cards) cards ≡ first_live marks 0 cards
+    first =
+        elim (dec_lt (first_live marks 0 cards) cards) [
+          | yes found ↦ rw (lt-ltb _ _ found)
+          | no none ↦
+              let stops = lowest_stops (live_at marks) 0 (cards - 0) in
+              rw (le-ltb (first_live marks 0 cards) cards (omega arith)) (omega arith)
+        ]
 
 -- n is the next live card after c: no card passed on the way up from c to n is live
 pub record IsNext (marks : List Bool) (cards c n : ℕ) : Type 0 where

@@ -306,3 +306,6 @@ next_names_live =
           next_live_other d.live d.cards kept another.card another.below another.live
           another.differs;
     }
+
+-- the theorems that the crate states
+pub ruleset new_home_theorems = (evenly_shared, even_names_live, next_names_live)

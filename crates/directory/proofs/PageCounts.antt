@@ -1,20 +1,21 @@
 -- Laws of the counts of pages: one page more, the loops that count pages and look for the fewest, and counts that stay
 -- right while homes are given out.
-use Rattle.std.specs.Prelude.{ℕ, ◌+◌, ◌<◌, ◌≤◌, ◌≡◌, ◌≢◌, List, Bool, true, false, cond, ◌&&◌, ◌||◌, length, get_or}
+use Rattle.std.specs.Prelude.{ℕ, ◌+◌, ◌<◌, ◌≤◌, ◌≡◌, ◌≢◌, List, Bool, true, false, cond, ◌||◌, length, get_or}
 use Rattle.std.specs.Prelude.{replicate, ltb, eqb}
-use Rattle.laws.proofs.Prelude.{refl, sym, ap, ◌∙◌, true≢false, ℕ_discrete, dec_lt, arith, eqb-true, eqb-false, eq-eqb}
+use Rattle.laws.proofs.Prelude.{refl, sym, ap, ◌∙◌, true≢false, ℕ_discrete, dec_lt, arith, eqb-true, eq-eqb}
 use Rattle.laws.proofs.Prelude.{ne_eqb, ltb-true, ltb-false}
-use mathlib.Core.Bool.{or_self}
+use mathlib.Core.Bool.{or_self, and-true}
 use native.Mathlib.Nat.{add-zero}
 use native.Mathlib.Numerals.{add-one}
 use lib.ListN.{length-set, get_or-eq_default}
 use lib.Seq.{get_or-set_same, get_or-set_other, ext_get_or}
-use Rattle.laws.specs.Search.{count_below}
-use Rattle.laws.proofs.Bools.{by_cond}
-use Rattle.laws.proofs.Search.{counted_few}
+use Rattle.std.specs.Prelude.{Option, None, Some, MatchOption}
+use Rattle.laws.specs.Search.{count_below, lowest_below}
+use Rattle.laws.proofs.Bools.{by_cond, and_first, and_second, and_rest}
+use Rattle.laws.proofs.Search.{counted_few, lowest_below_at, lowest_below_past, lowest_below_or}
 use Rattle.directory.specs.Directory.{Directory, is_live, with_homes, table_from, table}
-use Rattle.directory.specs.NewHome.{is_home_in, pages_in, pages_at, may_take, fewest_home, even_home}
-use Rattle.directory.specs.PageCounts.{count_at, one_added, page_more, CountsRight, fewer_of}
+use Rattle.directory.specs.NewHome.{is_home_in, pages_in, pages_at, may_take, is_fewest, fewest_home, even_home}
+use Rattle.directory.specs.PageCounts.{count_at, one_added, page_more, CountsRight, takes_over}
 use Rattle.directory.proofs.Live.{live_not_dead}
 use Rattle.directory.proofs.Table.{table-length, table_read}
 use Rattle.directory.proofs.NewHome.{taker_live, fewest_home_unique, fewest_home_none, fewest_home_agrees, Keeps}
@@ -120,96 +121,84 @@ module _ {primary secondary : List ℕ} {pages : ℕ} where
 
 -- ---- a loop that looks for the fewest: it has passed the cards below i
 
--- the card found is the lowest of the fewest among those passed; `cards` if none of them may take the page
-pub record FewestSoFar (marks : List Bool) (cards : ℕ) (count : ℕ → ℕ) (kept i found : ℕ) : Type 0 where
-  pub upto : i ≤ cards
-  pub within : found ≤ cards
-  pub passed : found < cards → (found < i) × (may_take marks kept found ≡ true)
-  pub least : (c : ℕ) → c < i → may_take marks kept c ≡ true → (found < cards) × (count found ≤ count c)
-  pub lower : (c : ℕ) → c < i → c < found → may_take marks kept c ≡ true → count found < count c
+module _ (marks : List Bool) (count : ℕ → ℕ) (kept : ℕ) where
+  -- the lowest of the fewest among those passed
+  pub record FewestBelow (i found : ℕ) : Type 0 where
+    pub below : found < i
+    pub may : may_take marks kept found ≡ true
+    pub least : (c : ℕ) → c < i → may_take marks kept c ≡ true → count found ≤ count c
+    pub lower : (c : ℕ) → c < found → may_take marks kept c ≡ true → count found < count c
 
-module _ {marks : List Bool} {cards : ℕ} {count : ℕ → ℕ} {kept : ℕ} where
-  pub fewest_of_none : FewestSoFar marks cards count kept 0 cards
-  fewest_of_none =
+  -- the card found, if any of those passed may take the page
+  abbrev pub FewestSoFar : ℕ → Option ℕ → Type 0
+  FewestSoFar i found = MatchOption found ((c : ℕ) → c < i → may_take marks kept c ≡ false) (λ card. FewestBelow i card)
+
+  pub fewest_of_none : FewestSoFar 0 None
+  fewest_of_none = λ c h. absurd (omega arith)
+
+  -- card i takes the place of the one found
+  pub fewest_changed : (i : ℕ) (found : Option ℕ) → FewestSoFar i found → takes_over marks count kept found i ≡ true
+      → FewestSoFar (i + 1) (Some i)
+  fewest_changed i None none takes =
+      let may = and_first (may_take marks kept i) true takes in
       record {
-        upto = omega arith;
-        within = omega arith;
-        passed = λ h. absurd (omega arith);
-        least = λ c h _. absurd (omega arith);
-        lower = λ c h _ _. absurd (omega arith);
+        below = omega arith;
+        may = may;
+        least = λ c h may-c.
+            elim (ℕ_discrete c i) [
+              | yes same ↦ rw same (omega arith)
+              | no other ↦ absurd (true≢false (sym may-c ∙ none c (omega arith)))
+            ];
+        lower = λ c h may-c. absurd (true≢false (sym may-c ∙ none c h));
+      }
+  fewest_changed i (Some best) far takes =
+      let may = and_first (may_take marks kept i) (ltb (count i) (count best)) takes in
+      let less = ltb-true (count i) (count best) (and_second (may_take marks kept i) (ltb (count i) (count best)) takes) in
+      record {
+        below = omega arith;
+        may = may;
+        least = λ c h may-c.
+            elim (ℕ_discrete c i) [
+              | yes same ↦ rw same (omega arith)
+              | no other ↦ omega (arith, far.least c (omega arith) may-c)
+            ];
+        lower = λ c h may-c. omega (arith, far.least c h may-c);
       }
 
-  module _ {i found : ℕ} (far : FewestSoFar marks cards count kept i found) (below : i < cards) where
-    -- card i takes the place of the one found
-    fewest_changed : may_take marks kept i ≡ true
-        → ((c : ℕ) → c < i → may_take marks kept c ≡ true → count i < count c)
-        → FewestSoFar marks cards count kept (i + 1) i
-    fewest_changed may fewer =
-        record {
-          upto = omega arith;
-          within = omega arith;
-          passed = λ h. (omega arith, may);
-          least = λ c h may-c.
-              elim (ℕ_discrete c i) [
-                | yes same ↦ rw same (omega arith)
-                | no other ↦ omega (arith, fewer c (omega arith) may-c)
-              ];
-          lower = λ c _ h may-c. fewer c h may-c;
-        }
-
-    -- the card found stays
-    fewest_stays : (may_take marks kept i ≡ true → (found < cards) × (count found ≤ count i))
-        → FewestSoFar marks cards count kept (i + 1) found
-    fewest_stays more =
-        record {
-          upto = omega arith;
-          within = far.within;
-          passed = λ h. (omega (arith, (far.passed h).0), (far.passed h).1);
-          least = λ c h may-c.
-              elim (ℕ_discrete c i) [
-                | yes same ↦ rw same (more (rw same at may-c))
-                | no other ↦ far.least c (omega arith) may-c
-              ];
-          lower = λ c h g may-c.
-              elim (ℕ_discrete c i) [
-                | yes same ↦ absurd (omega (arith, (far.passed (more (rw same at may-c)).0).0))
-                | no other ↦ far.lower c (omega arith) g may-c
-              ];
-        }
-
-    pub fewest_of_more : FewestSoFar marks cards count kept (i + 1) (fewer_of marks cards count kept found i)
-    fewest_of_more = go (may_take marks kept i) refl (eqb found cards) refl (ltb (count i) (count found)) refl
-      where
-        go : (takes : Bool) → may_take marks kept i ≡ takes → (none : Bool) → eqb found cards ≡ none
-            → (fewer : Bool) → ltb (count i) (count found) ≡ fewer
-            → FewestSoFar marks cards count kept (i + 1) (cond (takes && (none || fewer)) i found)
-        go false passes none at fewer than = fewest_stays (λ may. absurd (true≢false (sym may ∙ passes)))
-        go true may true first fewer than =
-            fewest_changed may
-            (λ c h may-c. absurd (omega (arith, (far.least c h may-c).0, eqb-true found cards first)))
-        go true may false later true less =
-            fewest_changed may
-            (λ c h may-c. omega (arith, (far.least c h may-c).1, ltb-true (count i) (count found) less))
-        go true may false later false more =
-            fewest_stays
-            (λ _. omega (arith, far.within, eqb-false found cards later, ltb-false (count i) (count found) more))
-
-  pub fewest_of_all : {i found : ℕ} → FewestSoFar marks cards count kept i found → cards ≤ i
-      → found ≡ fewest_home marks cards count kept
-  fewest_of_all {i} {found} far past =
-      elim (dec_lt found cards) [
-        | yes below ↦
-            fewest_home_unique marks cards count kept found below (far.passed below).1
-            (λ c h may-c. (far.least c (omega arith) may-c).1)
-            (λ c h may-c. far.lower c (omega arith) h may-c)
-        | no none ↦
-            let end : found ≡ cards = omega (arith, far.within) in
-            end ∙ fewest_home_none marks cards count kept (λ c h. fails c h none (may_take marks kept c) refl)
+  -- the card found stays
+  pub fewest_stays : (i : ℕ) (found : Option ℕ) → FewestSoFar i found → takes_over marks count kept found i ≡ false
+      → FewestSoFar (i + 1) found
+  fewest_stays i None none stays =
+      λ c h.
+      elim (ℕ_discrete c i) [
+        | yes same ↦ rw same (sym (and-true _) ∙ stays)
+        | no other ↦ none c (omega arith)
       ]
-    where
-      fails : (c : ℕ) → c < cards → ¬ (found < cards) → (takes : Bool) → may_take marks kept c ≡ takes → takes ≡ false
-      fails c h none true may = absurd (none (far.least c (omega arith) may).0)
-      fails c h none false may = refl
+  fewest_stays i (Some best) far stays =
+      record {
+        below = omega (arith, far.below);
+        may = far.may;
+        least = λ c h may-c.
+            elim (ℕ_discrete c i) [
+              | yes same ↦
+                  rw same
+                  (ltb-false (count i) (count best)
+                  (and_rest (may_take marks kept i) (ltb (count i) (count best)) (rw same at may-c) stays))
+              | no other ↦ far.least c (omega arith) may-c
+            ];
+        lower = far.lower;
+      }
+
+  pub fewest_of_all : (cards i : ℕ) (found : Option ℕ) → i ≡ cards → FewestSoFar i found
+      → found ≡ lowest_below (is_fewest marks cards count kept) cards
+  fewest_of_all cards i None end none =
+      lowest_below_past _ cards (omega (arith, fewest_home_none marks cards count kept (λ c h. none c (omega arith))))
+  fewest_of_all cards i (Some best) end far =
+      lowest_below_at _ cards best
+      (fewest_home_unique marks cards count kept best (omega (arith, far.below)) far.may
+      (λ c h. far.least c (omega arith))
+      far.lower)
+      (omega (arith, far.below))
 
 -- ---- counts of the live cards that are right, while homes are given out
 
@@ -238,3 +227,9 @@ module _ (d : Directory) (counts : List ℕ) (counted : CountsRight d counts) wh
             (pages_at_moved d page f kept new below in_primary in_secondary keeps c
             (λ e. live_not_dead live (rw e dead)) other);
       }
+
+-- ---- what the functions of `homes` rest on
+
+pub ruleset counting_steps = (counted_below_more, counted_below_all)
+
+pub ruleset chosen_evenly = (lowest_below_or, fewest_home_is_even)

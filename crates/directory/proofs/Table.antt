@@ -1,11 +1,14 @@
 -- Laws of the directory's arrays: tables of a function's values, arrays filled with them, and what is past the end.
 use Rattle.std.specs.Prelude.{ℕ, zero, suc, ◌+◌, ◌<◌, ◌≤◌, ◌≡◌, List, [], ◌∷◌, ◌++◌, length, drop, set, get_or}
-use Rattle.laws.proofs.Prelude.{refl, sym, ap, ◌∙◌, arith}
+use Rattle.std.specs.Array.{IsFromFnResult, IsFromFnResultFrom}
+use Rattle.std.specs.Fn.{Called}
+use denote.Param.Members.{Mut}
+use Rattle.laws.proofs.Prelude.{refl, sym, ap, ◌∙◌, subst, ℕ_discrete, arith, eq-eqb, ne_eqb}
 use mathlib.Core.List.{append-nil}
 use native.Mathlib.Nat.{add-zero, zero-add}
 use native.Mathlib.Numerals.{add-one}
 use lib.ListN.{length-set, drop_of_length-le, get_or-eq_default}
-use lib.Seq.{drop-cons, set_at, set_out, append_snoc}
+use lib.Seq.{ext_get_or, drop-cons, set_at, set_out, get_or-set_other, append_snoc}
 use Rattle.directory.specs.Directory.{table_from, table}
 
 module _ {A : Type 0} (f : ℕ → A) where
@@ -34,6 +37,38 @@ module _ {A : Type 0} (f : ℕ → A) where
 
   pub table_read : (n k : ℕ) (default : A) → k < n → get_or (table f n) k default ≡ f k
   table_read n k default h = table_from_read 0 n k default h ∙ ap f (zero-add k)
+
+no_table : {A : Type 0} (f : ℕ → A) (n : ℕ) → n ≡ 0 → [] ≡ table f n
+unfolding table_from
+no_table f n none = rw none
+
+-- a list with the items of a table
+pub table_by_items : {A : Type 0} (ys : List A) (f : ℕ → A) (n : ℕ) → length ys ≡ n
+    → ((i : ℕ) (default : A) → i < n → get_or ys i default ≡ f i) → ys ≡ table f n
+table_by_items [] f n long items = no_table f n (omega arith)
+table_by_items (y ∷ ys) f n long items =
+    ext_get_or y (y ∷ ys) (table f n) (long ∙ sym (table-length f n))
+    (λ i below. items i y (omega arith) ∙ sym (table_read f n i y (omega arith)))
+
+-- ---- an array that is made of what a closure answers, which no call of it changes
+
+module _ {F A : Type 0} (g : Mut F (ℕ × Unit {0}) A) (f : F) (v : ℕ → A) (ys : List A) (all : ℕ)
+    (answers : (i : ℕ) (a : A) (f' : F) → i < all → Called g f (i, tt) a f' → (a ≡ v i) × (f' ≡ f)) where
+  made_from : (i n : ℕ) → i + n ≡ all → IsFromFnResultFrom g f ys i n → (k : ℕ) (default : A) → i ≤ k → k < all
+      → get_or ys k default ≡ v k
+  made_from i zero end made k default from below = absurd (omega arith)
+  made_from i (suc n) end (f', a, at, call, rest) k default from below =
+      elim (ℕ_discrete k i) [
+        | yes same ↦ rw same (at.1 default ∙ (answers i a f' (omega arith) call).0)
+        | no other ↦
+            let kept = subst (λ h. IsFromFnResultFrom g h ys (i + 1) n) (answers i a f' (omega arith) call).1 rest in
+            made_from (i + 1) n (omega arith) kept k default (omega arith) below
+      ]
+
+  pub table_made : IsFromFnResult g f ys all → ys ≡ table v all
+  table_made made =
+      table_by_items ys v all made.long
+      (λ i default below. made_from 0 all (omega arith) made.each i default (omega arith) below)
 
 -- ---- an array that is filled with a table's values from the front
 
@@ -74,7 +109,13 @@ module _ {A : Type 0} {f : ℕ → A} {start : List A} where
       let past : length start ≤ n = omega arith in
       filled.front ∙ rw (all, drop_of_length-le start past) (append-nil (table f n))
 
--- ---- past the end of an array of n
+-- ---- past the end
+
+pub ruleset set_past = (set_out)
+
+pub ruleset set_elsewhere = (get_or-set_other, eq-eqb, ne_eqb)
+
+-- of an array of n
 
 module _ {A : Type 0} (array : List A) (n i : ℕ) (a : A) where
   pub read_past_end : length array ≡ n → n ≤ i → a ≡ get_or array i a

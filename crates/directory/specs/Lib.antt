@@ -4,3 +4,4 @@ pub mod Directory
 pub mod NewHome
 pub mod PageCounts
 pub mod Examples
+pub mod Lent

@@ -1,6 +1,7 @@
 -- Inner contracts only. Counts of pages, one for each card, kept while homes are given out: what the functions of the
 -- module `homes` do with them.
-use Rattle.std.specs.Prelude.{ℕ, ◌+◌, ◌<◌, ◌≤◌, ◌≡◌, List, Bool, true, cond, ◌&&◌, ◌||◌, length, get_or, set, ltb, eqb}
+use Rattle.std.specs.Prelude.{ℕ, ◌+◌, ◌<◌, ◌≤◌, ◌≡◌, List, Bool, true, cond, ◌&&◌, length, get_or, set, ltb, eqb}
+use Rattle.std.specs.Prelude.{Option, None, Some}
 use Rattle.directory.specs.Directory.{Directory, is_live}
 use Rattle.directory.specs.NewHome.{pages_at, may_take}
 
@@ -27,7 +28,11 @@ pub record PagesWithin (pages : ℕ) (primary secondary : List ℕ) : Type 0 whe
 pub record CountsRight (d : Directory) (counts : List ℕ) : Type 0 where
   pub right : (c : ℕ) → c < d.cards → is_live d c ≡ true → count_at counts c ≡ pages_at d c
 
--- of the card found so far, `cards` if there is none, and card c: the one that is home to fewer pages
-abbrev pub fewer_of : List Bool → ℕ → (ℕ → ℕ) → ℕ → ℕ → ℕ → ℕ
-fewer_of marks cards count kept found c =
-    cond (may_take marks kept c && (eqb found cards || ltb (count c) (count found))) c found
+-- whether card c is home to fewer pages than the card found so far, if there is one
+abbrev pub has_fewer : (ℕ → ℕ) → Option ℕ → ℕ → Bool
+has_fewer count None c = true
+has_fewer count (Some found) c = ltb (count c) (count found)
+
+-- whether it takes that card's place
+abbrev pub takes_over : List Bool → (ℕ → ℕ) → ℕ → Option ℕ → ℕ → Bool
+takes_over marks count kept found c = may_take marks kept c && has_fewer count found c

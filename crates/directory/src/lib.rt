@@ -4,9 +4,10 @@
 
 ghost use Rattle.std.specs.Prelude.{◌≡◌, ◌<◌, ◌≤◌, length};
 ghost use Rattle.laws.specs.Examples.{AllHold};
-ghost use Rattle.directory.specs.Live.{live_at, first_live, next_live};
+ghost use Rattle.directory.specs.Lent.{lent};
+ghost use Rattle.directory.specs.Live.{live_at, found_live, next_live};
 ghost use Rattle.directory.specs.Directory.{header_of, next_live_of, backup_of};
-ghost use Rattle.directory.specs.Directory.{marked_dead, marked_live};
+ghost use Rattle.directory.specs.Directory.{with_mark, marked_dead, marked_live, with_status};
 ghost use Rattle.directory.specs.Directory.{with_homes, formatted_marks, formatted_primary};
 ghost use Rattle.directory.specs.Directory.{formatted_secondary, table, formatted_directory};
 ghost use Rattle.directory.specs.Directory.{empty_directory};
@@ -14,8 +15,14 @@ ghost use Rattle.directory.specs.NewHome.{EvenlyShared, NamesLive, even_home, ne
 ghost use Rattle.directory.specs.Examples.{examples};
 
 pub mod homes;
+pub mod lent;
 
-#[derive(Clone, Copy)]
+use lent::LentDirectory;
+use std::array;
+
+// Named cases in place of an `Option` of a card: what no card means, that the rack runs, is said
+// wherever a status is made or read.
+#[derive(Clone, Copy, PartialEq, Eq)]
 pub enum Status {
     Running,
     // Recovery of this card is awaited.
@@ -43,37 +50,17 @@ pub struct Header {
     pub status: Status,
 }
 
-// The first live card at or above `from` and below `cards`, or `cards` if there is none.
-// It ends with the marks, so that it is short for any number of cards.
-fn first_live(marks: &[bool], from: u32, cards: u32) -> u32
-    requires { from ≤ cards }
-    ensures { result ≡ first_live marks.now from cards }
+// The first live card at or above `from` and below `cards`, if there is one. It ends with the marks,
+// so that it is short for any number of cards.
+fn first_live(marks: &[bool; 8], from: u32, cards: u32) -> Option<u32>
+    ensures { result ≡ found_live marks.now from cards }
 {
-    let mut card = from;
-    while card < cards {
-        let at = card as usize;
-        if marks.len() <= at {
-            return cards;
-        }
-        if marks[at] {
-            return card;
-        }
-        card += 1;
-    }
-    cards
-}
-
-// The next live card after `card`, over marks that are lent.
-fn next_live_after(marks: &[bool], cards: u32, card: u32) -> u32
-    ensures { result ≡ next_live marks.now cards card }
-{
-    if card < cards {
-        let next = first_live(marks, card + 1, cards);
-        if next < cards {
-            return next;
+    for card in from..cards.min(8) {
+        if marks[card as usize] {
+            return Some(card);
         }
     }
-    first_live(marks, 0, cards)
+    None
 }
 
 impl Header {
@@ -81,20 +68,16 @@ impl Header {
     pub fn is_live(self, card: u32) -> bool
         ensures { result ≡ live_at self.live card }
     {
-        let at = card as usize;
-        if at < 8 {
-            let live = self.live;
-            return live[at];
-        }
-        false
+        self.live.get(card as usize).copied().unwrap_or(false)
     }
 
-    // The next live card after it.
+    // The next live card after it, or the number of cards if none is live.
     pub fn backup(self, card: u32) -> u32
         ensures { result ≡ next_live self.live self.cards card }
     {
-        let live = self.live;
-        next_live_after(&live, self.cards, card)
+        first_live(&self.live, card.saturating_add(1), self.cards)
+            .or_else(|| first_live(&self.live, 0, self.cards))
+            .unwrap_or(self.cards)
     }
 }
 
@@ -103,20 +86,32 @@ impl Directory {
         ensures { result ≡ header_of self }
     {
         let live = self.live;
-        let status = self.status;
         Header {
             cards: self.cards,
             pages: self.pages,
             live,
-            status,
+            status: self.status,
+        }
+    }
+
+    // The same, with its homes lent.
+    pub fn lend(&self) -> LentDirectory<'_>
+        ensures whole { lent result ≡ self.now }
+        ensures header { result.header ≡ header_of self.now }
+        ensures primary { result.primary.now ≡ self.now.primary }
+        ensures secondary { result.secondary.now ≡ self.now.secondary }
+    {
+        LentDirectory {
+            header: self.header(),
+            primary: &self.primary,
+            secondary: &self.secondary,
         }
     }
 
     pub fn next_live(self, card: u32) -> u32
         ensures { result ≡ next_live_of self card }
     {
-        let live = self.live;
-        next_live_after(&live, self.cards, card)
+        self.header().backup(card)
     }
 
     pub fn backup(self, card: u32) -> u32
@@ -125,26 +120,37 @@ impl Directory {
         self.next_live(card)
     }
 
-    pub fn mark_dead(mut self, card: u32) -> Self
+    // Past the marks none is set. The test is plain, since with `get_mut` the proof does not close.
+    #[tactic(auto, using(crate::proofs::Changes::marked_past_end))]
+    fn with_mark(mut self, card: u32, live: bool) -> Self
+        ensures { result ≡ with_mark self card live }
+    {
+        if card < 8 {
+            self.live[card as usize] = live;
+        }
+        self
+    }
+
+    pub fn mark_dead(self, card: u32) -> Self
         ensures { result ≡ marked_dead self card }
     {
-        let at = card as usize;
-        if at < 8 {
-            self.live[at] = false;
-        }
-        self
+        self.with_mark(card, false)
     }
 
-    pub fn mark_live(mut self, card: u32) -> Self
+    pub fn mark_live(self, card: u32) -> Self
         ensures { result ≡ marked_live self card }
     {
-        let at = card as usize;
-        if at < 8 {
-            self.live[at] = true;
-        }
+        self.with_mark(card, true)
+    }
+
+    pub fn with_status(mut self, status: Status) -> Self
+        ensures { result ≡ with_status self status }
+    {
+        self.status = status;
         self
     }
 
+    #[tactic(auto, using(crate::proofs::Changes::moved_past_end))]
     pub fn move_home(mut self, page: u32, primary: u32, secondary: u32) -> Self
         ensures { result ≡ with_homes self page primary secondary }
     {
@@ -159,16 +165,11 @@ impl Directory {
 
 // ---- the directory of a newly formatted rack, and of a refused formatting
 
+#[tactic(auto, using(crate::proofs::Table::table_by_items))]
 fn formatted_marks(cards: u32) -> [bool; 8]
     ensures { result ≡ formatted_marks cards }
 {
-    let mut marks = [false; 8];
-    let mut card: usize = 0;
-    while card < 8 {
-        marks[card] = card < cards as usize;
-        card += 1;
-    }
-    marks
+    array::from_fn(|card| card < cards as usize)
 }
 
 fn formatted_primary(cards: u32, pages: u32, page: u32) -> u32
@@ -178,53 +179,63 @@ fn formatted_primary(cards: u32, pages: u32, page: u32) -> u32
     if page < pages { page % cards } else { 0 }
 }
 
-fn formatted_secondary(marks: &[bool], cards: u32, pages: u32, page: u32) -> u32
-    requires { (0 < cards) × (marks.now ≡ formatted_marks cards) }
-    ensures { result ≡ formatted_secondary cards pages page }
+// Over the header of the rack, which has all its cards live.
+fn formatted_secondary(header: Header, page: u32) -> u32
+    requires { (0 < header.cards) × (header.live ≡ formatted_marks header.cards) }
+    ensures { result ≡ formatted_secondary header.cards header.pages page }
 {
-    if page < pages {
-        next_live_after(marks, cards, page % cards)
+    if page < header.pages {
+        header.backup(page % header.cards)
     } else {
         0
     }
 }
 
-// Fills in both homes of every page.
-fn fill_homes(primary: &mut [u32], secondary: &mut [u32], marks: &[bool], cards: u32, pages: u32)
-    requires cards_nonzero { (0 < cards) × (marks.now ≡ formatted_marks cards) }
-    requires primary_len { (length primary.old ≡ 64) × (length secondary.old ≡ 64) }
-    ensures primary { primary.new ≡ table (formatted_primary cards pages) 64 }
-    ensures secondary { secondary.new ≡ table (formatted_secondary cards pages) 64 }
+#[tactic(auto, using(crate::proofs::Table::table_by_items))]
+fn formatted_primaries(cards: u32, pages: u32) -> [u32; 64]
+    requires { 0 < cards }
+    ensures { result ≡ table (formatted_primary cards pages) 64 }
 {
-    let mut page: usize = 0;
-    while page < 64 {
-        primary[page] = formatted_primary(cards, pages, page as u32);
-        secondary[page] = formatted_secondary(marks, cards, pages, page as u32);
-        page += 1;
-    }
+    array::from_fn(|page| formatted_primary(cards, pages, page as u32))
+}
+
+#[tactic(auto, using(crate::proofs::Table::table_by_items))]
+fn formatted_secondaries(header: Header) -> [u32; 64]
+    requires { (0 < header.cards) × (header.live ≡ formatted_marks header.cards) }
+    ensures { result ≡ table (formatted_secondary header.cards header.pages) 64 }
+{
+    array::from_fn(|page| formatted_secondary(header, page as u32))
 }
 
 impl Directory {
     // Of a newly formatted rack.
+    #[tactic(auto, unfolding(crate::specs::Directory::formatted_directory))]
     pub fn formatted(cards: u32, pages: u32) -> Self
         requires { 0 < cards }
         ensures { result ≡ formatted_directory cards pages }
     {
+        let status = Status::Running;
         let live = formatted_marks(cards);
-        let mut primary = [0u32; 64];
-        let mut secondary = [0u32; 64];
-        fill_homes(&mut primary, &mut secondary, &live, cards, pages);
+        let header = Header {
+            cards,
+            pages,
+            live,
+            status,
+        };
+        let primary = formatted_primaries(cards, pages);
+        let secondary = formatted_secondaries(header);
         Directory {
             cards,
             pages,
             live,
             primary,
             secondary,
-            status: Status::Running,
+            status,
         }
     }
 
     // Of a formatting that was refused.
+    #[tactic(auto, unfolding(crate::specs::Directory::empty_directory))]
     pub fn empty() -> Self
         ensures { result ≡ empty_directory }
     {
@@ -244,6 +255,7 @@ impl Directory {
 // A page that lost a home gets the live card, other than the home that it keeps, that is home to
 // the fewest pages (document 02, request 4). This rule and that of document 01 name a live card
 // other than the kept home, where there is one.
+#[tactic(auto, using(crate::proofs::NewHome::new_home_theorems))]
 pub fn homes_are_shared_evenly()
     ensures shared { EvenlyShared }
     ensures even { NamesLive even_home }
@@ -251,6 +263,7 @@ pub fn homes_are_shared_evenly()
 {}
 
 // Worked examples of the directory, computed from the definitions.
+#[tactic(auto, using(crate::proofs::Examples::examples_hold))]
 pub fn examples_hold()
     ensures { AllHold examples }
 {}

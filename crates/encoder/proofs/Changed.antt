@@ -1,13 +1,12 @@
 -- The marks of the words that differ from their twins, made from the first word up: what one word more brings,
 -- and that its bit has room.
-use Rattle.std.specs.Prelude.{ℕ, zero, suc, ◌+◌, ◌*◌, ◌^◌, ◌%◌, ◌<◌, ◌≤◌, ◌≡◌, List, [], ◌∷◌, Bool, true, false, cond}
+use Rattle.std.specs.Prelude.{ℕ, zero, suc, ◌+◌, ◌*◌, ◌^◌, ◌%◌, ◌<◌, ◌≡◌, List, [], ◌∷◌, Bool, true, false, cond}
 use Rattle.std.specs.Prelude.{length, get_or, take, eqb}
 use Rattle.laws.proofs.Prelude.{◌∙◌, arith, eq-eqb, ne_eqb}
 use native.Mathlib.Nat.{one-mul, pow-suc}
 use native.Mathlib.Numerals.{add-one}
 use lib.ListN.{length-take}
 use lib.Pow.{pow_mono, shl_exact}
-use lib.Seq.{take_all}
 use Rattle.diff.specs.Marks.{changed_words}
 use Rattle.diff.proofs.Marks.{changed_small}
 
@@ -50,8 +49,3 @@ pub changed_fits : (words twins : List ℕ) (n : ℕ) → n < 32 → changed_fir
 changed_fits words twins n below =
     let small = changed_small n (take n words) (take n twins) (rw length-take (omega arith)) in
     omega (arith, small, pow-suc 2 n, pow_mono {i = suc n} {j = 32} (omega arith))
-
--- the marks of all words
-pub changed_all : (words twins : List ℕ) (n : ℕ) → length words ≤ n → length twins ≤ n
-    → changed_first words twins n ≡ changed_words words twins
-changed_all words twins n all all' = rw (take_all n words all, take_all n twins all')

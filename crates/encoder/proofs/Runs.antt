@@ -1,5 +1,5 @@
 -- The runs of a page: what the words of a page from one on bring to a diff, by the word of its marks.
-use Rattle.std.specs.Prelude.{ℕ, zero, suc, ◌+◌, ◌-◌, ◌*◌, ◌/◌, ◌%◌, ◌^◌, ◌≤◌, ◌<◌, ◌≡◌, List, [], ◌∷◌, ◌++◌, Bool}
+use Rattle.std.specs.Prelude.{ℕ, zero, suc, ◌+◌, ◌-◌, ◌*◌, ◌/◌, ◌%◌, ◌^◌, ◌≤◌, ◌<◌, ◌≡◌, ◌≢◌, List, [], ◌∷◌, ◌++◌, Bool}
 use Rattle.std.specs.Prelude.{true, false, length, take, drop, get_or}
 use Rattle.laws.proofs.Prelude.{refl, sym, ap, ◌∙◌, arith, dec_lt, eq-eqb, ne_eqb}
 use native.Mathlib.Nat.{add-zero, div-one}
@@ -15,6 +15,7 @@ use Rattle.diff.proofs.Bits.{bit_shifted}
 use Rattle.diff.proofs.Encoding.{Ascending, none, more, follows_page, follows_word, follows_yes, run_goes_on, run_stops}
 use Rattle.diff.proofs.Encoding.{run_last, run_header_page, run_header_run, run_header_none, encode_none, encode_price}
 use Rattle.diff.proofs.Listed.{listed_none, listed-take, listed-append, listed_unnamed, listed_ascends}
+use Rattle.encoder.proofs.Bits.{first_run}
 use Rattle.encoder.specs.Page.{marked_by, priced_by, page_words, run_words, FirstRun, Run}
 
 -- no bit is set where nothing is left of a word after a shift
@@ -250,3 +251,7 @@ module _ (page marks : ℕ) (prices : List ℕ) where
   page_words_some {run} is small size =
       let words = page_words_lem ∙ words_first 0 run (rw (div-one marks) is) small size in
       words ∙ ap (λ ws. page_word page ∷ ws) (sym (ap (drop 1) words))
+
+  pub page_words_marked : marks ≢ 0 → marks < 2 ^ 32 → length prices ≡ 32
+      → page_words page marks prices ≡ page_word page ∷ run_words page marks prices
+  page_words_marked some small size = page_words_some (first_run marks (omega arith) small) small size

@@ -2,6 +2,8 @@
 ghost use Rattle.std.specs.Prelude.{◌≡◌, length};
 ghost use Rattle.diff.specs.Marks.{changed_words};
 
+use diff::format::PAGE_WORDS;
+
 // The marks of the words of a page that differ from their twins.
 pub fn changed_words(words: &[u32], twins: &[u32]) -> u32
     requires words_len { length words.now ≡ 32 }
@@ -9,12 +11,10 @@ pub fn changed_words(words: &[u32], twins: &[u32]) -> u32
     ensures { result ≡ changed_words words.now twins.now }
 {
     let mut marks: u32 = 0;
-    let mut word: u32 = 0;
-    while word < 32 {
-        if words[word as usize] != twins[word as usize] {
+    for word in 0..PAGE_WORDS {
+        if words[word] != twins[word] {
             marks += 1 << word;
         }
-        word += 1;
     }
     marks
 }

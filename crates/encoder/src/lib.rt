@@ -2,13 +2,16 @@
 // their prices; how many words it has, and what becomes of it by the room that there is for it.
 #![tactic(auto)]
 
-ghost use Rattle.std.specs.Prelude.{◌≡◌, ◌*◌, ◌≤◌, List, ℕ, length};
+ghost use Rattle.std.specs.Prelude.{◌≡◌, ◌*◌, ◌<◌, ◌≤◌, List, ℕ, length, Err};
 ghost use Rattle.std.proofs.lemmas.List.Edits.{sets};
-ghost use Rattle.answer.specs.Outcome.{answer_of, wrong_buffer};
+ghost use Rattle.answer.specs.Outcome.{wrong_buffer};
+ghost use Rattle.answer.specs.Refusal.{number_of, place_of, outcome_of};
+ghost use Rattle.diff.specs.Format.{most_words};
 ghost use Rattle.diff.specs.Room.{room_for, written_by};
 ghost use Rattle.diff.specs.Making.{made_diff};
 
-use answer::{Answer, Outcome};
+use answer::Refusal;
+use diff::format::{END_WORD, MOST_WORDS, PAGE_WORDS};
 
 pub mod changes;
 pub mod page;
@@ -21,16 +24,15 @@ pub fn diff_words(marks: &[u32]) -> usize
         → result ≡ length (made_diff prices marks.now) }
 {
     let mut words: u32 = 1;
-    let mut page: usize = 0;
-    while page < marks.len() {
-        words += page::page_words(marks[page]);
-        page += 1;
+    for page_marks in marks {
+        words += page::page_words(*page_marks);
     }
     words as usize
 }
 
 // Writes the diff of the marked words, of so many words, to the front of a list that has room for
-// it. The loop ends with the last page that has a mark, when all words but the end word stand.
+// it. The loop ends with the last page that has a mark, when all words but the end word stand. Its
+// one test tells that a page is left, too: a `for` over the pages would make two, and is slower.
 pub fn write_diff(prices: &[u32], marks: &[u32], words: usize, list: &mut [u32])
     requires marks_len_bound { length marks.now ≤ 64 }
     requires prices_len { length prices.now ≡ 32 * length marks.now }
@@ -40,39 +42,48 @@ pub fn write_diff(prices: &[u32], marks: &[u32], words: usize, list: &mut [u32])
         ≡ sets list.old 0 (made_diff prices.now marks.now) }
 {
     let end = words - 1;
-    let mut at: usize = 0;
-    let mut page: usize = 0;
+    let mut at = 0;
+    let mut page = 0;
     while at < end {
-        let first = 32 * page;
-        at = page::write_page(page, marks[page], &prices[first..first + 32], list, at);
+        let first = PAGE_WORDS * page;
+        at = page::write_page(
+            page,
+            marks[page],
+            &prices[first..first + PAGE_WORDS],
+            list,
+            at,
+        );
         page += 1;
     }
-    list[end] = 0xF0000000 + end as u32;
+    list[end] = END_WORD + end as u32;
 }
 
 // What becomes of a diff of so many words by the room that a buffer has for it: its length, or a
-// refusal, by the number that the caller has for a list over 512 words, or by 17.
-pub fn room_for(refusal: u32, words: usize, room: usize) -> Outcome
-    ensures { result ≡ room_for refusal words room }
+// refusal: the one that the caller has for a list over 512 words, else that of a wrong buffer.
+pub fn room_for(too_long: Refusal, words: usize, room: usize) -> Result<u64, Refusal>
+    ensures outcome { place_of too_long ≡ 0
+        → outcome_of result ≡ room_for (number_of too_long) words room }
+    ensures fits { words ≤ most_words
+        → outcome_of result ≡ room_for (number_of too_long) words room }
+    ensures long { most_words < words → result ≡ Err too_long }
 {
-    if 512 < words {
-        return answer::refused_at(refusal, 0);
+    if MOST_WORDS < words {
+        return Err(too_long);
     }
     if room < words {
-        return answer::refused_at(answer::WRONG_BUFFER, 0);
+        return Err(Refusal::WrongBuffer);
     }
-    answer::given(words as u64)
+    Ok(words as u64)
 }
 
-// Writes the diff of the marked words to the front of a buffer: gives its length, or refusal 17. The
-// diff is sized before a word is written, so that a refusal changes none.
-pub fn write_marked(prices: &[u32], marks: &[u32], buffer: &mut [u32]) -> Answer
+// Writes the diff of the marked words to the front of a buffer: gives its length, or refusal 17.
+// The diff is sized before a word is written, so that a refusal changes none.
+pub fn write_marked(prices: &[u32], marks: &[u32], buffer: &mut [u32]) -> Result<u64, Refusal>
     requires marks_len_bound { length marks.now ≤ 64 }
     requires prices_len { length prices.now ≡ 32 * length marks.now }
-    ensures answer { result
-        ≡ answer_of
-        (room_for wrong_buffer (length (made_diff prices.now marks.now))
-        (length buffer.old)) }
+    ensures answer { outcome_of result
+        ≡ room_for wrong_buffer (length (made_diff prices.now marks.now))
+        (length buffer.old) }
     ensures written { buffer.new
         ≡ written_by
         (room_for wrong_buffer (length (made_diff prices.now marks.now))
@@ -80,10 +91,7 @@ pub fn write_marked(prices: &[u32], marks: &[u32], buffer: &mut [u32]) -> Answer
         (made_diff prices.now marks.now) buffer.old }
 {
     let words = diff_words(marks);
-    let room = room_for(answer::WRONG_BUFFER, words, buffer.len());
-    if room.number != 0 {
-        return answer::answer_of(room);
-    }
+    let length = room_for(Refusal::WrongBuffer, words, buffer.len())?;
     write_diff(prices, marks, words, buffer);
-    Answer::Given(words as u64)
+    Ok(length)
 }

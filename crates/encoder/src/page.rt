@@ -5,6 +5,8 @@ ghost use Rattle.std.proofs.lemmas.List.Edits.{sets};
 ghost use Rattle.diff.specs.Format.{run_word};
 ghost use Rattle.encoder.specs.Page.{page_words, run_words, FirstRun};
 
+use diff::format::{OFFSET, PAGE_WORD, RUN_WORD};
+
 // Consecutive marked words of a page.
 #[derive(Clone, Copy)]
 struct Run {
@@ -13,13 +15,14 @@ struct Run {
 }
 
 // The first run of marked words.
+#[tactic(auto, using(crate::proofs::Bits::first_run))]
 fn first_run(marks: u32) -> Run
     requires { 0 < marks }
     ensures { FirstRun marks result }
 {
-    let offset = u32::trailing_zeros(marks);
+    let offset = marks.trailing_zeros();
     let from_run = marks >> offset;
-    let count = u32::trailing_zeros(!from_run);
+    let count = (!from_run).trailing_zeros();
     Run { offset, count }
 }
 
@@ -28,11 +31,7 @@ fn marks_behind(marks: u32, run: Run) -> u32
     requires { FirstRun marks run }
     ensures { result ≡ marks / 2 ^ (run.offset + run.count) }
 {
-    let end = run.offset + run.count;
-    if end < 32 {
-        return marks >> end;
-    }
-    0
+    marks.checked_shr(run.offset + run.count).unwrap_or(0)
 }
 
 // How many words a page takes in a diff: none if no word is marked, else its page word, a word for
@@ -48,7 +47,7 @@ pub fn page_words(marks: u32) -> u32
         return 0;
     }
     let run_ends = marks & !(marks >> 1);
-    1 + u64::count_ones(run_ends as u64 * 0x100000000 + marks as u64)
+    1 + (run_ends as u64 * 0x100000000 + marks as u64).count_ones()
 }
 
 // The word of a run.
@@ -56,7 +55,7 @@ fn run_word(offset: usize, count: usize) -> u32
     requires { offset + count ≤ 32 }
     ensures { result ≡ run_word offset count }
 {
-    0x20000000 + (offset * 0x10000 + count) as u32
+    RUN_WORD + (offset * OFFSET as usize + count) as u32
 }
 
 // Writes the runs of a page from `start` on, and says where they end. They are the same on every
@@ -98,6 +97,6 @@ pub fn write_page(page: usize, marks: u32, prices: &[u32], list: &mut [u32], sta
     if marks == 0 {
         return start;
     }
-    list[start] = 0x10000000 + page as u32;
+    list[start] = PAGE_WORD + page as u32;
     write_runs(marks, prices, list, start + 1)
 }

@@ -1,5 +1,5 @@
 -- What is printed byte by byte is document 01's transcript, an answer for each line.
-use Rattle.std.specs.Prelude.{ℕ, ◌+◌, ◌%◌, ◌^◌, ◌≡◌, List, [], ◌∷◌, ◌++◌, Bool, true, false, eqb}
+use Rattle.std.specs.Prelude.{ℕ, ◌+◌, ◌%◌, ◌^◌, ◌≡◌, List, [], ◌∷◌, ◌++◌, Bool, true, false, eqb, Some}
 use Rattle.laws.proofs.Prelude.{refl, sym, ap, ◌∙◌, eqb-true}
 use Rattle.std.proofs.Common.{append_assoc, append-nil}
 use Rattle.directory.specs.declared.Directory.{Directory}
@@ -36,7 +36,7 @@ joined_byte (c ∷ p) b (line ∷ lines) = ap (λ l. (c ∷ l) ∷ lines) (sym (
 module _ (number : ℕ) (d : Directory) (m : List ℕ) where
   -- p is what has been read of the line
   abbrev at : List ℕ → Session
-  at p = session_of d number (line_read fresh_line p)
+  at p = session_of d number (line_read (Some fresh_line) p)
 
   -- its end: the answer, and the next line
   line_ended : (p : List ℕ) (lines : List (List ℕ))
@@ -49,7 +49,7 @@ module _ (number : ℕ) (d : Directory) (m : List ℕ) where
   input_ended : (p : List ℕ) → replies (at p) m [] ≡ answers number d m (joined p [])
   unfolding replies state_after printed joined answers line_read
   input_ended [] = refl
-  input_ended (b ∷ p) = rw (begun fresh_line b p) (sym (append-nil (answered (at (b ∷ p)) m)) ∙ line_ended (b ∷ p) [])
+  input_ended (b ∷ p) = rw (begun (Some fresh_line) b p) (sym (append-nil (answered (at (b ∷ p)) m)) ∙ line_ended (b ∷ p) [])
 
 abbrev Prints : List ℕ → Type 0
 Prints rest =
@@ -71,7 +71,7 @@ unfolding state_after printed lines_of
 at_byte b bs other later number d m p =
     prints_in_parts (at number d m p) m (b ∷ []) bs
     ∙ rw other
-    (ap (λ line. replies (session_of d number line) m bs) (sym (read_more fresh_line p b))
+    (ap (λ line. replies (session_of d number line) m bs) (sym (read_more (Some fresh_line) p b))
     ∙ later number d m (p ++ b ∷ [])
     ∙ ap (answers number d m) (sym (joined_byte p b (lines_of bs))))
 

@@ -1,6 +1,6 @@
 -- What shelfrun prints for its input (document 01, "Numbers to hold it against").
 -- Assumes nothing: these are definitions.
-use Rattle.std.specs.Prelude.{ℕ, ◌+◌, ◌%◌, ◌^◌, ◌≡◌, List, [], ◌∷◌, ◌++◌, cond, eqb}
+use Rattle.std.specs.Prelude.{ℕ, ◌+◌, ◌%◌, ◌^◌, ◌≡◌, List, [], ◌∷◌, ◌++◌, cond, eqb, Option, Some}
 use Rattle.directory.specs.declared.Directory.{Directory}
 use Rattle.protocol.specs.Result.{Result}
 use Rattle.protocol.specs.Formatting.{formatting}
@@ -13,11 +13,11 @@ use Rattle.commands.specs.Execute.{execute, letter_of}
 pub use Rattle.interpreter.specs.declared.Session.{Session}
 
 -- between two bytes of the input: the rack's directory, the number of the line being read, and what is read of it
-abbrev pub session_of : Directory → ℕ → Line → Session
+abbrev pub session_of : Directory → ℕ → Option Line → Session
 session_of d number line = record { directory = d; number = number; line = line }
 
 -- the session with this much of its line read
-abbrev pub with_line : Session → Line → Session
+abbrev pub with_line : Session → Option Line → Session
 with_line s line = session_of s.directory s.number line
 
 -- ---- the end of a line
@@ -33,7 +33,7 @@ answered s m =
 
 -- the next line; line numbers are 64 bits
 abbrev pub next_line : Session → List ℕ → Session
-next_line s m = session_of (executed s m).directory ((s.number + 1) % 2 ^ 64) fresh_line
+next_line s m = session_of (executed s m).directory ((s.number + 1) % 2 ^ 64) (Some fresh_line)
 
 -- ---- the input
 
@@ -93,7 +93,7 @@ PrintsInParts =
 
 -- "formats 3 cards and 4 pages": the session before the first byte
 abbrev pub first_session : List ℕ → Session
-first_session m = session_of (formatting m 3 4).directory 1 fresh_line
+first_session m = session_of (formatting m 3 4).directory 1 (Some fresh_line)
 
 -- "rack 3 4"
 abbrev pub first_line : List ℕ

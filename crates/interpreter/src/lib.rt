@@ -5,7 +5,7 @@
 ghost use Rattle.std.specs.Prelude.{◌≡◌, ◌+◌, ◌-◌, ◌≤◌, ◌<◌, length, take, drop};
 ghost use Rattle.std.proofs.lemmas.List.Edits.{sets};
 ghost use Rattle.protocol.specs.Formatting.{formatting};
-ghost use Rattle.interpreter.specs.Transcript.{executed, answered, next_line, with_line};
+ghost use Rattle.interpreter.specs.Transcript.{executed, answered, next_line};
 ghost use Rattle.interpreter.specs.Transcript.{state_of, state_after, printed, last_answer};
 ghost use Rattle.interpreter.specs.Transcript.{last_memory, first_session, first_line};
 ghost use Rattle.interpreter.specs.Transcript.{PrintsInParts, PrintsTranscript};
@@ -19,21 +19,8 @@ pub struct Session {
     pub directory: Directory,
     // Of the line that is being read, from 1 on.
     pub number: u64,
-    pub line: Line,
-}
-
-impl Session {
-    // With this much of its line read.
-    fn with_line(self, line: Line) -> Self
-        ensures { result ≡ with_line self line }
-    {
-        let directory = self.directory;
-        Session {
-            directory,
-            number: self.number,
-            line,
-        }
-    }
+    // None if it can be no command.
+    pub line: Option<Line>,
 }
 
 // ---- the input
@@ -58,31 +45,23 @@ fn end_line(memory: &mut [u32], session: Session, output: &mut [u8], written: us
     ensures session { result.session ≡ next_line session memory.old }
     ensures memory { memory.new ≡ (executed session memory.old).memory }
 {
-    let line = session.line;
-    let command = line.command();
-    let directory = session.directory;
-    let number = session.number;
-    let shown = commands::execute(memory, directory, command);
+    let command = session.line.and_then(|line| line.command());
+    let shown = commands::execute(memory, session.directory, command);
     let outcome = shown.outcome;
-    let letter = commands::letter_of(command);
-    let end = lines::append_answer(
+    let written = lines::append_answer(
         output,
         written,
-        number,
-        letter,
+        session.number,
+        commands::letter_of(command),
         outcome.number,
         outcome.value,
     );
-    let directory = shown.directory;
-    let next = Session {
-        directory,
-        number: std::num::wrapping_add_u64(number, 1),
-        line: Line::fresh(),
+    let session = Session {
+        directory: shown.directory,
+        number: session.number.wrapping_add(1),
+        line: Some(Line::fresh()),
     };
-    Ended {
-        session: next,
-        written: end,
-    }
+    Ended { session, written }
 }
 
 // What answering a part of the input gives.
@@ -116,16 +95,16 @@ fn process_line(
         ≡ sets output.old written (printed (state_of session memory.old)
         (take (result.read - from) (drop from input.now))) }
 {
-    let line = session.line;
-    let part = lines::read_part(line, input, from);
-    let line = part.line;
+    let part = lines::read_part(session.line, input, from);
+    let read = Session {
+        line: part.line,
+        ..session
+    };
     let at = part.at;
-    let read = session.with_line(line);
     if at < input.len() {
         let ended = end_line(memory, read, output, written);
-        let session = ended.session;
         return Progress {
-            session,
+            session: ended.session,
             read: at + 1,
             written: ended.written,
         };
@@ -179,8 +158,7 @@ pub fn finish(memory: &mut [u32], session: Session, output: &mut [u8; 80]) -> us
         ≡ sets output.old 0 (last_answer session memory.old) }
     ensures memory { memory.new ≡ last_memory session memory.old }
 {
-    let line = session.line;
-    if line.has_begun() {
+    if lines::has_begun(session.line) {
         let ended = end_line(memory, session, output, 0);
         return ended.written;
     }
@@ -204,7 +182,7 @@ pub fn prints_transcript()
 pub fn first_line() -> [u8; 9]
     ensures { result ≡ first_line }
 {
-    [b'r', b'a', b'c', b'k', b' ', b'3', b' ', b'4', b'\n']
+    *b"rack 3 4\n"
 }
 
 // Formats a rack of 3 cards and 4 pages; before the first line.
@@ -213,11 +191,9 @@ pub fn start(memory: &mut [u32]) -> Session
     ensures memory { memory.new
         ≡ (formatting memory.old 3 4).memory }
 {
-    let reply = rack::format_rack(memory, 3, 4);
-    let directory = reply.directory;
     Session {
-        directory,
+        directory: rack::format_rack(memory, 3, 4).directory,
         number: 1,
-        line: Line::fresh(),
+        line: Some(Line::fresh()),
     }
 }

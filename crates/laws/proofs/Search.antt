@@ -1,10 +1,13 @@
 -- Laws of searches and changes over numbers below a bound.
 use Rattle.std.specs.Prelude.{ℕ, zero, suc, ◌+◌, ◌-◌, ◌<◌, ◌≤◌, ◌≡◌, ◌≢◌, Bool, true, false, cond, ltb}
+use Rattle.std.specs.Prelude.{None, Some}
+use Rattle.std.specs.Option.{unwrap_or}
+use Rattle.std.proofs.lemmas.Option.{cond_some, none-some}
 use Rattle.laws.proofs.Prelude.{refl, sym, ◌∙◌, true≢false, ℕ_discrete, dec_lt, arith, ltb-true, ltb-false, lt-ltb}
 use Rattle.laws.proofs.Prelude.{le-ltb, ap}
 use native.Mathlib.Nat.{sub-zero, add-zero}
 use native.Mathlib.Numerals.{add-one}
-use Rattle.laws.specs.Search.{lowest_from, lowest, any_below, count_below, in_turn}
+use Rattle.laws.specs.Search.{lowest_from, lowest, any_below, lowest_below, count_below, in_turn}
 
 -- ---- one turn of a search from i on, below n
 
@@ -37,6 +40,9 @@ module _ (test test' : ℕ → Bool) where
 
     pub some_agree : any_below test n ≡ any_below test' n
     some_agree = ap (λ (found : ℕ). ltb found n) lowest_agree
+
+    pub lowest_below_agree : lowest_below test n ≡ lowest_below test' n
+    lowest_below_agree = rw lowest_agree
 
   pub count_agree : (n : ℕ) → ((i : ℕ) → i < n → test i ≡ test' i) → count_below test n ≡ count_below test' n
   unfolding count_below
@@ -153,6 +159,57 @@ module _ {test : ℕ → Bool} {n i : ℕ} (far : Passed test n i) where
 
   pub none_found : n ≤ i → false ≡ any_below test n
   none_found past = sym (le-ltb (lowest test n) n (omega (arith, lowest_none past)))
+
+  pub lowest_below_found : i < n → test i ≡ true → Some i ≡ lowest_below test n
+  lowest_below_found below pass = rw (← some_found below pass, ← lowest-found below pass)
+
+  pub lowest_below_none : n ≤ i → None ≡ lowest_below test n
+  lowest_below_none past = rw (← none_found past)
+
+-- ---- the lowest number below n that passes, if any does
+
+pub record IsLowest (test : ℕ → Bool) (n i : ℕ) : Type 0 where
+  pub is : i ≡ lowest test n
+  pub below : i < n
+  pub passes : test i ≡ true
+  pub missed : (j : ℕ) → j < i → test j ≡ false
+
+module _ (test : ℕ → Bool) (n : ℕ) where
+  pub lowest_below_at : (i : ℕ) → i ≡ lowest test n → i < n → Some i ≡ lowest_below test n
+  lowest_below_at i is below = rw (lt-ltb (lowest test n) n (omega arith)) (ap Some is)
+
+  pub lowest_below_past : n ≤ lowest test n → None ≡ lowest_below test n
+  lowest_below_past past = rw (le-ltb (lowest test n) n past)
+
+  pub lowest_below_some : (i : ℕ) → lowest_below test n ≡ Some i → IsLowest test n i
+  lowest_below_some i found =
+      let parts = cond_some (any_below test n) (lowest test n) i found in
+      let stops = lowest_stops test 0 n in
+      let same : i ≡ lowest test n = sym parts.1 in
+      let below = ltb-true (lowest test n) n parts.0 in
+      record {
+        is = same;
+        below = omega arith;
+        passes = rw same (stops.hit (omega arith));
+        missed = λ j before. stops.missed j (omega arith) (omega arith);
+      }
+
+  pub lowest_below_nothing : lowest_below test n ≡ None → any_below test n ≡ false
+  lowest_below_nothing missed = go (any_below test n) missed
+    where
+      go : (some : Bool) → cond some (Some (lowest test n)) None ≡ None → some ≡ false
+      go true found = absurd (none-some _ (sym found))
+      go false e = refl
+
+  -- the lowest, or n if none passes
+  pub lowest_below_or : unwrap_or (lowest_below test n) n ≡ lowest test n
+  lowest_below_or = go (any_below test n) refl
+    where
+      go : (some : Bool) → any_below test n ≡ some → unwrap_or (cond some (Some (lowest test n)) None) n ≡ lowest test n
+      go true found = refl
+      go false missed =
+          let stops = lowest_stops test 0 n in
+          omega (arith, ltb-false (lowest test n) n missed)
 
 -- ---- how many pass
 
@@ -284,3 +341,9 @@ unfolding in_turn
 in_turn_agree change change' zero agree a = refl
 in_turn_agree change change' (suc n) agree a =
     rw (in_turn_agree change change' n (λ i below. agree i (omega arith)) a) (agree n (omega arith) _)
+
+-- ---- what the loops of `numbers` rest on
+
+pub ruleset search_steps = (passed_more, lowest_below_found, lowest_below_none)
+
+pub ruleset count_steps = (counted_hit, counted_miss)

@@ -1,16 +1,15 @@
 -- The fields of a line that have ended, and what is left of the line: the field that is being read ends.
-use Rattle.std.specs.Prelude.{ℕ, ◌+◌, ◌≤◌, ◌<◌, ◌≡◌, List, [], ◌∷◌, ◌++◌, true, false, cond, ◌&&◌, ltb, eqb, length}
-use Rattle.std.specs.Prelude.{take, set}
+use Rattle.std.specs.Prelude.{ℕ, ◌+◌, ◌≤◌, ◌<◌, ◌≡◌, List, [], ◌∷◌, ◌++◌, false, cond, ◌&&◌, ltb, eqb, length}
+use Rattle.std.specs.Prelude.{take, set, Option, None, Some}
 use Rattle.laws.proofs.Prelude.{sym, ap, ◌∙◌, arith, ne_eqb, lt-ltb, le-ltb}
 use native.Mathlib.Numerals.{add-one}
 use lib.ListN.{length-set, length-append}
 use lib.Seq.{take-suc-set}
 use Rattle.lines.specs.declared.Command.{Command}
-use Rattle.lines.specs.declared.Command.TheVariants.{Unreadable}
-use Rattle.lines.specs.Line.{Line, unreadable_line, ended_field}
-use Rattle.lines.specs.Command.{form_of, command_of}
-use Rattle.lines.specs.Grammar.{number_from, all_numbers, values_of, form_in}
-use Rattle.lines.proofs.Forms.{form_front, form_long}
+use Rattle.lines.specs.Line.{Line, ended_field}
+use Rattle.lines.specs.Command.{form_of, form_after, command_of}
+use Rattle.lines.specs.Grammar.{number_from, all_numbers, values_of}
+use Rattle.lines.proofs.Forms.{form_long}
 use Rattle.lines.proofs.Unreadable.{first, second, below_or_not}
 use Rattle.lines.proofs.Numbers.{continues}
 
@@ -18,7 +17,6 @@ use Rattle.lines.proofs.Numbers.{continues}
 
 -- vs are the fields that have ended, the letter and numbers
 pub record FieldsRead (s : Line) (vs : List ℕ) : Type 0 where
-  pub readable : s.readable ≡ true
   pub count : s.count ≡ length vs
   pub front : take (length vs) s.fields ≡ vs
   pub six : length s.fields ≡ 6
@@ -27,16 +25,15 @@ pub record FieldsRead (s : Line) (vs : List ℕ) : Type 0 where
   pub small : s.value ≤ 4294967295
 
 -- what the line comes to: the field being read goes on with the first of these
-unfoldable pub resumed : List ℕ → ℕ → ℕ → List (List ℕ) → Command
-resumed vs k v [] = Unreadable
+unfoldable pub resumed : List ℕ → ℕ → ℕ → List (List ℕ) → Option Command
+resumed vs k v [] = None
 resumed vs k v (f ∷ fs) =
-    cond (continues k v f && all_numbers fs) (form_in (vs ++ number_from v f ∷ values_of fs)) Unreadable
+    cond (continues k v f && all_numbers fs) (form_of (vs ++ number_from v f ∷ values_of fs)) None
 
 module _ (s : Line) (vs : List ℕ) (fields_read : FieldsRead s vs) (some : 1 ≤ s.bytes) where
   abbrev pub ended : Line
   ended =
       record {
-        readable = s.readable;
         fields = set s.fields s.count s.value;
         count = s.count + 1;
         bytes = 0;
@@ -46,11 +43,11 @@ module _ (s : Line) (vs : List ℕ) (fields_read : FieldsRead s vs) (some : 1 �
   has_bytes : eqb s.bytes 0 ≡ false
   has_bytes = ne_eqb s.bytes 0 (λ e. omega arith)
 
-  pub ended-field : s.count < 6 → ended_field s ≡ ended
+  pub ended-field : s.count < 6 → ended_field s ≡ Some ended
   unfolding ended_field
   ended-field room = second (eqb s.bytes 0) _ _ has_bytes ∙ first (ltb s.count 6) _ _ (lt-ltb s.count 6 room)
 
-  pub no_seventh : 6 ≤ s.count → ended_field s ≡ unreadable_line s
+  pub no_seventh : 6 ≤ s.count → ended_field s ≡ None
   unfolding ended_field
   no_seventh full = second (eqb s.bytes 0) _ _ has_bytes ∙ second (ltb s.count 6) _ _ (le-ltb s.count 6 full)
 
@@ -67,7 +64,6 @@ module _ (s : Line) (vs : List ℕ) (fields_read : FieldsRead s vs) (some : 1 �
   pub fields_read_ended : s.count < 6 → FieldsRead ended (vs ++ s.value ∷ [])
   fields_read_ended room =
       record {
-        readable = fields_read.readable;
         count = sym longer;
         front = rw longer (ended_front room);
         six = simp length-set fields_read.six;
@@ -77,18 +73,11 @@ module _ (s : Line) (vs : List ℕ) (fields_read : FieldsRead s vs) (some : 1 �
       }
 
   -- what ends the line, or is ended by a seventh field
-  full_form : 6 ≤ s.count → form_in (vs ++ s.value ∷ []) ≡ Unreadable
-  full_form full = form_long (vs ++ s.value ∷ []) (length (vs ++ s.value ∷ [])) (omega (arith, longer))
+  full_form : 6 ≤ s.count → form_of (vs ++ s.value ∷ []) ≡ None
+  full_form full = form_long (vs ++ s.value ∷ []) (omega (arith, longer))
 
-  pub at_end : command_of s ≡ form_in (vs ++ s.value ∷ [])
+  pub at_end : command_of (Some s) ≡ form_of (vs ++ s.value ∷ [])
   unfolding command_of
   at_end =
-      below_or_not s.count 6
-      (λ room.
-      ap (λ (e : Line). cond e.readable (form_of e.fields e.count) Unreadable) (ended-field room)
-      ∙ first s.readable _ _ fields_read.readable
-      ∙ sym (form_front (set s.fields s.count s.value) (s.count + 1) (omega arith))
-      ∙ rw (ended_front room, longer))
-      (λ full.
-      ap (λ (e : Line). cond e.readable (form_of e.fields e.count) Unreadable) (no_seventh full)
-      ∙ sym (full_form full))
+      below_or_not s.count 6 (λ room. ap form_after (ended-field room) ∙ ap form_of (ended_front room))
+      (λ full. ap form_after (no_seventh full) ∙ sym (full_form full))

@@ -8,3 +8,4 @@ pub mod FieldsRead
 pub mod Resuming
 pub mod Grammar
 pub mod Begun
+pub mod Answer

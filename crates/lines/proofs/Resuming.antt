@@ -1,16 +1,15 @@
 -- A line that is read on from its letter comes to what the grammar has for it, byte by byte.
 use Rattle.std.specs.Prelude.{ℕ, ◌+◌, ◌≤◌, ◌<◌, ◌≡◌, List, [], ◌∷◌, ◌++◌, Bool, true, false, cond, ltb, leb, eqb}
-use Rattle.std.specs.Prelude.{length}
+use Rattle.std.specs.Prelude.{length, Option, None, Some}
 use Rattle.laws.proofs.Prelude.{refl, sym, ap, ◌∙◌, arith, eq-eqb, ne_eqb, le-leb, lt-leb, lt-ltb, le-ltb, eqb-true}
 use mathlib.Core.List.{append_assoc}
 use lib.ListN.{length-append}
 use Rattle.laws.proofs.Bools.{by_cond}
 use Rattle.lines.specs.declared.Command.{Command}
-use Rattle.lines.specs.declared.Command.TheVariants.{Unreadable}
-use Rattle.lines.specs.Line.{Line, unreadable_line, ended_field, with_field, number_with, digit_read, byte_read}
+use Rattle.lines.specs.Line.{Line, ended_field, with_field, number_with, digit_read, byte_read}
 use Rattle.lines.specs.Line.{line_read}
-use Rattle.lines.specs.Command.{form_of, command_of}
-use Rattle.lines.specs.Grammar.{break_at, fields_of, is_digit, all_digits, number_from, all_numbers, values_of, form_in}
+use Rattle.lines.specs.Command.{form_of, form_after, command_of}
+use Rattle.lines.specs.Grammar.{break_at, fields_of, is_digit, all_digits, number_from, all_numbers, values_of}
 use Rattle.lines.proofs.Forms.{form_long}
 use Rattle.lines.proofs.Unreadable.{first, second, below_or_not, dead}
 use Rattle.lines.proofs.Numbers.{by_fields, continues, starts, no_digit, too_long, too_large, one_more, done}
@@ -20,26 +19,26 @@ use Rattle.lines.proofs.FieldsRead.{at_end}
 -- the parts of a line that is read on, by the next byte
 module _ (s : Line) (vs : List ℕ) (fields_read : FieldsRead s vs) where
   abbrev Resumes : List ℕ → Type 0
-  Resumes rest = command_of (line_read s rest) ≡ resumed vs s.bytes s.value (fields_of rest)
+  Resumes rest = command_of (line_read (Some s) rest) ≡ resumed vs s.bytes s.value (fields_of rest)
 
-  no_byte : s.bytes ≡ 0 → ended_field s ≡ unreadable_line s
+  no_byte : s.bytes ≡ 0 → ended_field s ≡ None
   unfolding ended_field
   no_byte zero-bytes = first (eqb s.bytes 0) _ _ (eq-eqb s.bytes 0 zero-bytes)
 
-  empty_end : s.bytes ≡ 0 → command_of s ≡ Unreadable
+  empty_end : s.bytes ≡ 0 → command_of (Some s) ≡ None
   unfolding command_of
   empty_end zero-bytes =
-      ap (λ (e : Line). cond e.readable (form_of e.fields e.count) Unreadable) (no_byte zero-bytes)
+      ap form_after (no_byte zero-bytes)
 
   -- an empty field is no number, whatever follows
-  no_number : s.bytes ≡ 0 → (fs : List (List ℕ)) → resumed vs s.bytes s.value ([] ∷ fs) ≡ Unreadable
+  no_number : s.bytes ≡ 0 → (fs : List (List ℕ)) → resumed vs s.bytes s.value ([] ∷ fs) ≡ None
   unfolding resumed all_digits number_from
   no_number zero-bytes fs = rw zero-bytes
 
   -- a field of digits is one
   a_number : 1 ≤ s.bytes → (fs : List (List ℕ))
       → resumed vs s.bytes s.value ([] ∷ fs)
-      ≡ cond (all_numbers fs) (form_in (vs ++ s.value ∷ values_of fs)) Unreadable
+      ≡ cond (all_numbers fs) (form_of (vs ++ s.value ∷ values_of fs)) None
   unfolding resumed number_from
   a_number some fs = rw (done s.bytes s.value some fields_read.few fields_read.small)
 
@@ -50,20 +49,20 @@ module _ (s : Line) (vs : List ℕ) (fields_read : FieldsRead s vs) where
       (λ empty. empty_end (omega arith) ∙ sym (no_number (omega arith) []))
 
   -- what is read next decides, whatever line it leaves
-  abbrev goes_to : {next : Line} {c : Command} (b : ℕ) (bs : List ℕ) → byte_read s b ≡ next
-      → command_of (line_read next bs) ≡ c → command_of (line_read (byte_read s b) bs) ≡ c
-  goes_to b bs reads comes = ap (λ (t : Line). command_of (line_read t bs)) reads ∙ comes
+  abbrev goes_to : {next : Option Line} {c : Option Command} (b : ℕ) (bs : List ℕ) → byte_read (Some s) b ≡ next
+      → command_of (line_read next bs) ≡ c → command_of (line_read (byte_read (Some s) b) bs) ≡ c
+  goes_to b bs reads comes = ap (λ (t : Option Line). command_of (line_read t bs)) reads ∙ comes
 
   abbrev Later : List ℕ → Type 0
   Later bs =
       (t : Line) (us : List ℕ) → FieldsRead t us
-      → command_of (line_read t bs) ≡ resumed us t.bytes t.value (fields_of bs)
+      → command_of (line_read (Some t) bs) ≡ resumed us t.bytes t.value (fields_of bs)
 
   -- ---- a space ends the field
 
-  at_space : byte_read s 32 ≡ ended_field s
+  at_space : byte_read (Some s) 32 ≡ ended_field s
   unfolding byte_read
-  at_space = first s.readable _ _ fields_read.readable
+  at_space = refl
 
   next_field : 1 ≤ s.bytes → (f : List ℕ) (fs : List (List ℕ))
       → resumed (vs ++ s.value ∷ []) 0 0 (f ∷ fs) ≡ resumed vs s.bytes s.value ([] ∷ f ∷ fs)
@@ -71,13 +70,13 @@ module _ (s : Line) (vs : List ℕ) (fields_read : FieldsRead s vs) where
   next_field some f fs = rw (starts f, append_assoc) (sym (a_number some (f ∷ fs)))
 
   seven_fields : 1 ≤ s.bytes → 6 ≤ s.count → (fs : List (List ℕ))
-      → resumed vs s.bytes s.value ([] ∷ fs) ≡ Unreadable
+      → resumed vs s.bytes s.value ([] ∷ fs) ≡ None
   seven_fields some full fs =
       let fields = vs ++ s.value ∷ values_of fs in
       let long : 6 < length fields = simp length-append (omega (arith, fields_read.count)) in
       a_number some fs
-      ∙ by_cond (λ (c : Command). c ≡ Unreadable) (all_numbers fs) (form_in fields) Unreadable
-      (λ _. form_long fields (length fields) long) (λ _. refl)
+      ∙ by_cond (λ (c : Option Command). c ≡ None) (all_numbers fs) (form_of fields) None
+      (λ _. form_long fields long) (λ _. refl)
 
   resume_space : (bs : List ℕ) → Later bs → Resumes (32 ∷ bs)
   unfolding line_read fields_of break_at
@@ -93,31 +92,30 @@ module _ (s : Line) (vs : List ℕ) (fields_read : FieldsRead s vs) where
       (next_field some) bs))
       (λ full.
       goes_to 32 bs (at_space ∙ no_seventh s vs fields_read some full)
-      (dead (unreadable_line s) refl bs ∙ sym (seven_fields some full (fields_of bs)))))
+      (dead bs ∙ sym (seven_fields some full (fields_of bs)))))
       (λ empty.
       goes_to 32 bs (at_space ∙ no_byte (omega arith))
-      (dead (unreadable_line s) refl bs ∙ sym (no_number (omega arith) (fields_of bs))))
+      (dead bs ∙ sym (no_number (omega arith) (fields_of bs))))
 
   -- ---- any other byte goes on with the field
 
   module _ (b : ℕ) (bs : List ℕ) (other : eqb b 32 ≡ false) where
-    at_byte : byte_read s b ≡ digit_read s b
+    at_byte : byte_read (Some s) b ≡ digit_read s b
     unfolding byte_read
     at_byte =
-        first s.readable _ _ fields_read.readable
-        ∙ second (eqb b 32) _ _ other
+        second (eqb b 32) _ _ other
         ∙ second (eqb s.count 0) _ _
         (ne_eqb s.count 0 (λ e. omega (arith, fields_read.count, fields_read.begun)))
 
     -- a byte after which no field is a number
-    refused : digit_read s b ≡ unreadable_line s → ((f : List ℕ) → continues s.bytes s.value (b ∷ f) ≡ false)
+    refused : digit_read s b ≡ None → ((f : List ℕ) → continues s.bytes s.value (b ∷ f) ≡ false)
         → Resumes (b ∷ bs)
     unfolding line_read fields_of break_at resumed
     refused reads wrong =
         goes_to b bs (at_byte ∙ reads)
-        (dead (unreadable_line s) refl bs
+        (dead bs
         ∙ rw other
-        (by_fields (λ fs. Unreadable ≡ resumed vs s.bytes s.value (break_at false b fs)) (λ f fs. rw (wrong f))
+        (by_fields (λ fs. None ≡ resumed vs s.bytes s.value (break_at false b fs)) (λ f fs. rw (wrong f))
         bs))
 
     low_byte : b < 48 → Resumes (b ∷ bs)
@@ -137,8 +135,8 @@ module _ (s : Line) (vs : List ℕ) (fields_read : FieldsRead s vs) where
         a_digit : is_digit b ≡ true
         a_digit = rw (le-leb 48 b from, le-leb b 57 upto)
 
-        past_tests : {e : Line} → cond (leb 10 s.bytes) (unreadable_line s)
-            (cond (ltb 4294967295 (number_with s b)) (unreadable_line s) (with_field s (s.bytes + 1) (number_with s b)))
+        past_tests : {e : Option Line} → cond (leb 10 s.bytes) None
+            (cond (ltb 4294967295 (number_with s b)) None (Some (with_field s (s.bytes + 1) (number_with s b))))
             ≡ e
             → digit_read s b ≡ e
         unfolding digit_read
@@ -168,7 +166,6 @@ module _ (s : Line) (vs : List ℕ) (fields_read : FieldsRead s vs) where
             in
             let fields-read-next : FieldsRead next vs =
             record {
-              readable = fields_read.readable;
               count = fields_read.count;
               front = fields_read.front;
               six = fields_read.six;
@@ -198,7 +195,7 @@ module _ (s : Line) (vs : List ℕ) (fields_read : FieldsRead s vs) where
         (eleventh from upto)))
 
 pub resume : (rest : List ℕ) (s : Line) (vs : List ℕ) → FieldsRead s vs
-    → command_of (line_read s rest) ≡ resumed vs s.bytes s.value (fields_of rest)
+    → command_of (line_read (Some s) rest) ≡ resumed vs s.bytes s.value (fields_of rest)
 resume [] s vs fields_read = resume_end s vs fields_read
 resume (b ∷ bs) s vs fields_read = go (eqb b 32) refl (resume bs)
   where

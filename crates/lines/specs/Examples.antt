@@ -2,22 +2,23 @@
 -- looks like.
 -- Assumes nothing: these are definitions.
 use Rattle.std.specs.Prelude.{ℕ, List, [], ◌∷◌, ◌++◌}
+use Rattle.std.specs.Prelude.{Option, None, Some}
 use Prim.Native.String.{String}
 use Rattle.laws.specs.Examples.{Example, computed}
 use Rattle.laws.specs.Text.{bytes_of}
 use Rattle.lines.specs.Command.{Command}
-use Rattle.lines.specs.declared.Command.TheVariants.{Open, Step, Fail, Join, Fetch, Unreadable}
+use Rattle.lines.specs.declared.Command.TheVariants.{Open, Step, Fail, Join, Fetch}
 use Rattle.lines.specs.Grammar.{lines_of, command}
 use Rattle.lines.specs.Answer.{answer_line}
 
--- a command as words, by a number for each form
-abbrev pub command_words : Command → List ℕ
-command_words (Open card number page word price) = 1 ∷ card ∷ number ∷ page ∷ word ∷ price ∷ []
-command_words (Step card count) = 2 ∷ card ∷ count ∷ []
-command_words (Fail card) = 3 ∷ card ∷ []
-command_words (Join card) = 4 ∷ card ∷ []
-command_words (Fetch page word) = 5 ∷ page ∷ word ∷ []
-command_words Unreadable = 0 ∷ []
+-- a command as words, by a number for each form; 0 for none
+abbrev pub command_words : Option Command → List ℕ
+command_words (Some (Open card number page word price)) = 1 ∷ card ∷ number ∷ page ∷ word ∷ price ∷ []
+command_words (Some (Step card count)) = 2 ∷ card ∷ count ∷ []
+command_words (Some (Fail card)) = 3 ∷ card ∷ []
+command_words (Some (Join card)) = 4 ∷ card ∷ []
+command_words (Some (Fetch page word)) = 5 ∷ page ∷ word ∷ []
+command_words None = 0 ∷ []
 
 abbrev pub read_as : String → List ℕ
 read_as line = command_words (command (bytes_of line))

@@ -3,8 +3,8 @@
 -- after the last line feed is no line".
 -- Assumes nothing: these are definitions.
 use Rattle.std.specs.Prelude.{ℕ, ◌+◌, ◌-◌, ◌*◌, ◌≡◌, List, [], ◌∷◌, Bool, true, false, cond, ◌&&◌, length, leb, eqb}
+use Rattle.std.specs.Prelude.{Option, None, Some}
 use Rattle.lines.specs.declared.Command.{Command}
-use Rattle.lines.specs.declared.Command.TheVariants.{Unreadable}
 use Rattle.lines.specs.Line.{fresh_line, line_read}
 use Rattle.lines.specs.Command.{form_of, command_of}
 
@@ -52,20 +52,16 @@ values_of (f ∷ fs) = number_from 0 f ∷ values_of fs
 
 -- ---- commands
 
--- the command that a letter and numbers make
-abbrev pub form_in : List ℕ → Command
-form_in fields = form_of fields (length fields)
+-- one letter, then numbers; none where a line is unreadable
+unfoldable pub command_in : List (List ℕ) → Option Command
+command_in [] = None
+command_in ([] ∷ fields) = None
+command_in ((letter ∷ []) ∷ numbers) = cond (all_numbers numbers) (form_of (letter ∷ values_of numbers)) None
+command_in ((letter ∷ b ∷ bs) ∷ numbers) = None
 
--- one letter, then numbers
-unfoldable pub command_in : List (List ℕ) → Command
-command_in [] = Unreadable
-command_in ([] ∷ fields) = Unreadable
-command_in ((letter ∷ []) ∷ numbers) = cond (all_numbers numbers) (form_in (letter ∷ values_of numbers)) Unreadable
-command_in ((letter ∷ b ∷ bs) ∷ numbers) = Unreadable
-
-abbrev pub command : List ℕ → Command
+abbrev pub command : List ℕ → Option Command
 command line = command_in (fields_of line)
 
 -- Read byte by byte, every line gives its command.
 abbrev pub ReadsCommands : Type 0
-ReadsCommands = (line : List ℕ) → command_of (line_read fresh_line line) ≡ command line
+ReadsCommands = (line : List ℕ) → command_of (line_read (Some fresh_line) line) ≡ command line

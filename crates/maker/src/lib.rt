@@ -3,53 +3,43 @@
 #![tactic(auto)]
 
 ghost use Rattle.std.specs.Prelude.{◌≡◌, ◌*◌, ◌≤◌, length};
-ghost use Rattle.answer.specs.Outcome.{answer_of};
+ghost use Rattle.answer.specs.Refusal.{outcome_of};
 ghost use Rattle.diff.specs.Marks.{change_marks};
-ghost use Rattle.diff.specs.Making.{lent_pages, lent_marked, make_diff, buffer_after, mark_changes};
-ghost use Rattle.diff.specs.Making.{marks_after};
+ghost use Rattle.diff.specs.Making.{lent_marked, make_diff, buffer_after, mark_changes, marks_after};
 
-use answer::Answer;
+use answer::Refusal;
+use diff::format::{MOST_PAGES, PAGE_WORDS};
 
-// Whether so many words of working pages and so many of their twins are equally many whole pages.
-fn lent_pages(working: usize, twins: usize) -> bool
-    ensures { result ≡ lent_pages working twins }
-{
-    if working == twins {
-        if working % 32 == 0 {
-            if 1 <= working {
-                return working <= 2048;
-            }
-        }
-    }
-    false
-}
-
-// Whether a list is made of so many words of working pages, of their twins and of marks.
+// Whether working pages and their twins, of so many words, are 1 to 64 pages each, with one word of
+// marks for each page.
+#[tactic(auto, unfolding(diff::specs::Making::lent_marked, diff::specs::Making::lent_pages))]
 fn lent_marked(working: usize, twins: usize, marks: usize) -> bool
     ensures { result ≡ lent_marked working twins marks }
 {
-    if lent_pages(working, twins) {
-        return marks == working / 32;
-    }
-    false
+    1 <= marks && marks <= MOST_PAGES as usize && working == PAGE_WORDS * marks && twins == working
 }
 
 // Makes the diff of the marked words, at the working prices: gives its length, or refusal 1 or 17.
 // Of the twins only their number counts. The words of the buffer past the diff are kept, and all of
 // them if it is refused.
-pub fn make(working: &[u32], twins: &[u32], marks: &[u32], buffer: &mut [u32]) -> Answer
-    ensures answer { result
-        ≡ answer_of
-        (make_diff working.now twins.now marks.now
-        (length buffer.old)) }
+#[tactic(auto, using(diff::proofs::Making::lent_marked_lem, diff::proofs::Making::lent_by_pages), unfolding(diff::specs::Making::make_diff))]
+pub fn make(
+    working: &[u32],
+    twins: &[u32],
+    marks: &[u32],
+    buffer: &mut [u32],
+) -> Result<u64, Refusal>
+    ensures answer { outcome_of result
+        ≡ make_diff working.now twins.now marks.now
+        (length buffer.old) }
     ensures written { buffer.new
         ≡ buffer_after working.now twins.now marks.now
         buffer.old }
 {
-    if lent_marked(working.len(), twins.len(), marks.len()) {
-        return encoder::write_marked(working, marks, buffer);
+    if !lent_marked(working.len(), twins.len(), marks.len()) {
+        return Err(Refusal::Limits);
     }
-    Answer::Refused(answer::LIMITS, 0)
+    encoder::write_marked(working, marks, buffer)
 }
 
 // Stores the marks of what differs, page by page.
@@ -60,27 +50,25 @@ fn mark_pages(working: &[u32], twins: &[u32], marks: &mut [u32])
     ensures { marks.new
         ≡ change_marks working.now twins.now }
 {
-    let mut page: usize = 0;
-    while page < marks.len() {
-        let first = 32 * page;
-        let end = first + 32;
-        marks[page] = encoder::changes::changed_words(&working[first..end], &twins[first..end]);
-        page += 1;
+    for (page, mark) in marks.iter_mut().enumerate() {
+        let first = PAGE_WORDS * page;
+        let end = first + PAGE_WORDS;
+        *mark = encoder::changes::changed_words(&working[first..end], &twins[first..end]);
     }
 }
 
 // Marks the words that differ from their twins: gives 0, or refusal 1, which changes no mark.
-pub fn mark_changes(working: &[u32], twins: &[u32], marks: &mut [u32]) -> Answer
-    ensures answer { result
-        ≡ answer_of
-        (mark_changes (length working.now) (length twins.now)
-        (length marks.old)) }
+#[tactic(auto, using(diff::proofs::Making::lent_marked_lem, diff::proofs::Making::lent_by_pages), unfolding(diff::specs::Making::mark_changes))]
+pub fn mark_changes(working: &[u32], twins: &[u32], marks: &mut [u32]) -> Result<u64, Refusal>
+    ensures answer { outcome_of result
+        ≡ mark_changes (length working.now) (length twins.now)
+        (length marks.old) }
     ensures written { marks.new
         ≡ marks_after working.now twins.now marks.old }
 {
-    if lent_marked(working.len(), twins.len(), marks.len()) {
-        mark_pages(working, twins, marks);
-        return Answer::Given(0);
+    if !lent_marked(working.len(), twins.len(), marks.len()) {
+        return Err(Refusal::Limits);
     }
-    Answer::Refused(answer::LIMITS, 0)
+    mark_pages(working, twins, marks);
+    Ok(0)
 }

@@ -9,6 +9,7 @@ use Rattle.laws.proofs.Lists.{sets-append, sets_later, get_or-sets_outside, get_
 use Rattle.memory.specs.Words.{index_of, AreaIn, load, store, load_run, overwrite, store_run, zeros, clear_run}
 use Rattle.memory.specs.Words.{copy_run}
 use Rattle.memory.proofs.Index.{Outside, outside_fewer}
+use Rattle.memory.proofs.Parts.{length_part, sets_part, sets_all_part}
 use Rattle.memory.proofs.Words.{store_swap}
 
 -- ---- zeros
@@ -96,6 +97,9 @@ pub store_run_sets : (size : ℕ) (m : List ℕ) (card offset : ℕ) (vs : List 
     → store_run size m card offset vs ≡ sets m (index_of size card offset) vs
 unfolding store_run
 store_run_sets size m card offset vs = overwrite-sets m (index_of size card offset) vs
+
+-- a part of a list that becomes a run of zeros
+pub ruleset cleared_part = (length_part, sets_part, sets_all_part, store_run_sets, length-zeros)
 
 -- a run of one word is that word
 pub store_run_one : (size : ℕ) (m : List ℕ) (card offset v : ℕ)

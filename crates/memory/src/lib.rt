@@ -6,36 +6,13 @@
 ghost use Rattle.std.specs.Prelude.{◌≡◌, ◌+◌, ◌<◌, ◌≤◌, length};
 ghost use Rattle.std.proofs.lemmas.List.Edits.{sets};
 ghost use Rattle.laws.specs.Examples.{AllHold};
-ghost use Rattle.memory.specs.Words.{AreaIn, load, store, load_run, store_run, zeros, clear_run};
+ghost use Rattle.memory.specs.Words.{AreaIn, load, store, load_run, store_run, clear_run};
 ghost use Rattle.memory.specs.Words.{copy_run};
 ghost use Rattle.memory.specs.Examples.{examples};
 
-// ---- slices of words
-
-// Copies one slice into another of the same length.
-pub fn copy_words(from: &[u32], to: &mut [u32])
-    requires { length from.now ≡ length to.old }
-    ensures { to.new ≡ from.now }
-{
-    let mut i = 0;
-    while i < to.len() {
-        to[i] = from[i];
-        i += 1;
-    }
-}
-
-pub fn zero_words(words: &mut [u32])
-    ensures { words.new ≡ zeros (length words.old) }
-{
-    let mut i = 0;
-    while i < words.len() {
-        words[i] = 0;
-        i += 1;
-    }
-}
-
 // ---- one word of a card's area
 
+#[tactic(auto, unfolding(crate::specs::Words::load))]
 pub fn load_word(memory: &[u32], size: usize, card: usize, offset: usize) -> u32
     requires area_in { AreaIn (length memory.now) size card }
     requires offset_lt_size { offset < size }
@@ -44,68 +21,63 @@ pub fn load_word(memory: &[u32], size: usize, card: usize, offset: usize) -> u32
     memory[card * size + offset]
 }
 
+#[tactic(auto, unfolding(crate::specs::Words::store))]
 pub fn store_word(memory: &mut [u32], size: usize, card: usize, offset: usize, v: u32)
     requires area_in { AreaIn (length memory.old) size card }
     requires offset_lt_size { offset < size }
     ensures { memory.new ≡ store size memory.old card offset v }
 {
-    let at = card * size + offset;
-    memory[at] = v;
+    memory[card * size + offset] = v;
 }
 
-// ---- a run of words: the card's area is lent on as a part of the memory, the run as a part of it
+// ---- a run of words: to store it, the card's area is lent on as a part of the memory, the run as a
+// part of the area
 
+#[tactic(auto, unfolding(crate::specs::Words::load_run))]
 pub fn load_run(memory: &[u32], size: usize, card: usize, offset: usize, buffer: &mut [u32])
     requires area_in { AreaIn (length memory.now) size card }
     requires buffer_bound { offset + length buffer.old ≤ size }
     ensures { buffer.new
         ≡ load_run size memory.now card offset (length buffer.old) }
 {
-    let from = card * size + offset;
-    let end = from + buffer.len();
-    copy_words(&memory[from..end], buffer);
+    let start = card * size + offset;
+    buffer.copy_from_slice(&memory[start..start + buffer.len()]);
 }
 
 // Stores words in an area, or in any other slice, from an offset on.
+#[tactic(auto, using(crate::proofs::Parts::sets_all_part))]
 pub fn store_run_in(area: &mut [u32], offset: usize, words: &[u32])
     requires { offset + length words.now ≤ length area.old }
     ensures { area.new ≡ sets area.old offset words.now }
 {
-    let end = offset + words.len();
-    copy_words(words, &mut area[offset..end]);
+    area[offset..offset + words.len()].copy_from_slice(words);
 }
 
+#[tactic(auto, using(crate::proofs::Parts::sets_part, crate::proofs::Runs::store_run_sets))]
 pub fn store_run(memory: &mut [u32], size: usize, card: usize, offset: usize, words: &[u32])
     requires area_in { AreaIn (length memory.old) size card }
     requires words_bound { offset + length words.now ≤ size }
     ensures { memory.new
         ≡ store_run size memory.old card offset words.now }
 {
-    let area = card * size;
-    let end = area + size;
-    store_run_in(&mut memory[area..end], offset, words);
+    let start = card * size;
+    store_run_in(&mut memory[start..start + size], offset, words);
 }
 
-fn clear_run_in(area: &mut [u32], offset: usize, n: usize)
-    requires { offset + n ≤ length area.old }
-    ensures { area.new ≡ sets area.old offset (zeros n) }
-{
-    let end = offset + n;
-    zero_words(&mut area[offset..end]);
-}
-
+#[tactic(auto, using(crate::proofs::Runs::cleared_part), unfolding(crate::specs::Words::clear_run, crate::specs::Words::zeros))]
 pub fn clear_run(memory: &mut [u32], size: usize, card: usize, offset: usize, n: usize)
     requires area_in { AreaIn (length memory.old) size card }
     requires n_bound { offset + n ≤ size }
     ensures { memory.new ≡ clear_run size memory.old card offset n }
 {
-    let area = card * size;
-    let end = area + size;
-    clear_run_in(&mut memory[area..end], offset, n);
+    let start = card * size;
+    let area = &mut memory[start..start + size];
+    area[offset..offset + n].fill(0);
 }
 
 // Copies a run to another card's area, or to another place of the same area, through a buffer of
-// its length: words of two slices are copied as a block.
+// its length: the library copies from one slice to another, and has no method for two parts of one.
+#[tactic(auto, unfolding(crate::specs::Words::copy_run))]
 pub fn copy_run(
     memory: &mut [u32],
     size: usize,
@@ -129,6 +101,7 @@ pub fn copy_run(
 
 // Worked examples of words stored, computed from the definitions. It does nothing when it is
 // called.
+#[tactic(auto, using(crate::proofs::Examples::examples_hold))]
 pub fn examples_hold()
     ensures { AllHold examples }
 {}

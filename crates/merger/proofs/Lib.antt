@@ -3,4 +3,3 @@ pub mod Words
 pub mod Packed
 pub mod Ahead
 pub mod Merging
-pub mod Made

@@ -1,10 +1,9 @@
 -- Two allowed diffs made one, page by page: what the pages before one bring stands in a list, and the rest of both diffs
 -- is ahead.
 use Rattle.std.specs.Prelude.{ℕ, ◌+◌, ◌*◌, ◌%◌, ◌≤◌, ◌<◌, ◌≡◌, List, [], ◌∷◌, ◌++◌, Bool, true, false, cond, ◌||◌}
-use Rattle.std.specs.Prelude.{length, get_or, set}
+use Rattle.std.specs.Prelude.{length, get_or, set, min, None, Some}
 use Rattle.laws.proofs.Prelude.{refl, sym, ap, ◌∙◌, arith, dec_lt, true≢false}
 use Rattle.laws.proofs.Lists.{sets-append}
-use Prim.Native.Nat.{min}
 use native.Mathlib.Nat.{zero-add}
 use lib.ListN.{length-append}
 use lib.Seq.{sets, length-sets}
@@ -18,7 +17,7 @@ use Rattle.diff.proofs.Bits.{none_set}
 use Rattle.diff.proofs.MergedDiff.{merged_list}
 use Rattle.encoder.specs.Page.{page_words}
 use Rattle.encoder.proofs.Pages.{body_from, body_none, body_skip, body_next}
-use Rattle.merger.specs.Page.{PageAt, PageApplied}
+use Rattle.merger.specs.Page.{PageAt, PageApplied, next_page}
 use Rattle.merger.specs.Made.{MadeIn}
 use Rattle.merger.proofs.Ahead.{NextPage, marks_on, prices_on, marks_on_lem, prices_on_lem, Ahead, ahead_first, first_page}
 use Rattle.merger.proofs.Ahead.{word_above, ahead_inside, ahead_word, page_at_lem, past_page_lem}
@@ -41,33 +40,41 @@ length_merged first second =
     ∙ length-append (merged_body first second 0) (end_word (length (merged_body first second 0)) ∷ [])
 
 -- a list in which what the pages before one bring stands before an index
-pub record Merging (first second before : List ℕ) (i j at next : ℕ) (list : List ℕ) : Type 0 where
+pub record Merging (first second before : List ℕ) (i j at : ℕ) (list : List ℕ) : Type 0 where
   page : ℕ
   ahead : Ahead first (prices_of merge_pages first) i page
   ahead' : Ahead second (prices_of merge_pages second) j page
-  lower : next ≡ min (get_or first i 0) (get_or second j 0)
+  pub inside : i < length first
+  pub inside' : j < length second
   pub long : length list ≡ length before
   pub room : at < length before
   counted : at + length (merged_body first second page) ≡ length (merged_body first second 0)
   stored : sets list at (merged_body first second page) ≡ sets before 0 (merged_body first second 0)
 
-pub merging_first : (first second before : List ℕ) (next : ℕ) → Allowed merge_pages first → Allowed merge_pages second
-    → 0 < length before → next ≡ min (get_or first 0 0) (get_or second 0 0)
-    → Merging first second before 0 0 0 next before
-merging_first first second before next allowed allowed' room lower =
+pub merging_first : (first second before : List ℕ) → Allowed merge_pages first → Allowed merge_pages second
+    → 0 < length before → Merging first second before 0 0 0 before
+merging_first first second before allowed allowed' room =
     record {
       page = 0;
       ahead = ahead_first first allowed;
       ahead' = ahead_first second allowed';
-      lower = lower;
+      inside = ahead_inside (ahead_first first allowed);
+      inside' = ahead_inside (ahead_first second allowed');
       long = refl;
       room = room;
       counted = zero-add (length (merged_body first second 0));
       stored = refl;
     }
 
-module _ {first second before : List ℕ} {i j at next : ℕ} {list : List ℕ}
-    (merging : Merging first second before i j at next list) where
+-- the page that the next words name
+page_named : (a b k : ℕ) → next_page a b ≡ Some k → (min a b < 0xF0000000) × (k ≡ min a b % 0x10000000)
+page_named a b k is = grind arith
+
+none_named : (a b : ℕ) → next_page a b ≡ None → 0xF0000000 ≤ min a b
+none_named a b is = grind arith
+
+module _ {first second before : List ℕ} {i j at : ℕ} {list : List ℕ}
+    (merging : Merging first second before i j at list) where
   abbrev p : List Price
   p = prices_of merge_pages first
 
@@ -81,8 +88,12 @@ module _ {first second before : List ℕ} {i j at next : ℕ} {list : List ℕ}
   abbrev np' : NextPage p' merging.ahead'.end merging.page
   np' = first_page merging.ahead'
 
+  -- the lower of the next words
+  abbrev next : ℕ
+  next = min (get_or first i 0) (get_or second j 0)
+
   lower_word : next ≡ min np.word np'.word
-  lower_word = merging.lower ∙ rw (ahead_word merging.ahead, ahead_word merging.ahead')
+  lower_word = rw (ahead_word merging.ahead, ahead_word merging.ahead')
 
   either_unnamed : (k : ℕ) → k ≤ np.next → k ≤ np'.next → (label : ℕ) → 32 * merging.page ≤ label → label < 32 * k
       → either_names p p' label ≡ false
@@ -91,11 +102,8 @@ module _ {first second before : List ℕ} {i j at next : ℕ} {list : List ℕ}
 
   -- ---- at a page word
 
-  module _ (more : next < 0xF0000000) where
-    -- the page that it names: of the next pages of both the lower one
-    abbrev k : ℕ
-    k = next % 0x10000000
-
+  -- the page that it names: of the next pages of both the lower one
+  module _ (k : ℕ) (more : next_page (get_or first i 0) (get_or second j 0) ≡ Some k) where
     record Next : Type 0 where
       on : k < 64
       word : next ≡ page_word k
@@ -106,6 +114,7 @@ module _ {first second before : List ℕ} {i j at next : ℕ} {list : List ℕ}
     next_is : Next
     next_is =
         let low = lower_word in
+        let named = page_named (get_or first i 0) (get_or second j 0) k more in
         let from = np.from in
         let from' = np'.from in
         elim (dec_lt np.next 64) [
@@ -148,21 +157,19 @@ module _ {first second before : List ℕ} {i j at next : ℕ} {list : List ℕ}
 
     module _ (i' j' : ℕ) (past : i' ≡ i + length (page_words k (marks_on p k) (prices_on p k)))
         (past' : j' ≡ j + length (page_words k (marks_on p' k) (prices_on p' k))) where
-      pub both_inside : (i' < length first) × (j' < length second)
-      both_inside = (ahead_inside (past_first i' past), ahead_inside (past_second j' past'))
-
-      pub next_rises : (next' : ℕ) → next' ≡ min (get_or first i' 0) (get_or second j' 0) → next < next'
-      next_rises next' lower =
+      pub next_rises : (next < min (get_or first i' 0) (get_or second j' 0)) × (next < 0xF0000000)
+      next_rises =
           let ahead = past_first i' past in
-          let ahead' = past_second j' past' in
-          omega (
-            arith,
-            lower,
-            ahead_word ahead,
-            ahead_word ahead',
-            word_above (first_page ahead),
-            word_above (first_page ahead'),
-            next_is.word,
+          let ahead' = past_second j' past' in (
+            omega (
+              arith,
+              ahead_word ahead,
+              ahead_word ahead',
+              word_above (first_page ahead),
+              word_above (first_page ahead'),
+              next_is.word,
+            ),
+            (page_named (get_or first i 0) (get_or second j 0) k more).0,
           )
 
     -- what both have on the page is applied to it
@@ -210,31 +217,23 @@ module _ {first second before : List ℕ} {i j at next : ℕ} {list : List ℕ}
           )
 
       -- where the page has no room before the end word, the merged diff has none in the list
-      pub no_room : (after : List ℕ) (words : ℕ) → length before ≤ at + size → length before < words
-          → MadeIn (merged_diff first second) before words after
-      no_room after words full over =
-          let long : length before < length (merged_diff first second) = omega
-          (arith, length_merged first second, merged-length) in
-          record {
-            too_long = λ longer. over;
-            counted = λ short. absurd (omega arith);
-            stored = λ short. absurd (omega arith);
-          }
+      pub no_room : length before ≤ at + size → length before < length (merged_diff first second)
+      no_room full = omega (arith, length_merged first second, merged-length)
 
       -- and where it has, it is written
-      module _ (room : at + size < length before) (i' j' at' next' : ℕ) (list' : List ℕ)
+      module _ (room : at + size < length before) (i' j' at' : ℕ) (list' : List ℕ)
           (past : i' ≡ i + length (page_words k (marks_on p k) (prices_on p k)))
           (past' : j' ≡ j + length (page_words k (marks_on p' k) (prices_on p' k)))
-          (lower : next' ≡ min (get_or first i' 0) (get_or second j' 0))
           (written : at' ≡ at + length (page_words k marks' prices'))
           (stores : list' ≡ sets list at (page_words k marks' prices')) where
-        pub merging_next : Merging first second before i' j' at' next' list'
+        pub merging_next : Merging first second before i' j' at' list'
         merging_next =
             record {
               page = k + 1;
               ahead = past_first i' past;
               ahead' = past_second j' past';
-              lower = lower;
+              inside = ahead_inside (past_first i' past);
+              inside' = ahead_inside (past_second j' past');
               long = rw stores (length-sets list at (page_words k marks' prices') ∙ merging.long);
               room = omega (arith, written, sized k prices');
               counted = omega (arith, written, sized k prices', merged-length);
@@ -246,12 +245,15 @@ module _ {first second before : List ℕ} {i j at next : ℕ} {list : List ℕ}
 
   -- ---- at the end of both
 
-  module _ (last : 0xF0000000 ≤ next) where
+  module _ (last : next_page (get_or first i 0) (get_or second j 0) ≡ None) where
+    low_word : 0xF0000000 ≤ next
+    low_word = none_named (get_or first i 0) (get_or second j 0) last
+
     both_end : (np.next ≡ 64) × (np'.next ≡ 64)
     both_end = elim (dec_lt np.next 64) [
-      | yes less ↦ absurd (omega (arith, lower_word, np.of_page less))
+      | yes less ↦ absurd (omega (arith, low_word, lower_word, np.of_page less))
       | no end ↦ elim (dec_lt np'.next 64) [
-        | yes less' ↦ absurd (omega (arith, lower_word, np'.of_page less'))
+        | yes less' ↦ absurd (omega (arith, low_word, lower_word, np'.of_page less'))
         | no end' ↦ (omega (arith, np.to), omega (arith, np'.to))
       ]
     ]
@@ -266,11 +268,11 @@ module _ {first second before : List ℕ} {i j at next : ℕ} {list : List ℕ}
     whole = omega (arith, merging.counted, ap length nothing_left)
 
     pub merged-made : (list' : List ℕ) → list' ≡ set list at (end_word at)
-        → MadeIn (merged_diff first second) before (at + 1) list'
-    merged-made list' ended =
-        record {
-          too_long = λ longer. absurd (omega (arith, length_merged first second, whole, merging.room));
-          counted = λ short. omega (arith, length_merged first second, whole);
-          stored = λ short.
-              rw (ended, merged_words first second, sets-append, zero-add, ← whole, ← merging.stored, nothing_left);
-        }
+        → MadeIn (merged_diff first second) before (Some (at + 1)) list'
+    merged-made list' ended = (
+      omega (arith, length_merged first second, whole),
+      (
+        omega (arith, length_merged first second, whole, merging.room),
+        rw (ended, merged_words first second, sets-append, zero-add, ← whole, ← merging.stored, nothing_left),
+      ),
+    )

@@ -1,8 +1,8 @@
 -- Inner contracts only. What a diff has on one page, and a page to which it is applied.
 -- Assumes nothing: these are definitions.
 use Rattle.std.specs.Prelude.{ℕ, ◌+◌, ◌^◌, ◌<◌, ◌≡◌, ◌≢◌, List, ◌∷◌, ◌++◌, Bool, cond, ◌&&◌, ◌||◌, length, get_or, drop}
-use Rattle.std.specs.Prelude.{ltb, leb}
-use Rattle.diff.specs.Format.{kind, page_word}
+use Rattle.std.specs.Prelude.{ltb, leb, min, Option, Some, None}
+use Rattle.diff.specs.Format.{kind, low, page_word, end_word}
 use Rattle.diff.specs.Marks.{is_set}
 use Rattle.encoder.specs.Page.{page_words}
 
@@ -26,3 +26,7 @@ pub record PageApplied (own : ℕ) (prices : List ℕ) (marks : ℕ) (shown : Li
   where
     pub marked : (w : ℕ) → is_set marks' w ≡ (is_set marks w || is_set own w)
     pub priced : (w : ℕ) → w < 32 → get_or shown' w 0 ≡ cond (is_set own w) (get_or prices w 0) (get_or shown w 0)
+
+-- the page of the lower of two words, each a page word or an end word, if it is a page word
+abbrev pub next_page : ℕ → ℕ → Option ℕ
+next_page first second = cond (ltb (min first second) (end_word 0)) (Some (low (min first second))) None

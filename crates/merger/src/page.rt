@@ -4,6 +4,8 @@ ghost use Rattle.diff.specs.Marks.{is_set};
 ghost use Rattle.encoder.specs.Page.{page_words};
 ghost use Rattle.merger.specs.Page.{in_range, PageAt, PageApplied};
 
+use diff::format::{KIND, OFFSET, OFFSETS, PAGE_WORD, PAGE_WORDS, RUN};
+
 // The marks of a page, and the index behind its words.
 #[derive(Clone, Copy)]
 pub(crate) struct Applied {
@@ -27,11 +29,10 @@ pub(crate) fn apply_page(
     list: &[u32],
     index: usize,
     page: usize,
-    prices: &mut [u32],
+    prices: &mut [u32; PAGE_WORDS],
     marks: u32,
 ) -> Applied
     requires page_bound { page < 64 }
-    requires prices_len { length prices.old ≡ 32 }
     requires by_index { (own : ℕ) × ((priced : List ℕ) × PageAt list.now index page own priced) }
     ensures past { (own : ℕ) (priced : List ℕ)
         → PageAt list.now index page own priced
@@ -40,20 +41,19 @@ pub(crate) fn apply_page(
         → PageAt list.now index page own priced
         → PageApplied own priced marks prices.old result.marks prices.new }
 {
-    if list[index] != 0x10000000 + page as u32 {
+    if list[index] != PAGE_WORD + page as u32 {
         return Applied { marks, next: index };
     }
     let mut marked = marks;
     let mut at = index + 1;
-    let mut word = list[at];
-    while word / 0x10000000 == 2 {
-        let offset = word / 0x10000 % 0x1000;
-        let count = word % 0x10000;
+    while list[at] / KIND == RUN {
+        let word = list[at];
+        let offset = word / OFFSET % OFFSETS;
+        let count = word % OFFSET;
         let first = at + 1;
         at = first + count as usize;
         memory::store_run_in(prices, offset as usize, &list[first..at]);
-        marked = marked | run_marks(offset, count);
-        word = list[at];
+        marked |= run_marks(offset, count);
     }
     Applied {
         marks: marked,

@@ -1,6 +1,6 @@
 -- Laws of the mover.
 pub mod FieldWords
-pub mod Cursors
+pub mod Turns
 pub mod Limits
 pub mod Results
 pub mod Reading

@@ -6,9 +6,12 @@ use Rattle.directory.specs.declared.Header.{Header}
 use Rattle.area.specs.Prelude.{area_size, MemoryOf}
 use Rattle.protocol.specs.Checks.{outside_limits}
 use Rattle.protocol.proofs.checks.Limits.{Within, within_limits}
-use Rattle.mover.specs.Forms.{old_form, new_form, area_size_in, places_in, MemoryBy}
+use Rattle.mover.specs.declared.forms.Form.{Form}
+use Rattle.mover.specs.declared.forms.Form.TheVariants.{Old, New}
+use Rattle.mover.specs.Forms.{old_form, new_form, width, area_size_in, places_in, MemoryBy}
 use Rattle.mover.specs.Fields.{rack_fields, fields_size}
 use Rattle.mover.specs.Move.{outside_limits_of}
+use Rattle.mover.specs.Moving.{words_of}
 use Rattle.mover.proofs.FieldWords.{rack_fields_lem}
 
 -- the new form is that of the layout
@@ -33,7 +36,7 @@ module _ (old new cards pages : ℕ) (inside : outside_limits_of old new cards p
   new_fields = new_length ∙ sym (rack_fields_lem new_form cards pages)
 
 module _ (h : Header) (old new : ℕ) (inside : outside_limits_of old new h.cards h.pages ≡ false) where
-  pub old_source : MemoryBy (places_in old_form h.pages) h old
+  old_source : MemoryBy (places_in old_form h.pages) h old
   old_source =
       let within = new_within old new h.cards h.pages inside in (
         within.cards_most,
@@ -47,7 +50,7 @@ module _ (h : Header) (old new : ℕ) (inside : outside_limits_of old new h.card
       let within = new_within old new h.cards h.pages inside in
       (within.cards_most, within.pages_most, within.whole)
 
-  pub new_source : MemoryBy (places_in new_form h.pages) h new
+  new_source : MemoryBy (places_in new_form h.pages) h new
   new_source =
       let within = new_within old new h.cards h.pages inside in (
         within.cards_most,
@@ -55,3 +58,9 @@ module _ (h : Header) (old new : ℕ) (inside : outside_limits_of old new h.card
         new_length old new h.cards h.pages inside,
         (omega arith, omega arith, omega arith),
       )
+
+-- the memory that is moved from has its places
+pub source_fits : (from : Form) (h : Header) (old new words : ℕ) → words ≡ words_of from old new
+    → outside_limits_of old new h.cards h.pages ≡ false → MemoryBy (places_in (width from) h.pages) h words
+source_fits Old h old new words is inside = rw is (old_source h old new inside)
+source_fits New h old new words is inside = rw is (new_source h old new inside)

@@ -5,6 +5,8 @@
 use Rattle.std.specs.Prelude.{ℕ, ◌+◌, ◌*◌, ◌<◌, ◌≤◌, ◌≡◌}
 use Rattle.directory.specs.declared.Header.{Header}
 use Rattle.area.specs.Prelude.{number_size, desk_size, record_count, list_size, stored_page_size}
+use Rattle.mover.specs.declared.forms.Form.{Form}
+use Rattle.mover.specs.declared.forms.Form.TheVariants.{Old, New}
 use Rattle.mover.specs.declared.forms.Places.{Places}
 
 abbrev pub old_form : ℕ
@@ -12,6 +14,15 @@ old_form = 1
 
 abbrev pub new_form : ℕ
 new_form = number_size
+
+-- the words of a number in a form that the code names
+abbrev pub width : Form → ℕ
+width Old = old_form
+width New = new_form
+
+abbrev pub other : Form → Form
+other Old = New
+other New = Old
 
 -- ---- a card's area in a form; the own stamp is its first word
 

@@ -1,40 +1,51 @@
--- Inner contracts only. Fields moved from one memory into another: the cursor tells how far a move has come in both.
--- A move by the outcome of its checks.
-use Rattle.std.specs.Prelude.{ℕ, ◌+◌, ◌≤◌, ◌≡◌, List, drop}
+-- Inner contracts only. Fields moved from one memory into another. A move from either form.
+use Rattle.std.specs.Prelude.{ℕ, ◌+◌, ◌≤◌, ◌≡◌, List, length, drop}
 use Rattle.std.proofs.lemmas.List.Edits.{sets}
-use Rattle.answer.specs.declared.Outcome.{Outcome}
 use Rattle.directory.specs.declared.Directory.{Directory}
+use Rattle.protocol.specs.Checks.{Check}
 use Rattle.protocol.specs.Result.{Result}
-use Rattle.mover.specs.declared.fields.Widths.{Widths}
-use Rattle.mover.specs.declared.fields.Cursor.{Cursor}
+use Rattle.mover.specs.declared.forms.Form.{Form}
+use Rattle.mover.specs.declared.forms.Form.TheVariants.{Old, New}
+use Rattle.mover.specs.declared.fields.Mover.{Mover}
+use Rattle.mover.specs.Forms.{width, other}
 use Rattle.mover.specs.Fields.{Field, rack_fields, fields_size, moved}
-use Rattle.mover.specs.Move.{moved_by}
+use Rattle.mover.specs.Move.{move_in_checks, move_back_checks, move_in, move_back}
 
--- a number has one word or two
-abbrev pub ValidWidths : Widths → Type 0
-ValidWidths widths = (1 ≤ widths.from) × (widths.from ≤ 2) × (1 ≤ widths.to) × (widths.to ≤ 2)
+-- both memories have room for the fields that are moved next
+pub record Room (fs : List Field) (m : Mover) : Type 0 where
+  pub source : m.read + fields_size (width m.from) fs ≤ length m.source.now
+  pub target : m.written + fields_size (width m.to) fs ≤ length m.target.now
 
--- both memories have room for the fields behind the cursor
-abbrev pub Room : Widths → List Field → Cursor → ℕ → ℕ → Type 0
-Room widths fs at source target =
-    (at.from + fields_size widths.from fs ≤ source) × (at.to + fields_size widths.to fs ≤ target)
+-- from one mover to the other these fields are moved: those that stand in the source behind the words read are stored
+-- in the target behind the words written
+pub record Moved (fs : List Field) (m m' : Mover) : Type 0 where
+  pub source : m'.source ≡ m.source
+  pub from : m'.from ≡ m.from
+  pub to : m'.to ≡ m.to
+  pub target : m'.target.ghost_name ≡ m.target.ghost_name
+  pub read : m'.read ≡ m.read + fields_size (width m.from) fs
+  pub written : m'.written ≡ m.written + fields_size (width m.to) fs
+  pub words :
+      m'.target.now
+      ≡ sets m.target.now m.written (moved (width m.from) (width m.to) fs (drop m.read m.source.now))
 
--- the cursor behind them
-abbrev pub after : Widths → List Field → Cursor → Cursor
-after widths fs at =
-    record { from = at.from + fields_size widths.from fs; to = at.to + fields_size widths.to fs }
+-- so many words are the memories of a rack, the source and the target
+abbrev pub RackMemories : Form → ℕ → ℕ → ℕ → ℕ → Type 0
+RackMemories from cards pages source target =
+    (source ≡ fields_size (width from) (rack_fields cards pages))
+    × (target ≡ fields_size (width (other from)) (rack_fields cards pages))
 
--- the target with the fields that stand at the cursor of the source
-abbrev pub stored : Widths → List Field → Cursor → List ℕ → List ℕ → List ℕ
-stored widths fs at source target = sets target at.to (moved widths.from widths.to fs (drop at.from source))
+-- of the lengths of two memories, that of the form
+abbrev pub words_of : Form → ℕ → ℕ → ℕ
+words_of Old old new = old
+words_of New old new = new
 
--- so many words are the memories of a rack of at most 64 pages, the source and the target
-abbrev pub RackMemories : Widths → ℕ → ℕ → ℕ → ℕ → Type 0
-RackMemories widths cards pages source target =
-    (pages ≤ 64)
-    × (source ≡ fields_size widths.from (rack_fields cards pages))
-    × (target ≡ fields_size widths.to (rack_fields cards pages))
+-- ---- both ways: a move from a form
 
-abbrev pub checked_move : Widths → Outcome → Directory → List ℕ → List ℕ → Result
-checked_move widths o d source target =
-    moved_by o d (moved widths.from widths.to (rack_fields d.cards d.pages) source) target
+abbrev pub checks_from : Form → Directory → List ℕ → List ℕ → List Check
+checks_from Old d source target = move_in_checks d source target
+checks_from New d source target = move_back_checks d source target
+
+abbrev pub move_from : Form → Directory → List ℕ → List ℕ → Result
+move_from Old d source target = move_in d source target
+move_from New d source target = move_back d source target

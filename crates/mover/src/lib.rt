@@ -3,10 +3,11 @@
 // and directory, and a refusal changes no word of what was lent.
 #![tactic(auto)]
 
-ghost use Rattle.std.specs.Prelude.{◌≡◌, length};
-ghost use Rattle.answer.specs.Outcome.{answer_of};
+ghost use Rattle.std.specs.Prelude.{◌≡◌};
+ghost use Rattle.answer.specs.Refusal.{outcome_of};
+ghost use Rattle.directory.specs.Lent.{lent};
 ghost use Rattle.laws.specs.Examples.{AllHold};
-ghost use Rattle.mover.specs.Moving.{ValidWidths, RackMemories, checked_move};
+ghost use Rattle.mover.specs.Moving.{move_from};
 ghost use Rattle.mover.specs.Move.{move_in, move_back};
 ghost use Rattle.mover.specs.Theorems.{MovedBackIsOld, HighWordsZero, SaysWhatOldSaid};
 ghost use Rattle.mover.specs.Theorems.{LowWordsKept, NumbersKept, RefusedMoves};
@@ -19,75 +20,54 @@ mod high;
 mod move_checks;
 mod unfit;
 
-use answer::Outcome;
+use answer::Refusal;
 use directory::Directory;
-use fields::Widths;
+use directory::lent::LentDirectory;
+use forms::Form;
 use rack::Reply;
+
+// A move from this form: what it answers.
+fn move_from(
+    source: &[u32],
+    from: Form,
+    directory: LentDirectory<'_>,
+    target: &mut [u32],
+) -> Result<u64, Refusal>
+    ensures answer { outcome_of result
+        ≡ (move_from from (lent directory.entry) source.now target.old).outcome }
+    ensures memory { target.new
+        ≡ (move_from from (lent directory.entry) source.now target.old).memory }
+{
+    move_checks::check_move(source, from, target, directory)?;
+    let header = directory.header;
+    fields::move_memory(source, from, target, header.cards, header.pages);
+    Ok(0)
+}
 
 // From an old memory into one of the new form. The old one is kept, and so is the directory.
 pub fn move_in(old: &[u32], directory: Directory, new: &mut [u32]) -> Reply
-    ensures answer { result.answer
-        ≡ answer_of (move_in directory old.now new.old).outcome }
+    ensures answer { outcome_of result.answer
+        ≡ (move_in directory old.now new.old).outcome }
     ensures directory { result.directory
         ≡ (move_in directory old.now new.old).directory }
     ensures memory { new.new
         ≡ (move_in directory old.now new.old).memory }
 {
-    let header = directory.header();
-    let first = move_checks::move_in(old, new, header, &directory.primary, &directory.secondary);
-    let to_new = Widths {
-        from: forms::OLD,
-        to: forms::NEW,
-    };
-    move_checked(first, directory, to_new, old, new)
+    let answer = move_from(old, Form::Old, directory.lend(), new);
+    Reply { directory, answer }
 }
 
 // From a memory of the new form into an old one. That of the new form is kept, and so is the
 // directory.
 pub fn move_back(new: &[u32], directory: Directory, old: &mut [u32]) -> Reply
-    ensures answer { result.answer
-        ≡ answer_of (move_back directory new.now old.old).outcome }
+    ensures answer { outcome_of result.answer
+        ≡ (move_back directory new.now old.old).outcome }
     ensures directory { result.directory
         ≡ (move_back directory new.now old.old).directory }
     ensures memory { old.new
         ≡ (move_back directory new.now old.old).memory }
 {
-    let header = directory.header();
-    let first = move_checks::move_back(new, old, header, &directory.primary, &directory.secondary);
-    let to_old = Widths {
-        from: forms::NEW,
-        to: forms::OLD,
-    };
-    move_checked(first, directory, to_old, new, old)
-}
-
-// A move whose checks came to `first`.
-fn move_checked(
-    first: Outcome,
-    directory: Directory,
-    widths: Widths,
-    source: &[u32],
-    target: &mut [u32],
-) -> Reply
-    requires valid_widths { ValidWidths widths }
-    requires rack_memories { first.number ≡ 0
-        → RackMemories widths directory.cards directory.pages (length source.now)
-        (length target.old) }
-    ensures answer { result.answer
-        ≡ answer_of
-        (checked_move widths first directory source.now target.old).outcome }
-    ensures directory { result.directory
-        ≡ (checked_move widths first directory source.now target.old
-        ).directory }
-    ensures memory { target.new
-        ≡ (checked_move widths first directory source.now target.old
-        ).memory }
-{
-    let answer = answer::answer_of(first);
-    if first.number != 0 {
-        return Reply { directory, answer };
-    }
-    fields::move_memory(source, target, widths, directory.cards, directory.pages);
+    let answer = move_from(new, Form::New, directory.lend(), old);
     Reply { directory, answer }
 }
 
@@ -96,43 +76,51 @@ fn move_checked(
 
 // Going back after going in, into any memory of the old length, is accepted and returns every old
 // word, of dead cards too.
+#[tactic(auto, using(crate::proofs::Theorems::moved_back_is_old))]
 pub fn moved_back_is_old()
     ensures { MovedBackIsOld }
 {}
 
 // Going in, every high word is 0, of dead cards too.
+#[tactic(auto, using(crate::proofs::Theorems::high_words_zero))]
 pub fn high_words_are_zero()
     ensures { HighWordsZero }
 {}
 
 // A rack that was moved in says what the old one said: every word but the high ones, what its records
 // tell, and what fetches and desk questions answer.
+#[tactic(auto, using(crate::proofs::Theorems::says_what_old_said))]
 pub fn says_what_old_said()
     ensures { SaysWhatOldSaid }
 {}
 
 // Going back, every word but the high ones is kept, of dead cards too.
+#[tactic(auto, using(crate::proofs::Theorems::low_words_kept))]
 pub fn low_words_are_kept()
     ensures { LowWordsKept }
 {}
 
 // Going back, every stamp and done mark of a live card is kept whole: that is what 20 is for.
+#[tactic(auto, using(crate::proofs::Theorems::numbers_kept))]
 pub fn numbers_are_kept()
     ensures { NumbersKept }
 {}
 
 // A refused move keeps the memory that it would have written, and the directory, and has the number 1,
 // 2, 11, 15 or, going back, 20.
+#[tactic(auto, using(crate::proofs::Theorems::refused_moves))]
 pub fn refused_moves_change_nothing()
     ensures { RefusedMoves }
 {}
 
 // The new form is the layout that the calls go by.
+#[tactic(auto, using(crate::proofs::Theorems::new_form_is_layout))]
 pub fn new_form_is_layout()
     ensures { NewFormIsLayout }
 {}
 
 // Worked examples of moves, computed from the definitions.
+#[tactic(auto, using(crate::proofs::Examples::examples_hold))]
 pub fn examples_hold()
     ensures { AllHold examples }
 {}

@@ -1,39 +1,36 @@
 // What moves refuse: 1, 2, 11 and 15, of which 2 and 15 are read in the form that is moved from, and on
 // the way back 20.
-ghost use Rattle.std.specs.Prelude.{◌≡◌, ◌<◌, false, length};
+ghost use Rattle.std.specs.Prelude.{◌≡◌, ◌<◌, length};
 ghost use Rattle.laws.specs.Search.{any_below};
-ghost use Rattle.directory.specs.Directory.{directory_by, FullHomes};
-ghost use Rattle.area.specs.Prelude.{AreaIn};
+ghost use Rattle.answer.specs.Refusal.{checked};
+ghost use Rattle.directory.specs.Lent.{lent};
 ghost use Rattle.protocol.specs.Checks.{first_refusal};
-ghost use Rattle.mover.specs.Forms.{MemoryBy};
-ghost use Rattle.mover.specs.Move.{outside_limits_of, open_at, move_checks, move_in_checks};
-ghost use Rattle.mover.specs.Move.{move_back_checks};
+ghost use Rattle.mover.specs.Forms.{width, places_in, MemoryBy};
+ghost use Rattle.mover.specs.Move.{outside_limits_of, open_at, move_checks};
+ghost use Rattle.mover.specs.Moving.{words_of, checks_from};
 
-use crate::forms::Places;
-use crate::{forms, high, unfit};
-use answer::Outcome;
+use crate::forms::{Form, Places};
+use crate::{high, unfit};
+use answer::Refusal;
 use directory::Header;
+use directory::lent::LentDirectory;
+use laws::numbers;
 
 // 1: cards or pages outside their limits, or either memory not of its length.
 fn outside_limits(old: usize, new: usize, cards: u32, pages: u32) -> bool
     ensures { result ≡ outside_limits_of old new cards pages }
 {
-    if checks::outside_limits(new, cards, pages) {
-        return true;
-    }
-    let at = forms::places_in(forms::OLD, pages);
-    old != (cards as usize) * at.size
+    checks::outside_limits(new, cards, pages)
+        || old != (cards as usize) * Form::Old.places(pages).size
 }
 
-fn open_at(memory: &[u32], at: Places, live: &[bool], card: usize) -> bool
-    requires area_in { AreaIn (length memory.now) at.size card × (at.flag < at.size) }
-    requires card_in_bounds { card < length live.now }
-    ensures { result ≡ open_at at live.now memory.now card }
+// Whether a release is open on a live card: what `area::releases` tells of the new form alone.
+fn open_at(memory: &[u32], at: Places, header: Header, card: u32) -> bool
+    requires memory_by { MemoryBy at header (length memory.now) }
+    requires card_lt_cards { card < header.cards }
+    ensures { result ≡ open_at at header.live memory.now card }
 {
-    if live[card] {
-        return memory::load_word(memory, at.size, card, at.flag) == 1;
-    }
-    false
+    header.is_live(card) && memory::load_word(memory, at.size, card as usize, at.flag) == 1
 }
 
 // 15: a release is open on a live card.
@@ -42,88 +39,57 @@ fn any_open(memory: &[u32], at: Places, header: Header) -> bool
     ensures { result
         ≡ any_below (open_at at header.live memory.now) header.cards }
 {
-    let live = header.live;
-    let end = header.cards as usize;
-    let mut card: usize = 0;
-    while card < end {
-        if open_at(memory, at, &live, card) {
-            return true;
-        }
-        card += 1;
-    }
-    false
+    numbers::any_below(header.cards, |card| open_at(memory, at, header, card))
 }
 
-// 1, 2, 11 and 15; `old` and `new` are the lengths of the two memories, of which the source, with these
-// places, is one.
-fn move_refusal(
+// 1, 2, 11 and 15; `old` and `new` are the lengths of the two memories, of which the source is one.
+#[tactic(auto, unfolding(protocol::specs::Checks::first_refusal))]
+fn check_source(
     source: &[u32],
-    at: Places,
+    from: Form,
     old: usize,
     new: usize,
-    header: Header,
-    primary: &[u32],
-    secondary: &[u32],
-) -> Outcome
-    requires full_homes { FullHomes primary.now secondary.now }
-    requires memory_by { outside_limits_of old new header.cards header.pages ≡ false
-        → MemoryBy at header (length source.now) }
-    ensures { result
+    directory: LentDirectory<'_>,
+) -> Result<(), Refusal>
+    requires { length source.now ≡ words_of from old new }
+    ensures { checked result
         ≡ first_refusal
-        (move_checks at (directory_by header primary.now secondary.now) old new
+        (move_checks (places_in (width from) directory.entry.header.pages) (lent directory.entry) old new
         source.now)
         0 }
 {
+    let header = directory.header;
     if outside_limits(old, new, header.cards, header.pages) {
-        return answer::refused_at(answer::LIMITS, 0);
+        return Err(Refusal::Limits);
     }
-    if unfit::unfit_at(source, at, header, primary, secondary) {
-        return answer::refused_at(answer::UNFIT, 0);
+    let at = from.places(header.pages);
+    if unfit::unfit_at(source, at, directory) {
+        return Err(Refusal::Unfit);
     }
-    let status = header.status;
-    if checks::awaits_recovery(status) {
-        return answer::refused_at(answer::RECOVERY_AWAITED, 0);
+    if checks::awaits_recovery(header.status) {
+        return Err(Refusal::RecoveryAwaited);
     }
-    checks::last_check(any_open(source, at, header), answer::JOIN_WHILE_OPEN)
+    checks::last_check(any_open(source, at, header), Refusal::JoinWhileOpen)
 }
 
-pub fn move_in<'a>(
-    old: &[u32],
-    new: &[u32],
-    header: Header,
-    primary: &'a [u32],
-    secondary: &'a [u32],
-) -> Outcome
-    requires { FullHomes primary.now secondary.now }
-    ensures { result
-        ≡ first_refusal
-        (move_in_checks (directory_by header primary.now secondary.now)
-        old.now new.now)
-        0 }
+// All that a move from this form refuses. On the way back 20 comes last.
+pub fn check_move(
+    source: &[u32],
+    from: Form,
+    target: &[u32],
+    directory: LentDirectory<'_>,
+) -> Result<(), Refusal>
+    ensures { checked result
+        ≡ first_refusal (checks_from from (lent directory.entry) source.now target.now) 0 }
 {
-    let at = forms::places_in(forms::OLD, header.pages);
-    move_refusal(old, at, old.len(), new.len(), header, primary, secondary)
-}
-
-// 20 comes last.
-pub fn move_back<'a>(
-    new: &[u32],
-    old: &[u32],
-    header: Header,
-    primary: &'a [u32],
-    secondary: &'a [u32],
-) -> Outcome
-    requires { FullHomes primary.now secondary.now }
-    ensures { result
-        ≡ first_refusal
-        (move_back_checks (directory_by header primary.now secondary.now)
-        new.now old.now)
-        0 }
-{
-    let at = forms::places_in(forms::NEW, header.pages);
-    let first = move_refusal(new, at, old.len(), new.len(), header, primary, secondary);
-    if first.number != 0 {
-        return first;
+    match from {
+        Form::Old => check_source(source, from, source.len(), target.len(), directory),
+        Form::New => {
+            check_source(source, from, target.len(), source.len(), directory)?;
+            checks::last_check(
+                high::too_high(source, directory.header),
+                Refusal::StampTooHigh,
+            )
+        }
     }
-    checks::last_check(high::too_high(new, header), answer::STAMP_TOO_HIGH)
 }

@@ -1,7 +1,7 @@
 -- What a call refuses, in order (document 01, "What the rack refuses, by who caused it"), and refusals 1, 2 and 11.
 -- Assumes nothing: these are definitions.
 use Rattle.std.specs.Prelude.{ℕ, ◌+◌, ◌*◌, List, [], ◌∷◌, ◌++◌, Bool, true, false, cond, not, ◌&&◌, ◌||◌, length, ltb}
-use Rattle.std.specs.Prelude.{leb, eqb}
+use Rattle.std.specs.Prelude.{leb, eqb, Ok, Err}
 use Rattle.laws.specs.Search.{any_below, count_below}
 use Rattle.answer.specs.declared.Outcome.{Outcome}
 use Rattle.answer.specs.Outcome.{given, refused_at, limits, unfit, no_card, recovery_awaited}
@@ -10,9 +10,7 @@ use Rattle.directory.specs.declared.Status.{Status}
 use Rattle.directory.specs.declared.Status.TheVariants.{Running, Awaiting}
 use Rattle.directory.specs.Directory.{live_at, is_live, primary_of, secondary_of, awaits_card}
 use Rattle.area.specs.Prelude.{load, area_size, open_flag, open_list, steps_of}
-use Rattle.diff.specs.declared.Verdict.{Verdict}
-use Rattle.diff.specs.declared.Verdict.TheVariants.{Good, Faulty}
-use Rattle.diff.specs.Reading.{read_diff}
+use Rattle.diff.specs.Reading.{Verdict, read_diff}
 
 -- ---- checks in order
 
@@ -63,8 +61,8 @@ bad_status cards marks (Awaiting f) = leb cards f || live_at marks f
 
 -- "an open release whose list is faulty or whose steps exceed 4k + 10"
 unfoldable pub bad_release : Verdict → ℕ → Bool
-bad_release (Good k words) steps = ltb (4 * k + 10) steps
-bad_release (Faulty place) steps = true
+bad_release (Ok read) steps = ltb (4 * read.prices + 10) steps
+bad_release (Err error) steps = true
 
 -- "word 9 above 1" (word 10 since document 02, request 5), or a bad release: by that word, the steps and the list
 abbrev pub bad_open : ℕ → ℕ → ℕ → List ℕ → Bool

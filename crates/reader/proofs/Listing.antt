@@ -1,98 +1,59 @@
 -- The prices of a list written out, one number for each: what is left to write, written from here on, gives the whole.
-use Rattle.std.specs.Prelude.{ℕ, zero, suc, ◌+◌, ◌≤◌, ◌<◌, ◌≡◌, List, [], ◌∷◌, Bool, true, false, cond, length, get_or}
-use Rattle.std.specs.Prelude.{ltb}
-use Rattle.laws.proofs.Prelude.{refl, ap, ◌∙◌, sym, arith}
-use mathlib.Core.List.{map, map-append}
-use native.Mathlib.Nat.{zero-add}
-use lib.ListN.{length-map, length-append}
-use lib.Seq.{sets, length-sets}
-use Rattle.laws.proofs.Lists.{sets-append, get_or-sets_inside}
+use Rattle.std.specs.Prelude.{ℕ, zero, suc, ◌+◌, ◌≤◌, ◌<◌, ◌≡◌, List, [], ◌∷◌, ◌++◌, Bool, true, false, cond, length, get_or}
+use Rattle.std.specs.Prelude.{ltb, set}
+use Rattle.laws.proofs.Prelude.{refl, ◌∙◌, arith}
+use native.Mathlib.Nat.{add-zero, zero-add}
+use lib.ListN.{length-append, length-set}
+use lib.Seq.{sets, get_or-set_same, get_or-set_other}
 use Rattle.diff.specs.declared.Cursor.{Cursor}
 use Rattle.diff.specs.declared.Price.{Price}
 use Rattle.diff.specs.declared.Step.{Step}
 use Rattle.diff.specs.declared.Step.TheVariants.{Next, End, Fault}
 use Rattle.diff.specs.Reading.{start, word_step}
 use Rattle.diff.specs.Prices.{priced_word, prices_after, prices_from, prices_of}
-use Rattle.reader.specs.Walking.{Walk, at_first, past_word, price_due}
-use Rattle.reader.proofs.Walking.{prices_left, left_first, left_turn, left_end, counts_word}
+use Rattle.std.specs.Prelude.{Option, Some, None}
+use Rattle.std.specs.Iterator.{YieldsFirst, Yields}
+use Rattle.std.proofs.lemmas.List.{map-id}
+use Rattle.std.proofs.lemmas.Iterator.{YieldsList}
+use Rattle.std.proofs.lemmas.Iterator.Consumers.{YieldsList-from_first, YieldsList-turn, YieldsList-end}
+use Rattle.diff.proofs.Stored.{prices_on_pages, price_on_page}
+use Rattle.reader.specs.Left.{left}
+use Rattle.reader.specs.declared.walk.Prices.{Prices}
 
--- ---- one word
+-- ---- written out
 
--- the prices that are left, as f has them, stored at the numbers that they have
-unfoldable pub list_left : (Price → ℕ) → ℕ → List ℕ → Walk → List ℕ → List ℕ
-list_left f pages list at out = sets out at.cursor.prices (map f (prices_left pages list at))
+-- prices stored in order, and the next one behind them
+stored_next : (ps : List Price) (p : Price) (out : List Price) (i : ℕ)
+    → set (sets out i ps) (i + length ps) p ≡ sets out i (ps ++ p ∷ [])
+stored_next [] p out i = rw add-zero
+stored_next (q ∷ ps) p out i =
+    let e : i + suc (length ps) ≡ suc i + length ps = omega arith in
+    rw e (stored_next ps p (set out i q) (suc i))
 
--- how far the listing is: what is left to write, written from here on, gives the whole
-pub record Listing (f : Price → ℕ) (pages : ℕ) (list before out : List ℕ) (at : Walk) : Type 0 where
-  pub same_length : length out ≡ length before
-  pub rest : list_left f pages list at out ≡ sets before 0 (map f (prices_of pages list))
-
-module _ (f : Price → ℕ) (pages : ℕ) (list before : List ℕ) where
-  pub listing_first : Listing f pages list before before at_first
-  unfolding list_left
-  listing_first = record { same_length = refl; rest = rw left_first }
-
-  pub listing_end : {out : List ℕ} {at : Walk} → Listing f pages list before out at → length list ≤ at.index
-      → out ≡ sets before 0 (map f (prices_of pages list))
-  unfolding list_left
-  listing_end {out} {at} far end =
-      sym (ap (λ ps. sets out at.cursor.prices (map f ps)) (left_end pages list at end)) ∙ far.rest
-
-  pub listing_next : {out next : List ℕ} {at : Walk} → Listing f pages list before out at → at.index < length list
-      → next ≡ sets out at.cursor.prices (map f (price_due at.cursor (get_or list at.index 0)))
-      → Listing f pages list before next (past_word pages list at)
-  unfolding list_left
-  listing_next {out} {next} {at} far inside is =
-      let due = price_due at.cursor (get_or list at.index 0) in
-      let left = prices_left pages list (past_word pages list at) in
-      let n = at.cursor.prices in
-      record {
-        same_length = ap length is ∙ length-sets out n (map f due) ∙ far.same_length;
-        rest =
-            ap (λ (k : ℕ). sets next k (map f left))
-            (counts_word pages list at inside ∙ ap (λ (k : ℕ). n + k) (sym (length-map due f)))
-            ∙ ap (λ (l : List ℕ). sets l (n + length (map f due)) (map f left)) is
-            ∙ sym (sets-append (map f due) (map f left) out n)
-            ∙ ap (sets out n) (sym (map-append f due left))
-            ∙ ap (λ ps. sets out n (map f ps)) (sym (left_turn pages list at inside))
-            ∙ far.rest;
-      }
-
--- ---- how many they are
-
--- the prices that are read, and those that are left
-unfoldable pub count_left : ℕ → List ℕ → Walk → ℕ
-count_left pages list at = at.cursor.prices + length (prices_left pages list at)
-
-pub count-first : (pages : ℕ) (list : List ℕ) → count_left pages list at_first ≡ length (prices_of pages list)
-unfolding count_left
-count-first pages list = rw left_first (zero-add _)
-
-module _ (pages : ℕ) (list : List ℕ) (at : Walk) where
-  pub count_end : length list ≤ at.index → count_left pages list at ≡ at.cursor.prices
-  unfolding count_left
-  count_end end = rw (left_end pages list at end) (omega arith)
-
-  pub count_next : at.index < length list → count_left pages list at ≡ count_left pages list (past_word pages list at)
-  unfolding count_left
-  count_next inside =
-      rw (left_turn pages list at inside) (simp length-append (omega (arith, counts_word pages list at inside)))
+pub listed_next : (ps : List Price) (p : Price) (out : List Price)
+    → set (sets out 0 ps) (length ps) p ≡ sets out 0 (ps ++ p ∷ [])
+listed_next ps p out = rw zero-add at (stored_next ps p out 0)
 
 -- ---- what a caller finds in the list
 
-mapped : (f : Price → ℕ) (ps : List Price) (j : ℕ) (d : Price) → j < length ps → get_or (map f ps) j 0 ≡ f (get_or ps j d)
-mapped f [] j d within = absurd (omega arith)
-mapped f (p ∷ ps) zero d within = refl
-mapped f (p ∷ ps) (suc j) d within = mapped f ps j d (omega arith)
+kept : (ps out : List Price) (i j : ℕ) (d : Price) → j < i → get_or (sets out i ps) j d ≡ get_or out j d
+kept [] out i j d before = refl
+kept (p ∷ ps) out i j d before =
+    kept ps (set out i p) (suc i) j d (omega arith) ∙ get_or-set_other out i j p d (λ same. omega arith)
 
--- number j of the prices, as f has it
-pub listed_at : (f : Price → ℕ) (ps : List Price) (out : List ℕ) (j : ℕ) (d : Price) → length ps ≤ length out
-    → j < length ps → get_or (sets out 0 (map f ps)) j 0 ≡ f (get_or ps j d)
-listed_at f ps out j d fits within =
-    let long = length-map ps f in
-    let at : get_or (sets out 0 (map f ps)) j 0 ≡ get_or (map f ps) j 0 =
-    rw zero-add at (get_or-sets_inside (map f ps) out 0 j (omega arith) (omega arith)) in
-    at ∙ mapped f ps j d within
+stored_at : (ps out : List Price) (i j : ℕ) (d : Price) → i + length ps ≤ length out → j < length ps
+    → get_or (sets out i ps) (i + j) d ≡ get_or ps j d
+stored_at [] out i j d fits within = absurd (omega arith)
+stored_at (p ∷ ps) out i zero d fits within =
+    rw add-zero (kept ps (set out i p) (suc i) i d (omega arith) ∙ get_or-set_same out i p d (omega arith))
+stored_at (p ∷ ps) out i (suc j) d fits within =
+    let e : i + suc j ≡ suc i + j = omega arith in
+    rw e (stored_at ps (set out i p) (suc i) j d (simp length-set (omega arith)) (omega arith))
+
+-- number j of the prices
+pub listed_at : (ps out : List Price) (j : ℕ) (d : Price) → length ps ≤ length out → j < length ps
+    → get_or (sets out 0 ps) j d ≡ get_or ps j d
+listed_at ps out j d fits within = rw zero-add at (stored_at ps out 0 j d (omega arith) within)
 
 -- there are no more prices than words
 few_from : (pages : ℕ) (ws : List ℕ) (index : ℕ) (s : Cursor) → length (prices_from pages ws index s) ≤ length ws
@@ -115,3 +76,33 @@ few_from pages (w ∷ ws) index s =
 pub few_prices : (pages : ℕ) (list : List ℕ) → length (prices_of pages list) ≤ length list
 unfolding prices_of
 few_prices pages list = few_from pages list 0 start
+
+-- ---- a `for` over the prices of a list
+
+-- a price that comes after so many
+pub record Turn (pages : ℕ) (list : List ℕ) (had : ℕ) (p : Price) : Type 0 where
+  pub within : had < length (prices_of pages list)
+  pub few : length (prices_of pages list) ≤ length list
+  pub is_on_page : p.page < pages
+  pub in_page : p.word < 32
+
+module _ (pages : ℕ) (list : List ℕ) (s : Prices) (new : left s ≡ prices_of pages list) where
+  road : YieldsList (YieldsFirst left) (λ (p : Price). p) s (prices_of pages list)
+  road = YieldsList-from_first (λ (p : Price). p) left (prices_of pages list) new
+
+  module _ (xs : List Price) (t : Prices) (had : Yields (YieldsFirst left) s xs t) (found : Option Price) (u : Prices)
+      (next : YieldsFirst left t found u) where
+    pub turn_of : (p : Price) → found ≡ Some p → Turn pages list (length xs) p
+    turn_of p is =
+        let turn = YieldsList-turn road xs t had found u p is next in
+        let on = price_on_page pages (prices_of pages list) (length xs) p (prices_on_pages pages list) turn.0 in
+        record {
+          within = turn.0;
+          few = few_prices pages list;
+          is_on_page = rw (← turn.1) at on.0;
+          in_page = rw (← turn.1) at on.1;
+        }
+
+    -- the end: all prices came
+    pub all_had : found ≡ None → xs ≡ prices_of pages list
+    all_had is = rw map-id at (YieldsList-end road xs t had found u is next).0

@@ -1,30 +1,18 @@
 -- A walk over the words of a list: the bounds that each word keeps, and the prices that are left.
-use Rattle.std.specs.Prelude.{ℕ, ◌+◌, ◌-◌, ◌*◌, ◌≤◌, ◌<◌, ◌≡◌, List, [], ◌++◌, length, drop, get_or}
+use Rattle.std.specs.Prelude.{ℕ, ◌+◌, ◌-◌, ◌≤◌, ◌<◌, ◌≡◌, List, [], ◌∷◌, ◌++◌, length, drop, get_or}
 use Rattle.laws.proofs.Prelude.{refl, sym, ap, ◌∙◌, arith, lt-ltb, dec_lt, le-ltb}
 use native.Mathlib.Numerals.{add-one}
 use lib.Seq.{drop-cons}
 use Rattle.diff.specs.declared.Cursor.{Cursor}
-use Rattle.diff.specs.declared.Price.{Price}
 use Rattle.diff.specs.declared.Step.{Step}
 use Rattle.diff.specs.declared.Step.TheVariants.{Next, End, Fault}
 use Rattle.diff.specs.Reading.{word_step}
-use Rattle.diff.specs.Prices.{prices_after, prices_from, prices_of}
+use Rattle.diff.specs.Prices.{priced_word, prices_after, prices_from, prices_of}
 use Rattle.diff.proofs.Reading.{WordCase, a_price, a_page, a_run, an_end, a_fault, word_case}
 use Rattle.diff.proofs.Derivation.{prices_word}
-use Rattle.reader.specs.Walking.{Walk, at_first, after_word, past_word, price_due, past_run}
+use Rattle.reader.specs.Walking.{Walk, at_first, after_word, past_word, price_due, past_run, Reached, prices_left}
 use Rattle.reader.specs.Runs.{past_prices}
 use Rattle.reader.proofs.Turns.{prices_end}
-
--- where a walk over a list of so many words can stand
-abbrev pub Reached : ℕ → ℕ → Walk → Type 0
-Reached pages words at =
-    (at.cursor.word + at.cursor.due ≤ 32) × (at.cursor.gap ≤ 1) × (at.cursor.prices ≤ at.index)
-    × (at.cursor.due ≤ 32 * at.cursor.next) × (at.cursor.next ≤ pages) × (at.index ≤ words)
-    × (at.cursor.due ≤ 32 * at.cursor.gap)
-
--- the prices of the words that are left
-unfoldable pub prices_left : ℕ → List ℕ → Walk → List Price
-prices_left pages list at = prices_from pages (drop at.index list) at.index at.cursor
 
 pub left_first : (pages : ℕ) (list : List ℕ) → prices_left pages list at_first ≡ prices_of pages list
 unfolding prices_left prices_of
@@ -94,6 +82,13 @@ module _ (pages : ℕ) (list : List ℕ) (at : Walk) (inside : at.index < length
       rw (drop-cons list at.index 0 inside, ← add-one at.index)
       (prices_word pages s at.index w (drop (at.index + 1) list) step refl
       ∙ ap (λ ps. price_due s w ++ ps) (after step))
+
+  -- the word is a price, or none
+  pub left_due : 0 < s.due → prices_left pages list at ≡ priced_word s w ∷ prices_left pages list (past_word pages list at)
+  left_due due = left_turn ∙ rw (lt-ltb 0 s.due due)
+
+  pub left_none_due : s.due ≤ 0 → prices_left pages list at ≡ prices_left pages list (past_word pages list at)
+  left_none_due idle = left_turn ∙ rw (le-ltb 0 s.due idle)
 
 -- ---- the prices that are due, and a word
 

@@ -2,21 +2,24 @@
 // area: the whole of it, one price, and its prices as a table.
 #![tactic(auto)]
 
-ghost use Rattle.std.specs.Prelude.{◌≡◌, ◌<◌, ◌≤◌, length, min, map};
+ghost use Rattle.std.specs.Prelude.{◌≡◌, ◌<◌, ◌≤◌, length, slice_get};
 ghost use Rattle.std.proofs.lemmas.List.Edits.{sets};
+ghost use Rattle.answer.specs.Refusal.{outcome_of};
 ghost use Rattle.diff.specs.Reading.{start, past_price, page_step, run_step, end_step, word_step};
 ghost use Rattle.diff.specs.Reading.{read_diff, check_diff};
-ghost use Rattle.diff.specs.Prices.{label_of, prices_of};
+ghost use Rattle.diff.specs.Prices.{prices_of};
 ghost use Rattle.reader.specs.WellFormed.{WellFormed};
-ghost use Rattle.reader.specs.Found.{nth_price};
 ghost use Rattle.reader.specs.Runs.{past_prices, nth_due};
-ghost use Rattle.reader.specs.Listed.{price_of};
-ghost use Rattle.reader.specs.Walking.{price_due};
 
-pub mod walk;
+mod walk;
 
-use answer::Outcome;
-use diff::{Cursor, Price, Step, Verdict};
+use answer::Refusal;
+use diff::format::{END, KIND, MOST_WORDS, OFFSET, OFFSETS, PAGE, PAGE_WORDS, RUN};
+use diff::{Cursor, Extent, Price, ReadError, Step};
+pub use walk::Prices;
+
+// Where a page ends.
+const PAGE_END: u32 = PAGE_WORDS as u32;
 
 // Before the first word.
 pub(crate) fn cursor() -> Cursor
@@ -49,65 +52,50 @@ fn price_read(s: Cursor) -> Cursor
 fn page_word(s: Cursor, w: u32, pages: u32) -> Step
     ensures { result ≡ page_step pages s w }
 {
-    let page = w % 0x10000000;
-    if s.gap == 0 {
+    let page = w % KIND;
+    if s.gap == 0 || page < s.next || pages <= page {
         return Step::Fault;
     }
-    if page < s.next {
-        return Step::Fault;
-    }
-    if pages <= page {
-        Step::Fault
-    } else {
-        Step::Next(Cursor {
-            next: page + 1,
-            word: 0,
-            gap: 0,
-            due: 0,
-            prices: s.prices,
-        })
-    }
+    Step::Next(Cursor {
+        next: page + 1,
+        word: 0,
+        gap: 0,
+        due: 0,
+        prices: s.prices,
+    })
 }
 
 fn run_word(s: Cursor, w: u32) -> Step
     requires { WellFormed s }
     ensures { result ≡ run_step s w }
 {
-    let offset = w / 0x10000 % 0x1000;
-    let count = w % 0x10000;
-    if s.next == 0 {
+    let offset = w / OFFSET % OFFSETS;
+    let count = w % OFFSET;
+    if s.next == 0 || count == 0 || PAGE_END < offset + count || offset < s.word + s.gap {
         return Step::Fault;
     }
-    if count == 0 {
-        return Step::Fault;
-    }
-    if 32 < offset + count {
-        return Step::Fault;
-    }
-    if offset < s.word + s.gap {
-        Step::Fault
-    } else {
-        Step::Next(Cursor {
-            next: s.next,
-            word: offset,
-            gap: 1,
-            due: count,
-            prices: s.prices,
-        })
-    }
+    Step::Next(Cursor {
+        next: s.next,
+        word: offset,
+        gap: 1,
+        due: count,
+        prices: s.prices,
+    })
 }
 
 fn end_word(s: Cursor, w: u32, index: usize) -> Step
     ensures { result ≡ end_step s index w }
 {
-    let own = (w % 0x10000000) as usize;
-    if s.gap == 0 {
+    let own = (w % KIND) as usize;
+    if s.gap == 0 || own != index {
         return Step::Fault;
     }
-    if own == index { Step::End } else { Step::Fault }
+    Step::End
 }
 
-// What the word at an index does to the reading.
+// What the word at an index does to the reading. The kind is matched on as the number that it is in the
+// list, with a range for all unknown kinds: that form is a rule of the project.
+#[tactic(auto, unfolding(diff::specs::Reading::word_step))]
 pub(crate) fn read_word(s: Cursor, w: u32, index: usize, pages: u32) -> Step
     requires { WellFormed s }
     ensures { result ≡ word_step pages s index w }
@@ -115,12 +103,11 @@ pub(crate) fn read_word(s: Cursor, w: u32, index: usize, pages: u32) -> Step
     if 0 < s.due {
         return Step::Next(price_read(s));
     }
-    let kind = w / 0x10000000;
-    match kind {
-        1 => page_word(s, w, pages),
-        2 => run_word(s, w),
-        15 => end_word(s, w, index),
-        0 | 3..=14 | 16..=4294967295 => Step::Fault,
+    match w / KIND {
+        PAGE => page_word(s, w, pages),
+        RUN => run_word(s, w),
+        END => end_word(s, w, index),
+        0 | 3..=14 | 16..=u32::MAX => Step::Fault,
     }
 }
 
@@ -138,18 +125,12 @@ pub(crate) fn run_read(s: Cursor) -> Cursor
     }
 }
 
-// How many words of a list are read: at most 512.
-fn words_read(list: &[u32]) -> usize
-    ensures { result ≡ min (length list.now) 512 }
-{
-    if list.len() < 512 { list.len() } else { 512 }
-}
-
-// Reads a diff from its first word to its end word, as those in a card's area are read.
-pub fn read(list: &[u32], pages: u32) -> Verdict
+// Reads a diff from its first word to its end word, as those in a card's area are read: at most 512
+// words. Of a run's prices only the number is looked at, so the loop goes on by whole runs.
+pub fn read(list: &[u32], pages: u32) -> Result<Extent, ReadError>
     ensures { result ≡ read_diff pages list.now }
 {
-    let words = words_read(list);
+    let words = list.len().min(MOST_WORDS);
     let mut s = cursor();
     let mut index: usize = 0;
     while index < words {
@@ -157,76 +138,60 @@ pub fn read(list: &[u32], pages: u32) -> Verdict
             Step::Next(t) => {
                 let due = t.due as usize;
                 if words <= index + due {
-                    return Verdict::Faulty(words as u32);
+                    break;
                 }
                 s = run_read(t);
                 index += 1 + due;
             }
             Step::End => {
-                return Verdict::Good(s.prices, (index + 1) as u32);
+                return Ok(Extent {
+                    prices: s.prices,
+                    words: (index + 1) as u32,
+                });
             }
             Step::Fault => {
-                return Verdict::Faulty(index as u32);
+                return Err(ReadError {
+                    place: index as u32,
+                });
             }
         }
     }
-    Verdict::Faulty(words as u32)
+    Err(ReadError {
+        place: words as u32,
+    })
 }
 
-// Checks a list handed in: gives the number of its prices, or refusal 7 with its place.
-pub fn check(list: &[u32], pages: u32) -> Outcome
-    ensures { result ≡ check_diff pages list.now }
+// Checks a list handed in: gives the number of its prices, or refuses it as faulty. Nothing may
+// follow its end word.
+pub fn check(list: &[u32], pages: u32) -> Result<u32, Refusal>
+    ensures { outcome_of result ≡ check_diff pages list.now }
 {
-    match read(list, pages) {
-        Verdict::Good(prices, words) => {
-            if (words as usize) < list.len() {
-                Outcome {
-                    number: answer::FAULTY_LIST,
-                    value: words as u64,
-                }
-            } else {
-                Outcome {
-                    number: 0,
-                    value: prices as u64,
-                }
-            }
-        }
-        Verdict::Faulty(place) => Outcome {
-            number: answer::FAULTY_LIST,
-            value: place as u64,
-        },
+    let extent = read(list, pages)?;
+    if (extent.words as usize) < list.len() {
+        return Err(Refusal::FaultyList(extent.words));
     }
-}
-
-// A price of a diff, or that there is none of this number.
-#[derive(Clone, Copy)]
-pub enum Found {
-    Priced(Price),
-    Nothing,
+    Ok(extent.prices)
 }
 
 // The price numbered `n` of those that are due from an index on, unless the list stops before it.
-fn nth_due(list: &[u32], index: usize, s: Cursor, n: u32) -> Found
+fn nth_due(list: &[u32], index: usize, s: Cursor, n: u32) -> Option<Price>
     requires well_formed { WellFormed s }
     requires n_lt_due { (n < s.due) × (index ≤ length list.now) }
     ensures { result ≡ nth_due list.now index s n }
 {
-    let at = index + n as usize;
-    if at < list.len() {
-        Found::Priced(Price {
-            page: s.next - 1,
-            word: s.word + n,
-            price: list[at],
-        })
-    } else {
-        Found::Nothing
-    }
+    let price = *list.get(index + n as usize)?;
+    Some(Price {
+        page: s.next - 1,
+        word: s.word + n,
+        price,
+    })
 }
 
-// The price numbered `n` of a diff, from 0 on.
-pub fn nth_price(list: &[u32], pages: u32, n: u32) -> Found
+// The price numbered `n` of a diff, from 0 on. It goes on by whole runs, so that it is no search of
+// the prices one by one.
+pub fn nth_price(list: &[u32], pages: u32, n: u32) -> Option<Price>
     requires { length list.now ≤ 512 }
-    ensures { result ≡ nth_price (prices_of pages list.now) n }
+    ensures { result ≡ slice_get (prices_of pages list.now) n }
 {
     let mut at = walk::first_word();
     let mut left = n;
@@ -238,42 +203,20 @@ pub fn nth_price(list: &[u32], pages: u32, n: u32) -> Found
         left -= due;
         at = walk::next_run(list, at, pages);
     }
-    Found::Nothing
+    None
 }
 
-// Stores label and price of the price that is due, if one is, at its number.
-fn put_due(s: Cursor, w: u32, labels: &mut [u32], prices: &mut [u32])
-    requires well_formed { WellFormed s }
-    requires prices_in_bounds { (s.prices < length labels.old) × (s.prices < length prices.old) }
-    requires next_bound { s.next ≤ 64 }
-    ensures labels { labels.new
-        ≡ sets labels.old s.prices (map label_of (price_due s w)) }
-    ensures prices { prices.new
-        ≡ sets prices.old s.prices (map price_of (price_due s w)) }
-{
-    if 0 < s.due {
-        let at = s.prices as usize;
-        labels[at] = 32 * (s.next - 1) + s.word;
-        prices[at] = w;
-    }
-}
-
-// Lists the prices of a diff, and answers how many they are: label j (32 × page + word) and price j,
-// from 0 on. The words after the last one are kept.
-pub fn list_prices(list: &[u32], pages: u32, labels: &mut [u32], prices: &mut [u32]) -> u32
-    requires list_len_bound { (length list.now ≤ 512) × (pages ≤ 64) }
-    requires labels_len { (length labels.old ≡ 512) × (length prices.old ≡ 512) }
+// Lists the prices of a diff, from 0 on, and answers how many they are. What stands after the last
+// one is kept.
+pub fn list_prices(list: &[u32], pages: u32, prices: &mut [Price; 512]) -> u32
+    requires { length list.now ≤ 512 }
     ensures count { result ≡ length (prices_of pages list.now) }
-    ensures labels { labels.new
-        ≡ sets labels.old 0 (map label_of (prices_of pages list.now)) }
-    ensures prices { prices.new
-        ≡ sets prices.old 0 (map price_of (prices_of pages list.now)) }
+    ensures prices { prices.new ≡ sets prices.old 0 (prices_of pages list.now) }
 {
-    let mut at = walk::first_word();
-    while at.index < list.len() {
-        let index = at.index;
-        put_due(at.cursor, list[index], labels, prices);
-        at = walk::next_word(list, at, pages);
+    let mut count: usize = 0;
+    for price in Prices::new(list, pages) {
+        prices[count] = price;
+        count += 1;
     }
-    at.cursor.prices
+    count as u32
 }

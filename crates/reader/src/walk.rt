@@ -1,9 +1,11 @@
-// A walk over a list, word by word or run by run.
+// A walk over a list, word by word or run by run, and the prices that it comes to.
 ghost use Rattle.std.specs.Prelude.{◌≡◌, ◌<◌, ◌≤◌, length};
+ghost use Rattle.std.specs.Iterator.{YieldsFirst, item_count};
+ghost use Rattle.diff.specs.Prices.{prices_of};
 ghost use Rattle.reader.specs.WellFormed.{WellFormed};
-ghost use Rattle.reader.specs.Walking.{at_first, past_word, past_run};
+ghost use Rattle.reader.specs.Walking.{at_first, past_word, past_run, Reached};
 
-use diff::{Cursor, Step};
+use diff::{Cursor, Price, Step};
 
 // How far the walk is.
 #[derive(Clone, Copy)]
@@ -13,7 +15,7 @@ pub struct Walk {
 }
 
 // Before the first word.
-pub fn first_word() -> Walk
+pub(crate) fn first_word() -> Walk
     ensures { result ≡ at_first }
 {
     let cursor = crate::cursor();
@@ -21,7 +23,7 @@ pub fn first_word() -> Walk
 }
 
 // Past the next word of the list: at its end if the word ends the list or breaks a rule.
-pub fn next_word(list: &[u32], at: Walk, pages: u32) -> Walk
+fn next_word(list: &[u32], at: Walk, pages: u32) -> Walk
     requires well_formed { WellFormed at.cursor }
     requires index_in_bounds { at.index < length list.now }
     ensures { result ≡ past_word pages list.now at }
@@ -33,11 +35,7 @@ pub fn next_word(list: &[u32], at: Walk, pages: u32) -> Walk
             cursor: next,
             index: index + 1,
         },
-        Step::End => Walk {
-            cursor,
-            index: list.len(),
-        },
-        Step::Fault => Walk {
+        Step::End | Step::Fault => Walk {
             cursor,
             index: list.len(),
         },
@@ -45,7 +43,7 @@ pub fn next_word(list: &[u32], at: Walk, pages: u32) -> Walk
 }
 
 // Past the prices that are due, and the next word: the prices are not looked at.
-pub fn next_run(list: &[u32], at: Walk, pages: u32) -> Walk
+pub(crate) fn next_run(list: &[u32], at: Walk, pages: u32) -> Walk
     requires well_formed { WellFormed at.cursor }
     requires index_in_bounds { (at.index < length list.now) × (length list.now ≤ 512) }
     requires prices_le_index { at.cursor.prices ≤ at.index }
@@ -64,5 +62,57 @@ pub fn next_run(list: &[u32], at: Walk, pages: u32) -> Walk
     Walk {
         cursor,
         index: list.len(),
+    }
+}
+
+// The prices of a diff that are still to come, in order.
+#[derive(Drop)]
+pub struct Prices<'a> {
+    list: &'a [u32],
+    pages: u32,
+    at: Walk,
+    ghost few: { length list.now ≤ 512 },
+    ghost reached: { Reached pages (length list.now) at },
+}
+
+impl<'a> Prices<'a> {
+    ghost use Rattle.reader.specs.Left.{left};
+
+    // All prices of a diff, whether it is handed in or stands in a card's area.
+    pub fn new(list: &'a [u32], pages: u32) -> Prices<'a>
+        requires { length list.now ≤ 512 }
+        ensures { left result ≡ prices_of pages list.now }
+    {
+        Prices {
+            list,
+            pages,
+            at: first_word(),
+        }
+    }
+}
+
+impl<'a> Iterator for Prices<'a> {
+    type Item = Price;
+
+    ghost use Rattle.reader.specs.Left.{left};
+
+    ghost next_gives = { YieldsFirst left };
+
+    ghost remaining = { item_count left };
+
+    fn next(&mut self) -> Option<Price> {
+        while self.at.index < self.list.len() {
+            let Walk { cursor, index } = self.at;
+            let price = self.list[index];
+            self.at = next_word(self.list, self.at, self.pages);
+            if 0 < cursor.due {
+                return Some(Price {
+                    page: cursor.next - 1,
+                    word: cursor.word,
+                    price,
+                });
+            }
+        }
+        None
     }
 }

@@ -1,43 +1,37 @@
 // Open releases, each run to its close.
 ghost use Rattle.std.specs.Prelude.{◌≡◌, true, ◌<◌, length};
-ghost use Rattle.directory.specs.Directory.{backup_of, directory_by};
+ghost use Rattle.directory.specs.Directory.{backup_of};
+ghost use Rattle.directory.specs.Lent.{lent};
 ghost use Rattle.area.specs.Prelude.{has_open_release, area_size};
 ghost use Rattle.protocol.specs.Recovery.{close_releases};
-ghost use Rattle.release.specs.Stepping.{CardIn, HomesIn, GoodRelease};
+ghost use Rattle.release.specs.Stepping.{CardOf, HomesOf, GoodRelease};
 ghost use Rattle.recovery.specs.Closing.{ReleasesIn, close_with};
-ghost use Rattle.recovery.specs.Rack.{RackIn, SomeLive, HomesOf};
+ghost use Rattle.recovery.specs.Rack.{RackIn, SomeLive};
 
-use directory::{Directory, Header};
+use directory::Directory;
+use directory::lent::LentDirectory;
 
 // A count past all the steps that a release can have left.
-const ALL_STEPS: u32 = 0xFFFFFFFF;
+const ALL_STEPS: u32 = u32::MAX;
 
 // Runs the release that is open on a card, if one is, to its close. `before` is the directory from
 // before the failure: it tells the card's backup.
-fn run_to_close<'a>(
-    memory: &mut [u32],
-    header: Header,
-    primary: &'a [u32],
-    secondary: &'a [u32],
-    before: Directory,
-    card: u32,
-)
-    requires homes_in { HomesIn header.live header.pages primary.now secondary.now
-        (length memory.old) }
-    requires card_in { CardIn header.live (length memory.old) (area_size header.pages) card }
-    requires card_in_2 { CardIn header.live (length memory.old) (area_size header.pages)
-        (backup_of before card) }
-    requires good_release { has_open_release header.live (area_size header.pages) memory.old card ≡ true
-        → GoodRelease header.pages memory.old card }
+fn run_to_close(memory: &mut [u32], directory: LentDirectory<'_>, before: Directory, card: u32)
+    requires homes_of { HomesOf (lent directory) (length memory.old) }
+    requires card_in { CardOf directory.header (length memory.old) card }
+    requires backup_in { CardOf directory.header (length memory.old) (backup_of before card) }
+    requires good_release { has_open_release directory.header.live
+        (area_size directory.header.pages) memory.old card ≡ true
+        → GoodRelease directory.header.pages memory.old card }
     ensures { memory.new
-        ≡ close_with (directory_by header primary.now secondary.now)
-        (backup_of before card) card memory.old }
+        ≡ close_with (lent directory.entry) (backup_of before card) card memory.old }
 {
     let at = card as usize;
-    let live = header.live;
-    if area::releases::is_open(memory, area::layout::area_size(header.pages), &live, at) {
+    let live = directory.header.live;
+    let size = area::layout::area_size(directory.header.pages);
+    if area::releases::is_open(memory, size, &live, at) {
         let backup = before.backup(card) as usize;
-        release::make_steps(memory, header, primary, secondary, backup, at, ALL_STEPS);
+        release::make_steps(memory, directory, backup, at, ALL_STEPS);
     }
 }
 
@@ -51,16 +45,8 @@ pub(crate) fn close_releases(memory: &mut [u32], directory: Directory, failed: u
     ensures { memory.new
         ≡ close_releases directory failed memory.old }
 {
-    let header = directory.header();
     let before = directory.mark_live(failed);
     for card in 0..directory.cards {
-        run_to_close(
-            memory,
-            header,
-            &directory.primary,
-            &directory.secondary,
-            before,
-            card,
-        );
+        run_to_close(memory, directory.lend(), before, card);
     }
 }

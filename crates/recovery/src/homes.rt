@@ -2,7 +2,8 @@
 ghost use Rattle.std.specs.Prelude.{◌≡◌, cond, ◌||◌, length, eqb};
 ghost use Rattle.directory.specs.NewHome.{even_home};
 ghost use Rattle.protocol.specs.Recovery.{copy_to_new_homes, moved_below};
-ghost use Rattle.recovery.specs.Rack.{RackIn, OtherLive, FailedIn, HomesOf};
+ghost use Rattle.release.specs.Stepping.{HomesOf};
+ghost use Rattle.recovery.specs.Rack.{RackIn, OtherLive, FailedIn};
 
 use directory::Directory;
 
@@ -10,10 +11,7 @@ use directory::Directory;
 fn lost_home(primary: u32, secondary: u32, failed: u32) -> bool
     ensures { result ≡ (eqb primary failed || eqb secondary failed) }
 {
-    if primary == failed {
-        return true;
-    }
-    secondary == failed
+    primary == failed || secondary == failed
 }
 
 // The home that a page keeps: its primary, or its secondary if the primary failed.
@@ -21,9 +19,10 @@ fn kept_home(primary: u32, secondary: u32, failed: u32) -> u32
     ensures { result ≡ cond (eqb primary failed) secondary primary }
 {
     if primary == failed {
-        return secondary;
+        secondary
+    } else {
+        primary
     }
-    primary
 }
 
 // Each page that lost a home gets both copies at its new one, and its homes from then on. Pages are

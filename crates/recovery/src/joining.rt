@@ -25,6 +25,7 @@ pub(crate) fn reset_area(memory: &mut [u32], directory: Directory, card: u32)
 }
 
 // Copies the record of another dead card to the card that joins.
+#[tactic(auto, unfolding(protocol::specs::Join::copy_dead_record))]
 fn copy_dead_record(memory: &mut [u32], directory: Directory, joining: u32, card: u32)
     requires rack_in { RackIn directory (length memory.old) }
     requires some_live { SomeLive directory }
@@ -33,10 +34,7 @@ fn copy_dead_record(memory: &mut [u32], directory: Directory, joining: u32, card
         ≡ copy_dead_record directory joining card memory.old }
 {
     let at = card as usize;
-    if directory.live[at] {
-        return;
-    }
-    if card == joining {
+    if directory.live[at] || card == joining {
         return;
     }
     let holder = directory.next_live(card) as usize;
@@ -45,6 +43,7 @@ fn copy_dead_record(memory: &mut [u32], directory: Directory, joining: u32, card
 }
 
 // Copies the records of all other dead cards.
+#[tactic(auto, using(laws::proofs::Search::in_turn_none, laws::proofs::Search::in_turn_more))]
 pub(crate) fn copy_dead_records(memory: &mut [u32], directory: Directory, joining: u32)
     requires rack_in { RackIn directory (length memory.old) }
     requires some_live { SomeLive directory }

@@ -4,14 +4,13 @@
 #![tactic(auto)]
 
 ghost use Rattle.std.specs.Prelude.{◌≡◌, ◌<◌, length};
-ghost use Rattle.directory.specs.Directory.{with_status};
 ghost use Rattle.directory.specs.NewHome.{even_home};
-ghost use Rattle.directory.specs.declared.Status.TheVariants.{Running};
 ghost use Rattle.area.specs.Prelude.{desk_size};
 ghost use Rattle.protocol.specs.Recovery.{failed_release, recovered_memory, recovered_directory};
 ghost use Rattle.protocol.specs.Join.{joined_memory};
+ghost use Rattle.release.specs.Stepping.{HomesOf};
 ghost use Rattle.recovery.specs.Closing.{ReleasesIn, record_of, recovered_closed};
-ghost use Rattle.recovery.specs.Rack.{RackIn, SomeLive, OtherLive, FailedIn, HomesOf};
+ghost use Rattle.recovery.specs.Rack.{RackIn, SomeLive, OtherLive, FailedIn};
 
 use directory::{Directory, Status};
 
@@ -27,24 +26,6 @@ mod restoring;
 pub struct Recovered {
     pub directory: Directory,
     pub number: u64,
-}
-
-// The directory with its status running. A field that is an enum is not stored to: the struct is
-// made anew.
-fn running(directory: Directory) -> Directory
-    ensures { result ≡ with_status directory Running }
-{
-    let live = directory.live;
-    let primary = directory.primary;
-    let secondary = directory.secondary;
-    Directory {
-        cards: directory.cards,
-        pages: directory.pages,
-        live,
-        primary,
-        secondary,
-        status: Status::Running,
-    }
 }
 
 // Recovers a rack whose releases are closed: reads the failed card's record, rolls all pages
@@ -73,19 +54,11 @@ fn recover_closed(
     let holder = directory.next_live(failed) as usize;
     let number = area::records::load_record(memory, size, holder, at, desk);
     let forward = area::records::under_way(memory, size, holder, at);
-    let header = directory.header();
-    restoring::restore_pages(
-        memory,
-        header,
-        &directory.primary,
-        &directory.secondary,
-        forward,
-    );
+    restoring::restore_pages(memory, directory.lend(), forward);
     let moved = homes::move_homes(memory, directory, failed);
     records::write_records(memory, directory, failed, number, desk);
-    let recovered = running(moved);
     Recovered {
-        directory: recovered,
+        directory: moved.with_status(Status::Running),
         number,
     }
 }

@@ -27,6 +27,7 @@ fn write_failed(memory: &mut [u32], header: Header, failed: usize, words: &[u32]
 }
 
 // Stores the record of a failed card on every live card.
+#[tactic(auto, using(laws::proofs::Search::in_turn_none, laws::proofs::Search::in_turn_more))]
 fn write_failed_records(memory: &mut [u32], directory: Directory, failed: usize, words: &[u32])
     requires rack_in { RackIn directory (length memory.old) }
     requires failed_bound { (failed < 8) × (length words.now ≡ record_size) }
@@ -42,6 +43,7 @@ fn write_failed_records(memory: &mut [u32], directory: Directory, failed: usize,
 
 // Writes the record of a live card, if its backup by the directory `before` is `backup`, on its
 // backup by the directory `after`.
+#[tactic(auto, unfolding(area::specs::Record::write_own_record))]
 fn write_own_record(
     memory: &mut [u32],
     live: &[bool],
@@ -58,15 +60,14 @@ fn write_own_record(
         (backup_of after) card memory.old }
 {
     let at = card as usize;
-    if live[at] {
-        if before.backup(card) == backup {
-            let holder = after.backup(card) as usize;
-            area::records::copy_own_record(memory, layout::area_size(after.pages), holder, at);
-        }
+    if live[at] && before.backup(card) == backup {
+        let holder = after.backup(card) as usize;
+        area::records::copy_own_record(memory, layout::area_size(after.pages), holder, at);
     }
 }
 
 // Writes the records of the live cards whose backup by the directory `before` is `backup`.
+#[tactic(auto, using(laws::proofs::Search::in_turn_none, laws::proofs::Search::in_turn_more))]
 pub(crate) fn write_own_records(
     memory: &mut [u32],
     live: &[bool],

@@ -1,241 +1,158 @@
 // Which calls the rack refuses: document 01's checks, in its order, for each call. A function
-// answers the first refusal with its place, or the number 0 where the call is accepted. A directory
-// comes as its header, by value, with its homes lent beside it.
+// answers the first refusal.
 #![tactic(auto)]
 
 ghost use Rattle.std.specs.Prelude.{◌≡◌, ◌<◌, length};
-ghost use Rattle.directory.specs.Directory.{directory_by, FullHomes};
+ghost use Rattle.answer.specs.Refusal.{checked};
+ghost use Rattle.directory.specs.Lent.{lent};
 ghost use Rattle.area.specs.Prelude.{MemoryOf};
 ghost use Rattle.protocol.specs.Checks.{first_refusal};
 ghost use Rattle.protocol.specs.Calls.{opening_checks, step_checks, page_checks, fetch_checks};
 ghost use Rattle.protocol.specs.Calls.{failure_checks, recovery_checks, join_checks, desk_checks};
 ghost use Rattle.refusals.specs.Parts.{list_checks, number_checks};
 
-use answer::Outcome;
+use answer::Refusal;
 use directory::Header;
+use directory::lent::LentDirectory;
 
 // ---- opening a release
 
 // 7 and 8: the list, and words of it that another card's open release prices.
-fn list_refusal(memory: &[u32], header: Header, card: u32, list: &[u32]) -> Outcome
+fn check_list(memory: &[u32], header: Header, card: u32, list: &[u32]) -> Result<(), Refusal>
     requires { MemoryOf header (length memory.now) }
-    ensures { result
+    ensures { checked result
         ≡ first_refusal (list_checks header memory.now card list.now) 0 }
 {
-    let read = reader::check(list, header.pages);
-    if 0 < read.number {
-        return answer::refused_at(answer::FAULTY_LIST, read.value);
+    reader::check(list, header.pages)?;
+    match conflict::lowest_sharing(memory, header, card, list) {
+        Some(other) => Err(Refusal::WordInUse(other)),
+        None => Ok(()),
     }
-    let other = conflict::lowest_sharing(memory, header, card, list);
-    if other < header.cards {
-        return answer::refused_at(answer::WORD_IN_USE, other as u64);
-    }
-    answer::given(0)
 }
 
 // 4, 5 and 6, then the list.
-fn number_refusal(memory: &[u32], header: Header, card: u32, number: u64, list: &[u32]) -> Outcome
+fn check_number(
+    memory: &[u32],
+    header: Header,
+    card: u32,
+    number: u64,
+    list: &[u32],
+) -> Result<(), Refusal>
     requires memory_of { MemoryOf header (length memory.now) }
     requires card_lt_cards { card < header.cards }
-    ensures { result
+    ensures { checked result
         ≡ first_refusal (number_checks header memory.now card number list.now)
         0 }
 {
     if area::releases::is_open_on(memory, header, card) {
-        return answer::refused_at(answer::RELEASE_OPEN, 0);
+        return Err(Refusal::ReleaseOpen);
     }
     let size = area::layout::area_size(header.pages);
     let stamp = area::numbers::load_number(memory, size, card as usize, area::layout::OWN_STAMP);
     if number <= stamp {
-        return answer::refused_at(answer::NUMBER_USED, stamp);
+        return Err(Refusal::NumberUsed(stamp));
     }
     if stamp + 1 < number {
-        return answer::refused_at(answer::NUMBER_AHEAD, 0);
+        return Err(Refusal::NumberAhead);
     }
-    list_refusal(memory, header, card, list)
+    check_list(memory, header, card, list)
 }
 
-pub fn opening<'a>(
+pub fn opening(
     memory: &[u32],
-    header: Header,
-    primary: &'a [u32],
-    secondary: &'a [u32],
+    directory: LentDirectory<'_>,
     card: u32,
     number: u64,
     list: &[u32],
-) -> Outcome
-    requires { FullHomes primary.now secondary.now }
-    ensures { result
+) -> Result<(), Refusal>
+    ensures { checked result
         ≡ first_refusal
-        (opening_checks (directory_by header primary.now secondary.now)
-        memory.now card number list.now)
+        (opening_checks (lent directory.entry) memory.now card number list.now)
         0 }
 {
-    let first = checks::live_card_refusal(memory, header, primary, secondary, card);
-    if first.number != 0 {
-        return first;
-    }
-    number_refusal(memory, header, card, number, list)
+    checks::check_live_card(memory, directory, card)?;
+    check_number(memory, directory.header, card, number, list)
 }
 
 // ---- the other calls
 
-pub fn step<'a>(
-    memory: &[u32],
-    header: Header,
-    primary: &'a [u32],
-    secondary: &'a [u32],
-    card: u32,
-) -> Outcome
-    requires { FullHomes primary.now secondary.now }
-    ensures { result
-        ≡ first_refusal
-        (step_checks (directory_by header primary.now secondary.now)
-        memory.now card)
-        0 }
+pub fn step(memory: &[u32], directory: LentDirectory<'_>, card: u32) -> Result<(), Refusal>
+    ensures { checked result
+        ≡ first_refusal (step_checks (lent directory.entry) memory.now card) 0 }
 {
-    let first = checks::live_card_refusal(memory, header, primary, secondary, card);
-    if first.number != 0 {
-        return first;
-    }
+    checks::check_live_card(memory, directory, card)?;
     checks::last_check(
-        !area::releases::is_open_on(memory, header, card),
-        answer::NONE_OPEN,
+        !area::releases::is_open_on(memory, directory.header, card),
+        Refusal::NoneOpen,
     )
 }
 
 // 1, 2, 11, 9 and 10: those of a page that is to be shown.
-fn page_refusal(
-    memory: &[u32],
-    header: Header,
-    primary: &[u32],
-    secondary: &[u32],
-    page: u32,
-) -> Outcome
-    requires { FullHomes primary.now secondary.now }
-    ensures { result
-        ≡ first_refusal
-        (page_checks (directory_by header primary.now secondary.now)
-        memory.now page)
-        0 }
+fn check_page(memory: &[u32], directory: LentDirectory<'_>, page: u32) -> Result<(), Refusal>
+    ensures { checked result
+        ≡ first_refusal (page_checks (lent directory.entry) memory.now page) 0 }
 {
-    let first = checks::running_refusal(memory, header, primary, secondary);
-    if first.number != 0 {
-        return first;
+    checks::check_running(memory, directory)?;
+    if directory.header.pages <= page {
+        return Err(Refusal::NoPage);
     }
-    if header.pages <= page {
-        return answer::refused_at(answer::NO_PAGE, 0);
+    match conflict::lowest_in_motion(memory, directory.header, page) {
+        Some(card) => Err(Refusal::PageInMotion(card)),
+        None => Ok(()),
     }
-    let card = conflict::lowest_in_motion(memory, header, page);
-    if card < header.cards {
-        return answer::refused_at(answer::PAGE_IN_MOTION, card as u64);
-    }
-    answer::given(0)
 }
 
 // `room`: how many words the page buffer has.
-pub fn fetch<'a>(
+pub fn fetch(
     memory: &[u32],
-    header: Header,
-    primary: &'a [u32],
-    secondary: &'a [u32],
+    directory: LentDirectory<'_>,
     page: u32,
     room: usize,
-) -> Outcome
-    requires { FullHomes primary.now secondary.now }
-    ensures { result
-        ≡ first_refusal
-        (fetch_checks (directory_by header primary.now secondary.now)
-        memory.now page room)
-        0 }
+) -> Result<(), Refusal>
+    ensures { checked result
+        ≡ first_refusal (fetch_checks (lent directory.entry) memory.now page room) 0 }
 {
-    let first = page_refusal(memory, header, primary, secondary, page);
-    if first.number != 0 {
-        return first;
-    }
-    checks::last_check(room != area::layout::PAGE_SIZE, answer::WRONG_BUFFER)
+    check_page(memory, directory, page)?;
+    checks::last_check(room != area::layout::PAGE_SIZE, Refusal::WrongBuffer)
 }
 
-pub fn failure<'a>(
-    memory: &[u32],
-    header: Header,
-    primary: &'a [u32],
-    secondary: &'a [u32],
-    card: u32,
-) -> Outcome
-    requires { FullHomes primary.now secondary.now }
-    ensures { result
-        ≡ first_refusal
-        (failure_checks (directory_by header primary.now secondary.now)
-        memory.now card)
-        0 }
+pub fn failure(memory: &[u32], directory: LentDirectory<'_>, card: u32) -> Result<(), Refusal>
+    ensures { checked result
+        ≡ first_refusal (failure_checks (lent directory.entry) memory.now card) 0 }
 {
-    let first = checks::live_card_refusal(memory, header, primary, secondary, card);
-    if first.number != 0 {
-        return first;
-    }
-    checks::last_check(checks::count_live(header) <= 2, answer::TWO_LIVE)
+    checks::check_live_card(memory, directory, card)?;
+    checks::last_check(checks::count_live(directory.header) <= 2, Refusal::TwoLive)
 }
 
-pub fn desk_question<'a>(
-    memory: &[u32],
-    header: Header,
-    primary: &'a [u32],
-    secondary: &'a [u32],
-    card: u32,
-) -> Outcome
-    requires { FullHomes primary.now secondary.now }
-    ensures { result
-        ≡ first_refusal
-        (desk_checks (directory_by header primary.now secondary.now)
-        memory.now card)
-        0 }
+pub fn desk_question(memory: &[u32], directory: LentDirectory<'_>, card: u32) -> Result<(), Refusal>
+    ensures { checked result
+        ≡ first_refusal (desk_checks (lent directory.entry) memory.now card) 0 }
 {
-    checks::card_refusal(memory, header, primary, secondary, card)
+    checks::check_card(memory, directory, card)
 }
 
-// Accepted with 0: the stamp that the call answers is not known yet.
-pub fn recovery<'a>(
-    memory: &[u32],
-    header: Header,
-    primary: &'a [u32],
-    secondary: &'a [u32],
-) -> Outcome
-    requires { FullHomes primary.now secondary.now }
-    ensures { result
-        ≡ first_refusal
-        (recovery_checks (directory_by header primary.now secondary.now)
-        memory.now)
-        0 }
+// The stamp that an accepted recovery answers is not known yet.
+pub fn recovery(memory: &[u32], directory: LentDirectory<'_>) -> Result<(), Refusal>
+    ensures { checked result
+        ≡ first_refusal (recovery_checks (lent directory.entry) memory.now) 0 }
 {
-    let first = checks::fitting_refusal(memory, header, primary, secondary);
-    if first.number != 0 {
-        return first;
-    }
-    let status = header.status;
-    checks::last_check(!checks::awaits_recovery(status), answer::NONE_AWAITED)
+    checks::check_fitting(memory, directory)?;
+    checks::last_check(
+        !checks::awaits_recovery(directory.header.status),
+        Refusal::NoneAwaited,
+    )
 }
 
-pub fn join<'a>(
-    memory: &[u32],
-    header: Header,
-    primary: &'a [u32],
-    secondary: &'a [u32],
-    card: u32,
-) -> Outcome
-    requires { FullHomes primary.now secondary.now }
-    ensures { result
-        ≡ first_refusal
-        (join_checks (directory_by header primary.now secondary.now)
-        memory.now card)
-        0 }
+pub fn join(memory: &[u32], directory: LentDirectory<'_>, card: u32) -> Result<(), Refusal>
+    ensures { checked result
+        ≡ first_refusal (join_checks (lent directory.entry) memory.now card) 0 }
 {
-    let first = checks::card_refusal(memory, header, primary, secondary, card);
-    if first.number != 0 {
-        return first;
+    checks::check_card(memory, directory, card)?;
+    if directory.header.is_live(card) {
+        return Err(Refusal::CardLive);
     }
-    if header.is_live(card) {
-        return answer::refused_at(answer::CARD_LIVE, 0);
-    }
-    checks::last_check(conflict::any_open(memory, header), answer::JOIN_WHILE_OPEN)
+    checks::last_check(
+        conflict::any_open(memory, directory.header),
+        Refusal::JoinWhileOpen,
+    )
 }

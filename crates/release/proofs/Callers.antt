@@ -1,11 +1,9 @@
 -- For those who call a step: what it relies on, from the checks of a rack.
-use Rattle.std.specs.Prelude.{ℕ, ◌*◌, ◌<◌, ◌≤◌, ◌≡◌, List, Bool, false, length}
+use Rattle.std.specs.Prelude.{ℕ, ◌*◌, ◌<◌, ◌≤◌, ◌≡◌, List, Bool, false, length, Ok, Err}
 use Rattle.laws.proofs.Prelude.{refl, true≢false, arith, ltb-false}
 use Rattle.area.specs.Prelude.{area_size, open_list, steps_of}
 use Rattle.area.proofs.Prelude.{area_in}
-use Rattle.diff.specs.declared.Verdict.{Verdict}
-use Rattle.diff.specs.declared.Verdict.TheVariants.{Good, Faulty}
-use Rattle.diff.specs.Reading.{read_diff}
+use Rattle.diff.specs.Reading.{Verdict, read_diff}
 use Rattle.protocol.specs.Checks.{bad_release}
 use Rattle.release.specs.Stepping.{CardIn, HomesIn, GoodRelease}
 
@@ -33,5 +31,5 @@ good_release pages m card passed = go _ refl passed
   where
     go : (verdict : Verdict) → read_diff pages (open_list (area_size pages) m card) ≡ verdict
         → bad_release verdict (steps_of (area_size pages) m card) ≡ false → GoodRelease pages m card
-    go (Good k words) reads within = record { k = k; words = words; reads = reads; under = omega (arith, ltb-false) }
-    go (Faulty place) reads bad = absurd (true≢false bad)
+    go (Ok read) reads within = record { k = read.prices; words = read.words; reads = reads; under = omega (arith, ltb-false) }
+    go (Err error) reads bad = absurd (true≢false bad)

@@ -13,9 +13,10 @@ use Rattle.protocol.specs.Release.{size_of, open_prices, Write, make_write, step
 use Rattle.protocol.specs.Recovery.{step_times}
 use Rattle.protocol.proofs.release.OneWrite.{length_make_write}
 use Rattle.release.specs.Stepping.{StepsLeft, store_after, NumberedPrice}
-use Rattle.release.proofs.Halves.{HalfFrom, half_bounds}
+use Rattle.release.specs.Phases.{HalfFrom, store_of}
+use Rattle.release.proofs.Halves.{half_bounds}
 use Rattle.release.proofs.Prices.{price_at_lem}
-use Rattle.release.proofs.Stores.{store_of, price_due_lem, step_counted}
+use Rattle.release.proofs.Stores.{price_due_lem, step_counted}
 use Rattle.release.proofs.Left.{StepsMade, steps_none, steps-one, steps_all}
 
 -- ---- a store to a page, before and after the count
@@ -115,8 +116,5 @@ module _ (d : Directory) {c k : ℕ} {before m : List ℕ} {steps count made fir
         same = same ∙ stored.same;
         far = λ backup.
             rw (left, sum)
-            (steps-one eight area (stored.far backup) (omega arith)
-            (length-store (size_of d) next c steps_made (steps + made + 1) ∙ same
-            ∙ sym (length-store (size_of d) m c steps_made (steps + made)))
-            (rw is (next_due backup)));
+            (steps-one eight area (stored.far backup) (omega arith) (rw is (next_due backup)));
       }

@@ -99,14 +99,16 @@ module _ {d : Directory} {backup c k : ℕ} {before : List ℕ} {total : ℕ} wh
   steps_none some = record { same = refl; some = λ _. some; list = λ _. refl; rest = refl }
 
   pub steps-one : {m next : List ℕ} {left : ℕ} → c < 8 → AreaIn (length before) (size_of d) c
-      → StepsMade d backup c k before total m left → 0 < left → length next ≡ length m → next ≡ step_memory d backup m c
+      → StepsMade d backup c k before total m left → 0 < left → next ≡ step_memory d backup m c
       → StepsMade d backup c k before total next (left - 1)
   unfolding step_times
-  steps-one {m} {next} {left} few area far more same made =
+  steps-one {m} {next} {left} few area far more made =
       let one : left ≡ left - 1 + 1 = omega arith in
       let first : left ≡ suc (left - 1) = omega arith in
       let here : AreaIn (length m) (size_of d) c = rw far.same area in
       let some = rw one at (far.some more) in
+      let under = far.some more in
+      let same = ap length made ∙ step-length d backup m c few here (omega (arith, under.counts, under.prices)) in
       record {
         same = same ∙ far.same;
         some = λ again. rw made (left_after d backup c few m here some again);
@@ -122,10 +124,7 @@ module _ {d : Directory} {backup c k : ℕ} {before : List ℕ} {total : ℕ} wh
   unfolding step_times
   steps_run zero {m} {left} few area far within = rw sub-zero far
   steps_run (suc n) {m} {left} few area far within =
-      let here : AreaIn (length m) (size_of d) c = rw far.same area in
-      let some = far.some (omega arith) in
-      let same = step-length d backup m c few here (omega (arith, some.counts, some.prices)) in
-      let one = steps-one few area far (omega arith) same refl in
+      let one = steps-one few area far (omega arith) refl in
       let rest : left - 1 - n ≡ left - suc n = omega arith in
       rw rest at (steps_run n few area one (omega arith))
 

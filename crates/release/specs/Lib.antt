@@ -1,2 +1,3 @@
 -- What the contracts of the steps cite beside the definitions of `protocol`.
 pub mod Stepping
+pub mod Phases

@@ -2,10 +2,11 @@
 // answers the commands that it reads from standard input, line by line.
 #![tactic(auto)]
 
-ghost use Rattle.std.specs.Prelude.{◌≡◌, ℕ, take, IfOk, OnOk, OnErr};
+ghost use Rattle.std.specs.Prelude.{◌≡◌, ℕ, take, replicate, IfSome, IfOk, OnOk, OnErr};
 ghost use Rattle.std.specs.Io.KnownBytes.{Appends};
 ghost use Rattle.interpreter.specs.declared.Session.{Session};
-ghost use Rattle.interpreter.specs.Transcript.{state_of, state_after, printed};
+ghost use Rattle.interpreter.specs.Transcript.{state_of, state_after, transcript};
+ghost use Rattle.shelfrun.specs.Answers.{Answers};
 
 use interpreter::Session;
 use std::io;
@@ -20,23 +21,20 @@ fn answer_part<W: Write>(
     session: Session,
     input: &[u8],
 ) -> io::Result<Session>
-    ensures answered { IfOk result (λ last. state_of last memory.new
-        ≡ state_after (state_of session memory.old) input.now) }
-    ensures written { OnOk result (Appends (W.contents to.old) (W.contents to.new)
-        (printed (state_of session memory.old) input.now)) }
+    ensures answered { IfOk result (λ last.
+        Answers (state_of session memory.old) input.now (state_of last memory.new)
+        (W.contents to.old) (W.contents to.new)) }
     ensures failed { OnErr result ((n : ℕ) × ((last : Session) × (state_of last memory.new
         ≡ state_after (state_of session memory.old) (take n input.now)))) }
 {
     let mut output = [0u8; 65536];
     let mut session = session;
-    let mut at: usize = 0;
-    while at < input.len() {
-        let done = interpreter::respond(memory, session, &input[at..], &mut output);
+    let mut rest = input;
+    'outputs: while !rest.is_empty() {
+        let done = interpreter::respond(memory, session, rest, &mut output);
         session = done.session;
-        let read = done.read;
-        at += read;
-        let written = done.written;
-        to.write_all(&output[..written])?;
+        rest = &rest[done.read..];
+        to.write_all(&output[..done.written])?;
     }
     Ok(session)
 }
@@ -48,27 +46,40 @@ fn answer_input<R: Read, W: Write>(
     to: &mut W,
     memory: &mut [u32],
     session: Session,
-) -> io::Result<Session> {
+) -> io::Result<Session>
+    ensures { IfOk result (λ last. IfSome (R.remaining from.old) (λ input.
+        Answers (state_of session memory.old) input (state_of last memory.new)
+        (W.contents to.old) (W.contents to.new))) }
+{
     let mut input = [0u8; 65536];
     let mut session = session;
-    for _ in 0..u64::MAX {
+    'parts: for _ in 0..u64::MAX {
         let n = from.read(&mut input)?;
         if n == 0 {
-            break;
+            return Ok(session);
         }
         session = answer_part(to, memory, session, &input[..n])?;
     }
-    Ok(session)
+    Err(io::Error::from(io::ErrorKind::TimedOut))
 }
 
-fn main(rt: HostRuntime) -> io::Result<()> {
+// Formats the rack, and answers an input from its first line to its last: where nothing fails, what
+// is written is document 01's transcript.
+fn run<R: Read, W: Write>(from: &mut R, to: &mut W) -> io::Result<()>
+    ensures { OnOk result (IfSome (R.remaining from.old) (λ input.
+        Appends (W.contents to.old) (W.contents to.new) (transcript (replicate 2850 0) input))) }
+{
     let mut memory = [0u32; 2850];
     let session = interpreter::start(&mut memory);
-    let mut to = io::writer(&rt);
     to.write_all(&interpreter::first_line())?;
-    let mut from = rt.reader();
-    let last = answer_input(&mut from, &mut to, &mut memory, session)?;
+    let last = answer_input(from, to, &mut memory, session)?;
     let mut answer = [0u8; 80];
     let written = interpreter::finish(&mut memory, last, &mut answer);
     to.write_all(&answer[..written])
+}
+
+fn main(rt: HostRuntime) -> io::Result<()> {
+    let mut from = rt.reader();
+    let mut to = io::writer(&rt);
+    run(&mut from, &mut to)
 }

@@ -6,7 +6,7 @@ use Rattle.bandsawpink.proofs.rack_fetch.Goals as goal
 pub returns : goal.returns
 returns c =
     let fetched =
-    rw (c.header_in-header.ensures, c.primary_in-primary.ensures.result_value, c.secondary_in-secondary.ensures.result_value) at
+    rw (c.lent_in-lent.ensures.header, c.lent_in-lent.ensures.primary, c.lent_in-lent.ensures.secondary) at
     c.fetch_lent-answer.ensures
     in
-    record { answer = c.in_numbers.ensures ∙ answer_exported _ fetched.answer; buffer = fetched.buffer }
+    record { answer = c.in_numbers.ensures ∙ answer_exported _ _ fetched.answer; buffer = fetched.buffer }

@@ -8,7 +8,7 @@ pub returns : goal.returns
 returns c =
     let formatted = c.format_rack-reply.ensures in
     record {
-      answer = c.in_numbers.ensures ∙ answer_exported _ formatted.answer;
+      answer = c.in_numbers.ensures ∙ answer_exported _ _ formatted.answer;
       directory = c.write_directory.ensures ∙ ap words_of formatted.directory;
       memory = formatted.memory;
     }

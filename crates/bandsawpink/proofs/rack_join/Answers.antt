@@ -6,7 +6,7 @@ use Rattle.bandsawpink.proofs.rack_join.Goals as goal
 pub returns : goal.returns
 returns c =
     let joined = rw c.directory_in-taken.ensures at c.join_card-reply.ensures in
-    let answers = c.in_numbers-answer.ensures ∙ answer_exported _ joined.answer in
+    let answers = c.in_numbers-answer.ensures ∙ answer_exported _ _ joined.answer in
     record {
       answer = answers;
       directory = c.hand_back.ensures ∙ rw (answers, joined.directory);

@@ -10,4 +10,4 @@ returns c =
     let a = c.args in
     let comes = (move_back (directory_in a.directory.now) a.memory.now a.old.now).outcome in
     let moved = rw c.directory_in-taken.ensures at c.move_back-reply.ensures in
-    record { answer = c.in_numbers.ensures ∙ answer_exported comes moved.answer; old = moved.memory }
+    record { answer = c.in_numbers.ensures ∙ answer_exported _ comes moved.answer; old = moved.memory }

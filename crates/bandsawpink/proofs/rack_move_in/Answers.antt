@@ -10,4 +10,4 @@ returns c =
     let a = c.args in
     let comes = (move_in (directory_in a.directory.now) a.old.now a.memory.now).outcome in
     let moved = rw c.directory_in-taken.ensures at c.move_in-reply.ensures in
-    record { answer = c.in_numbers.ensures ∙ answer_exported comes moved.answer; memory = moved.memory }
+    record { answer = c.in_numbers.ensures ∙ answer_exported _ comes moved.answer; memory = moved.memory }

@@ -13,4 +13,4 @@ returns c =
     let release = release_of a.number a.desk.now in
     let comes = (opening d a.memory.now a.card release a.list.now).outcome in
     let opened = rw c.directory_in-taken.ensures at c.open_release-reply.ensures in
-    record { answer = c.in_numbers.ensures ∙ answer_exported comes opened.answer; memory = opened.memory }
+    record { answer = c.in_numbers.ensures ∙ answer_exported _ comes opened.answer; memory = opened.memory }

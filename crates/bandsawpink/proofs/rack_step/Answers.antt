@@ -6,7 +6,7 @@ use Rattle.bandsawpink.proofs.rack_step.Goals as goal
 pub returns : goal.returns
 returns c =
     let stepped =
-    rw (c.header_in-header.ensures, c.primary_in-primary.ensures.result_value, c.secondary_in-secondary.ensures.result_value) at
+    rw (c.lent_in-lent.ensures.header, c.lent_in-lent.ensures.primary, c.lent_in-lent.ensures.secondary) at
     c.step_lent-answer.ensures
     in
-    record { answer = c.in_numbers.ensures ∙ answer_exported _ stepped.answer; memory = stepped.memory }
+    record { answer = c.in_numbers.ensures ∙ answer_exported _ _ stepped.answer; memory = stepped.memory }

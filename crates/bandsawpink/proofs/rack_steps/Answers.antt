@@ -7,4 +7,4 @@ pub returns : goal.returns
 returns c =
     let taken = c.directory_in-taken.ensures in
     let stepped = rw taken at c.steps-reply.ensures in
-    record { answer = c.with_made.ensures ∙ steps_exported _ stepped.answer stepped.made; memory = stepped.memory }
+    record { answer = c.with_made.ensures ∙ steps_exported _ _ stepped.answer stepped.made; memory = stepped.memory }

@@ -6,7 +6,8 @@ use Rattle.batch.proofs.fetch_all.Goals as goal
 pub returns : goal.returns
 returns c =
     let a = c.args in
-    let done = rw c.header-header.ensures at c.fetch_all_lent-fetched.ensures in
+    let lent = c.lend.ensures in
+    let done = rw (lent.header, lent.primary, lent.secondary) at c.fetch_all_lent-fetched.ensures in
     record {
       answer = done.answer;
       directory = sym (fetch_all_keeps a.directory a.memory.now a.buffer.now);

@@ -1,38 +1,32 @@
 -- The loop's invariant: the pages passed are fetched.
 use mathlib.Core.Path.{◌≡◌, refl, sym, ◌∙◌}
 use native.Mathlib.Omega.{arith}
-use lib.ListN.{length-set}
+use borrow.Author.Rules.{rules}
 use Rattle.laws.proofs.Search.{in_turn_none, in_turn_more}
 use Rattle.batch.proofs.fetch_pages.Goals as goal
 
 pub loop-page-init : goal.loop-page-init
-loop-page-init c = (omega arith, refl, refl, λ secondary. sym (in_turn_none _ _))
+loop-page-init c = (refl, sym (in_turn_none _ _))
 
-pub fetch_next-seen-requires : goal.fetch_next-seen-requires
-fetch_next-seen-requires c =
+pub fetch_next-requires : goal.fetch_next-requires
+fetch_next-requires c =
     let below = c.loop-page-test.true in
-    let inv = c.loop-page.invariant in
     let pre = c.requires in
-    let homes = c.requires.moving_len.1 in
-    let long = c.requires.moving_len.1.long in
     record {
       memory_of = pre.memory_of;
-      moving_len = (pre.moving_len.0, below, omega arith);
-      page_bound = (homes.below _ below, inv.1 ∙ pre.buffer_len.0);
+      page_lt_pages = below;
+      home_lt_cards = pre.primaries_in.below _ below;
+      buffer_len = c.loop-page.invariant.0 ∙ pre.buffer_len;
     }
 
 pub loop-page-preserved : goal.loop-page-preserved
 loop-page-preserved c =
-    let next = c.fetch_next-seen in
-    let at = c.loop-page in (
-      omega arith,
-      c.buffer-1.given ∙ at.invariant.1,
-      simp length-set at.invariant.2,
-      λ secondary. rw (in_turn_more, ← at.invariant.3 secondary, next.ensures.shown, next.ensures.buffer secondary),
-    )
+    let next = c.fetch_next in
+    let at = c.loop-page in
+    (search rules, rw (in_turn_more, ← at.invariant.1, next.ensures.shown, next.ensures.buffer))
 
 pub returns : goal.returns
-returns c secondary =
+returns c =
     let at = c.loop-page in
-    let end : at.page ≡ c.args.header.pages = omega arith in
-    rw end at (at.invariant.3 secondary)
+    let end : at.page ≡ c.args.directory.header.pages = omega arith in
+    rw end at at.invariant.1

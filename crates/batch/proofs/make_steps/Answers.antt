@@ -1,17 +1,19 @@
--- Rests on what `release::make_steps` ensures of the directory's header and homes.
+-- Rests on what `release::make_steps` ensures of the directory that is lent.
 use Rattle.batch.proofs.make_steps.Goals as goal
 
 pub make_steps-requires : goal.make_steps-requires
 make_steps-requires c =
     let pre = c.requires in
-    rw c.header-header.ensures
+    let lent = c.lend.ensures in
+    rw (lent.header, lent.primary, lent.secondary)
     record {
-      homes_in = pre.homes_in;
+      homes_of = pre.homes_of;
       card_in = pre.card_in;
-      card_in_2 = rw c.backup-backup.ensures pre.card_in_2;
+      backup_in = rw c.backup-backup.ensures pre.backup_in;
       good_release = pre.good_release;
     }
 
 pub returns : goal.returns
 returns c =
-    rw (c.backup-backup.ensures, c.header-header.ensures) at c.make_steps.ensures
+    let lent = c.lend.ensures in
+    rw (c.backup-backup.ensures, lent.header, lent.primary, lent.secondary) at c.make_steps.ensures

@@ -22,48 +22,49 @@ returns-then-count-eq0 c = rw c.if-count-eq0.true record {
   memory = refl;
 }
 
-pub returns-then-first-ne0 : goal.returns-then-first-ne0
-returns-then-first-ne0 c =
+pub returns-in-Err : goal.returns-in-Err
+returns-in-Err c =
     let a = c.args in
-    let some = c.if-count-eq0.false in
-    let reached = rw c.header-header.ensures at c.step-first.ensures in
-    rw (first-refused a.directory a.card a.memory.now a.count reached c.if-first-ne0.true some)
-    record { made = refl; answer = c.answer_of-answer.ensures; directory = refl; memory = refl }
+    let lent = c.lend.ensures in
+    let reached = rw (lent.header, lent.primary, lent.secondary) at c.step.ensures in
+    rw (first-refused a.directory a.card a.memory.now a.count reached c.in-Err.is c.if-count-eq0.false)
+    record { made = refl; answer = refl; directory = refl; memory = refl }
 
 pub make_steps-made-requires : goal.make_steps-made-requires
 make_steps-made-requires c =
     let a = c.args in
     let d = c.args.directory in
     let m = c.args.memory.now in
-    let arrays = c.well_formed.1.0.1.1.1.1 in
     let marks : length d.live ≡ 8 = search rules in
     let primaries : length d.primary ≡ 64 = search rules in
     let secondaries : length d.secondary ≡ 64 = search rules in
-    let reached = rw c.header-header.ensures at c.step-first.ensures in
-    let passed = step_facts d m a.card reached c.if-first-ne0.false in
+    let lent = c.lend.ensures in
+    let reached = rw (lent.header, lent.primary, lent.secondary) at c.step.ensures in
+    let passed = step_facts d m a.card reached c.in-Ok.is in
     let fit = valid_rack passed.runs.fits in
     let card-at : (x : ℕ) → x < d.cards → CardIn d.live (length m) (size_of d) x
     = λ x. card_in d.live (size_of d) marks fit.within.cards_most fit.within.whole
     in
     record {
-      homes_in = homes_in d m fit marks primaries secondaries;
+      homes_of = homes_in d m fit marks primaries secondaries;
       card_in = card-at _ passed.below;
-      card_in_2 = card-at _ (fit.next_below a.card);
+      backup_in = card-at _ (fit.next_below a.card);
       good_release = fit.good a.card passed.below passed.is_open;
     }
 
-pub returns : goal.returns
-returns c =
+pub returns-in-Ok : goal.returns-in-Ok
+returns-in-Ok c =
     let a = c.args in
     let d = c.args.directory in
     let m = c.args.memory.now in
-    let reached = rw c.header-header.ensures at c.step-first.ensures in
-    let passed = step_facts d m a.card reached c.if-first-ne0.false in
+    let lent = c.lend.ensures in
+    let reached = rw (lent.header, lent.primary, lent.secondary) at c.step.ensures in
+    let passed = step_facts d m a.card reached c.in-Ok.is in
     let some : 0 < a.count = omega (arith, c.if-count-eq0.false) in
     let made = c.make_steps-made.ensures in
     rw (all_made d a.card m a.count passed some made.made) record {
       made = refl;
-      answer = c.answer_to-answer.ensures;
+      answer = c.answer_to.ensures;
       directory = refl;
       memory = made.memory;
     }

@@ -1,6 +1,5 @@
 -- Rests on the call of the rack.
 use mathlib.Core.Path.{◌∙◌}
-use Rattle.answer.proofs.RoundTrip.{answer_outcome}
 use Rattle.memory.specs.Words.{zeros}
 use Rattle.commands.specs.Execute.{open_one}
 use Rattle.commands.proofs.open_one.Goals as goal
@@ -10,7 +9,7 @@ unfolding open_one zeros
 returns c =
     let opened = c.open_release-reply.ensures in
     record {
-      outcome = c.outcome_of-outcome.ensures ∙ answer_outcome _ opened.answer;
-      directory = opened.directory;
+      outcome = c.of_answer.ensures.outcome ∙ opened.answer;
+      directory = c.of_answer.ensures.directory ∙ opened.directory;
       memory = opened.memory;
     }

@@ -1,47 +1,33 @@
--- One turn of the walk over another card's list: what the price that is due finds, and what is left finds the rest.
-use Rattle.std.specs.Prelude.{ℕ, ◌<◌, ◌≤◌, ◌≡◌, List, [], ◌∷◌, ◌++◌, Bool, true, false, cond, ◌||◌, length, get_or, ltb}
-use Rattle.laws.proofs.Prelude.{refl, ap, ◌∙◌}
-use Rattle.area.specs.Prelude.{area_size, open_list}
-use Rattle.diff.specs.declared.Cursor.{Cursor}
+-- The prices of another card's list: what the next one finds, and what they say of the card.
+use Rattle.std.specs.Prelude.{ℕ, ◌≡◌, List, [], ◌∷◌, Bool, true, false, get_or}
 use Rattle.diff.specs.declared.Price.{Price}
-use Rattle.diff.specs.Prices.{priced_word, prices_of}
-use Rattle.reader.specs.declared.walk.Walk.{Walk}
-use Rattle.reader.specs.Walking.{past_word, price_due}
-use Rattle.reader.proofs.Walking.{prices_left, left_turn, left_end}
+use Rattle.diff.specs.Prices.{label_of}
+use Rattle.area.specs.Prelude.{area_size}
+use Rattle.protocol.specs.Release.{open_prices}
 use Rattle.conflict.specs.Others.{is_other}
-use Rattle.conflict.specs.Sharing.{label_due, any_marked, hits_due, marks_with}
+use Rattle.conflict.specs.Sharing.{any_marked, marks_with}
 
-any_due : (s : Cursor) (w : ℕ) (ps : List Price) (marks : List Bool)
-    → any_marked (price_due s w ++ ps) marks ≡ (hits_due s marks || any_marked ps marks)
-unfolding any_marked
-any_due s w ps marks = go (ltb 0 s.due)
-  where
-    go : (due : Bool)
-        → any_marked (cond due (priced_word s w ∷ []) [] ++ ps) marks
-        ≡ (cond due (get_or marks (label_due s) false) false || any_marked ps marks)
-    go true = refl
-    go false = refl
-
-module _ (pages : ℕ) (list : List ℕ) (at : Walk) where
-  pub any_turn : at.index < length list → (marks : List Bool) (hit : Bool) → hit ≡ hits_due at.cursor marks
-      → any_marked (prices_left pages list at) marks
-      ≡ (hit || any_marked (prices_left pages list (past_word pages list at)) marks)
-  any_turn inside marks hit is =
-      ap (λ ps. any_marked ps marks) (left_turn pages list at inside) ∙ rw is (any_due at.cursor _ _ marks)
-
-  pub any_end : length list ≤ at.index → (marks : List Bool) → any_marked (prices_left pages list at) marks ≡ false
+-- the first of the prices that are left
+module _ {ps qs : List Price} {p : Price} (here : ps ≡ p ∷ qs) (marks : List Bool) where
+  pub any_hit : get_or marks (label_of p) false ≡ true → any_marked ps marks ≡ true
   unfolding any_marked
-  any_end end marks = ap (λ ps. any_marked ps marks) (left_end pages list at end)
+  any_hit is = rw (here, is)
 
--- ---- a card that is not walked over, and one with a list
+  pub any_miss : get_or marks (label_of p) false ≡ false → any_marked ps marks ≡ any_marked qs marks
+  unfolding any_marked
+  any_miss is = rw (here, is)
 
-module _ (live : List Bool) (pages : ℕ) (m : List ℕ) {size : ℕ} (whole : size ≡ area_size pages)
-    (c : ℕ) (marks : List Bool) (other : ℕ) {is : Bool} (says : is ≡ is_other live size m c other) where
-  pub marks-not : is ≡ false → marks_with live pages m c marks other ≡ false
+pub any_none : {ps : List Price} → ps ≡ [] → (marks : List Bool) → any_marked ps marks ≡ false
+unfolding any_marked
+any_none none marks = rw none
+
+-- what they say of the card
+module _ (live : List Bool) (pages : ℕ) (m : List ℕ) (c : ℕ) (marks : List Bool) (other : ℕ) where
+  pub marks_other : is_other live (area_size pages) m c other ≡ true
+      → marks_with live pages m c marks other ≡ any_marked (open_prices pages m other) marks
   unfolding marks_with
-  marks-not fails = rw (← whole, ← says, fails)
+  marks_other is = rw is
 
-  pub marks_list : is ≡ true → {list : List ℕ} → list ≡ open_list size m other
-      → marks_with live pages m c marks other ≡ any_marked (prices_of pages list) marks
+  pub marks_not : is_other live (area_size pages) m c other ≡ false → marks_with live pages m c marks other ≡ false
   unfolding marks_with
-  marks_list holds lent = rw (← whole, ← says, holds, lent)
+  marks_not is = rw is

@@ -263,3 +263,21 @@ module _ {list : List ℕ} {index page own : ℕ} {priced : List ℕ} {there : P
           marked = λ v. applied.marked v ∙ rw (up_to_all own applied.word v none_left);
           priced = λ v small. applied.showing v small ∙ rw (up_to_all own applied.word v none_left);
         }
+
+-- what the code sees: the word at the index, and the run that it heads, if it is a run word
+pub record RunAt (list : List ℕ) (at : ℕ) (prices : List ℕ) : Type 0 where
+  pub inside : at < length list
+  pub size : length prices ≡ 32
+  pub fits : kind (get_or list at 0) ≡ 2 → offset (get_or list at 0) + count (get_or list at 0) ≤ 32
+  pub behind : kind (get_or list at 0) ≡ 2 → at + 1 + count (get_or list at 0) < length list
+
+pub run_at : {list : List ℕ} {index page own : ℕ} {priced : List ℕ} {there : PageAt list index page own priced} {marks : ℕ}
+    {shown : List ℕ} {after : ℕ} {prices : List ℕ} {at : ℕ} → RunsApplied there marks shown after prices at
+    → RunAt list at prices
+run_at applied =
+    record {
+      inside = run_there applied;
+      size = applied.size;
+      fits = λ two. run_fits applied two;
+      behind = λ two. run_inside applied two;
+    }

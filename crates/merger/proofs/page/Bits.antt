@@ -74,6 +74,3 @@ shifted n fits = shl_exact {a = 1} 1 n 64 (omega arith) (omega arith) ∙ one-mu
 
 pub below_end : (offset count : ℕ) → 2 ^ offset ≤ 2 ^ (offset + count)
 below_end offset count = pow_mono {i = offset} {j = offset + count} (omega arith)
-
-pub ones_fit : (offset count : ℕ) → offset + count ≤ 32 → ones_from offset count < 2 ^ 32
-ones_fit offset count fits = omega (arith, pow_mono {i = offset + count} {j = 32} fits, pow_pos offset)

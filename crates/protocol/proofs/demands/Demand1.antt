@@ -2,14 +2,13 @@
 use Rattle.std.specs.Prelude.{ℕ, ◌≡◌, ◌≢◌, List, [], ◌∷◌, Bool, true, false, cond, length, ltb, eqb}
 use Rattle.laws.proofs.Prelude.{refl, true≢false, ℕ_discrete, ne_eqb}
 use Rattle.answer.specs.declared.Outcome.{Outcome}
-use Rattle.answer.specs.Outcome.{given, refused, refused_at, and_then, limits, faulty_list, wrong_buffer, list_too_long}
+use Rattle.answer.specs.Outcome.{given, refused, and_then, limits, wrong_buffer, list_too_long}
 use Rattle.answer.proofs.InOrder.{first_refuses, first_passes}
 use Rattle.directory.specs.Directory.{empty_directory}
 use Rattle.directory.specs.NewHome.{even_home}
 use Rattle.diff.specs.Format.{most_words}
-use Rattle.diff.specs.declared.Verdict.{Verdict}
-use Rattle.diff.specs.declared.Verdict.TheVariants.{Good, Faulty}
-use Rattle.diff.specs.Reading.{read_diff, whole_diff, check_diff}
+use Rattle.diff.specs.Reading.{check_diff}
+use Rattle.diff.proofs.Checking.{faulty_number}
 use Rattle.diff.specs.Room.{room_for, written_by}
 use Rattle.diff.specs.Making.{made_diff, lent_marked, make_diff, buffer_after, mark_changes, marks_after}
 use Rattle.diff.specs.Merging.{merge_pages, merged_diff, merge_diffs, merged_buffer}
@@ -63,20 +62,6 @@ refused-marks working twins marks = by_test (lent_marked (length working) (lengt
         (cond (eqb (cond lent (given 0) (refused limits)).number 0) made marks)
     by_test true made is = absurd (true≢false is)
     by_test false made is = record { numbered = refl; no_place = λ _. refl; words = refl }
-
--- a list that is not allowed is refused with 7
-faulty_number : (pages : ℕ) (list : List ℕ) → (check_diff pages list).number ≢ 0 → (check_diff pages list).number ≡ 7
-unfolding check_diff
-faulty_number pages list = go (read_diff pages list)
-  where
-    go : (v : Verdict) → (whole_diff (length list) v).number ≢ 0 → (whole_diff (length list) v).number ≡ 7
-    go (Good k n) refusal = by_cut (ltb n (length list)) refusal
-      where
-        by_cut : (cut : Bool) → (cond cut (refused_at faulty_list n) (given k)).number ≢ 0
-            → (cond cut (refused_at faulty_list n) (given k)).number ≡ 7
-        by_cut true refusal = refl
-        by_cut false refusal = absurd (refusal refl)
-    go (Faulty place) refusal = refl
 
 -- a check that refuses with 7, or what comes next
 then_kept : (first next : Outcome) (diff buffer : List ℕ) → (first.number ≢ 0 → first.number ≡ 7)

@@ -8,8 +8,7 @@ use Rattle.directory.specs.Directory.{is_live}
 use Rattle.area.specs.Prelude.{AreaIn, load, area_size, open_flag, desk_size, records_start, Release, own_release, open_list}
 use Rattle.area.proofs.Prelude.{SameOwn, SameRelease, open_kept, list_kept, steps_kept, same_own_release, In}
 use Rattle.area.proofs.Prelude.{record_region}
-use Rattle.diff.specs.declared.Verdict.TheVariants.{Good}
-use Rattle.diff.specs.Reading.{read_diff}
+use Rattle.diff.specs.Reading.{read_well, read_diff}
 use Rattle.diff.specs.Prices.{applied_at}
 use Rattle.protocol.specs.Release.{size_of, step_memory, counts_at, steps_in}
 use Rattle.protocol.specs.Book.{Opened, none, opened, list_prices, Book, update, prices_in}
@@ -31,7 +30,7 @@ pub record OpenStands (pages : ℕ) (m : List ℕ) (c : ℕ) (r : Release) (list
   pub flagged : load (area_size pages) m c open_flag ≡ 1
   pub stands : StandsIn pages m c r (list_prices list) s
   pub words : ℕ
-  pub reads : read_diff pages (open_list (area_size pages) m c) ≡ Good (length (list_prices list)) words
+  pub reads : read_diff pages (open_list (area_size pages) m c) ≡ read_well (length (list_prices list)) words
 
 abbrev pub Standing : ℕ → List ℕ → ℕ → Opened → Type 0
 Standing pages m c none = load (area_size pages) m c open_flag ≡ 0

@@ -9,8 +9,7 @@ use Rattle.area.specs.Prelude.{release_words}
 use Rattle.area.proofs.Prelude.{outside_below, outside_fewer, length-store_run, load-store_run_outside}
 use Rattle.area.proofs.Prelude.{load-store_run_inside, load_run_store_run, load_run_append, outside, NotIn, open_region}
 use Rattle.area.proofs.Prelude.{list_region, length_number, number_read, desk_read, own_words_kept}
-use Rattle.diff.specs.declared.Verdict.TheVariants.{Good}
-use Rattle.diff.specs.Reading.{start, read_diff}
+use Rattle.diff.specs.Reading.{start, read_well, read_diff}
 use Rattle.diff.specs.Prices.{prices_of}
 use Rattle.diff.specs.OnlyDiff.{Allowed}
 use Rattle.diff.proofs.Derivation.{Reads, reads_derived, reads_good_then, reads_prices_then, reads_prices}
@@ -33,7 +32,7 @@ module _ (pages : ℕ) (list rest : List ℕ) (few_pages : pages ≤ 64) (few : 
       let r = whole_reads.1 in
       reads_prices_then pages rest r (omega arith) ∙ sym (reads_prices 64 (reads_more_pages few_pages r) (omega arith))
 
-  pub stored_reads : read_diff pages (list ++ rest) ≡ Good (length (list_prices list)) (length list)
+  pub stored_reads : read_diff pages (list ++ rest) ≡ read_well (length (list_prices list)) (length list)
   unfolding prices_of
   stored_reads =
       let r = whole_reads.1 in

@@ -10,8 +10,8 @@ use Rattle.rack.proofs.ask_desk.Goals as goal
 pub load_desk-requires : goal.load_desk-requires
 load_desk-requires c =
     let a = c.args in
-    let reached = rw c.header-header.ensures at c.desk_question-first.ensures in
-    let passed = desk_facts a.directory a.memory.now a.card reached c.if-first-eq0.true in
+    let reached = rw (c.lend.ensures.header, c.lend.ensures.primary, c.lend.ensures.secondary) at c.desk_question.ensures in
+    let passed = desk_facts a.directory a.memory.now a.card reached c.in-Ok.is in
     let fit = valid_rack passed.0.fits in
     record {
       memory_of = memory_of fit.within;
@@ -19,17 +19,17 @@ load_desk-requires c =
       desk_len = search rules;
     }
 
-pub returns-then-first-eq0 : goal.returns-then-first-eq0
-returns-then-first-eq0 c =
+pub returns-in-Ok : goal.returns-in-Ok
+returns-in-Ok c =
     let a = c.args in
-    let reached = rw c.header-header.ensures at c.desk_question-first.ensures in
-    rw (desk-accepted a.directory a.memory.now a.card reached c.if-first-eq0.true)
-    record { answer = c.answer_of-answer.ensures; directory = refl; desk = c.load_desk.ensures }
+    let reached = rw (c.lend.ensures.header, c.lend.ensures.primary, c.lend.ensures.secondary) at c.desk_question.ensures in
+    rw (desk-accepted a.directory a.memory.now a.card reached c.in-Ok.is)
+    record { answer = refl; directory = refl; desk = c.load_desk.ensures }
 
-pub returns-else-first-eq0 : goal.returns-else-first-eq0
+pub returns-in-Err : goal.returns-in-Err
 unfolding zeros
-returns-else-first-eq0 c =
+returns-in-Err c =
     let a = c.args in
-    let reached = rw c.header-header.ensures at c.desk_question-first.ensures in
-    rw (desk-refused a.directory a.memory.now a.card reached c.if-first-eq0.false)
-    record { answer = c.answer_of-answer.ensures; directory = refl; desk = refl }
+    let reached = rw (c.lend.ensures.header, c.lend.ensures.primary, c.lend.ensures.secondary) at c.desk_question.ensures in
+    rw (desk-refused a.directory a.memory.now a.card reached c.in-Err.is)
+    record { answer = refl; directory = refl; desk = refl }

@@ -3,16 +3,16 @@ use mathlib.Core.Path.{refl}
 use Rattle.rack.proofs.Results.{failure-refused, failure-accepted}
 use Rattle.rack.proofs.fail_card.Goals as goal
 
-pub returns-then-first-ne0 : goal.returns-then-first-ne0
-returns-then-first-ne0 c =
+pub returns-in-Err : goal.returns-in-Err
+returns-in-Err c =
     let a = c.args in
-    let reached = rw c.header-header.ensures at c.failure-first.ensures in
-    rw (failure-refused a.directory a.memory.now a.card reached c.if-first-ne0.true)
-    record { answer = c.answer_of-answer.ensures; directory = refl }
+    let reached = rw (c.lend.ensures.header, c.lend.ensures.primary, c.lend.ensures.secondary) at c.failure.ensures in
+    rw (failure-refused a.directory a.memory.now a.card reached c.in-Err.is)
+    record { answer = refl; directory = refl }
 
-pub returns : goal.returns
-returns c =
+pub returns-in-Ok : goal.returns-in-Ok
+returns-in-Ok c =
     let a = c.args in
-    let reached = rw c.header-header.ensures at c.failure-first.ensures in
-    rw (failure-accepted a.directory a.memory.now a.card reached c.if-first-ne0.false, c.mark_dead-dead.ensures)
-    record { answer = c.answer_of-answer.ensures; directory = refl }
+    let reached = rw (c.lend.ensures.header, c.lend.ensures.primary, c.lend.ensures.secondary) at c.failure.ensures in
+    rw (failure-accepted a.directory a.memory.now a.card reached c.in-Ok.is)
+    record { answer = refl; directory = rw c.mark_dead.ensures at c.with_status.ensures }

@@ -6,7 +6,7 @@ use Rattle.rack.proofs.fetch_page.Goals as goal
 pub returns : goal.returns
 returns c =
     let a = c.args in
-    let done = rw c.header-header.ensures at c.fetch_lent-answer.ensures in
+    let done = rw (c.lend.ensures.header, c.lend.ensures.primary, c.lend.ensures.secondary) at c.fetch_lent-answer.ensures in
     record {
       answer = done.answer;
       directory = sym (fetch_keeps a.directory a.memory.now a.page a.buffer.now);

@@ -7,12 +7,12 @@ use Rattle.rack.proofs.ValidRack.{valid_rack, rack_in}
 use Rattle.rack.proofs.Results.{join_facts, join-refused, join-accepted}
 use Rattle.rack.proofs.join_card.Goals as goal
 
-pub returns-then-first-ne0 : goal.returns-then-first-ne0
-returns-then-first-ne0 c =
+pub returns-in-Err : goal.returns-in-Err
+returns-in-Err c =
     let a = c.args in
-    let reached = rw c.header-header.ensures at c.join-first.ensures in
-    rw (join-refused a.directory a.memory.now a.card reached c.if-first-ne0.true)
-    record { answer = c.answer_of-answer.ensures; directory = refl; memory = refl }
+    let reached = rw (c.lend.ensures.header, c.lend.ensures.primary, c.lend.ensures.secondary) at c.join.ensures in
+    rw (join-refused a.directory a.memory.now a.card reached c.in-Err.is)
+    record { answer = refl; directory = refl; memory = refl }
 
 pub join_memory-requires : goal.join_memory-requires
 join_memory-requires c =
@@ -20,8 +20,8 @@ join_memory-requires c =
     let d = c.args.directory in
     let arrays = c.well_formed.1.0.1.1.1.1 in
     let marks : length d.live ≡ 8 = search rules in
-    let reached = rw c.header-header.ensures at c.join-first.ensures in
-    let passed = join_facts d a.memory.now a.card reached c.if-first-ne0.false in
+    let reached = rw (c.lend.ensures.header, c.lend.ensures.primary, c.lend.ensures.secondary) at c.join.ensures in
+    let passed = join_facts d a.memory.now a.card reached c.in-Ok.is in
     let fit = valid_rack passed.runs.fits in
     record {
       rack_in = rack_in d a.memory.now fit marks;
@@ -29,13 +29,13 @@ join_memory-requires c =
       joining_lt_cards = passed.below;
     }
 
-pub returns : goal.returns
-returns c =
+pub returns-in-Ok : goal.returns-in-Ok
+returns-in-Ok c =
     let a = c.args in
-    let reached = rw c.header-header.ensures at c.join-first.ensures in
-    rw (join-accepted a.directory a.memory.now a.card reached c.if-first-ne0.false)
+    let reached = rw (c.lend.ensures.header, c.lend.ensures.primary, c.lend.ensures.secondary) at c.join.ensures in
+    rw (join-accepted a.directory a.memory.now a.card reached c.in-Ok.is)
     record {
-      answer = c.answer_of-answer.ensures;
-      directory = c.mark_live-joined.ensures;
+      answer = refl;
+      directory = c.mark_live.ensures;
       memory = c.join_memory.ensures;
     }

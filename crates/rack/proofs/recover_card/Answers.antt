@@ -3,18 +3,19 @@ use mathlib.Core.Path.{◌≡◌, refl, ap}
 use native.Mathlib.Omega.{arith}
 use borrow.Author.Rules.{rules}
 use lib.ListN.{length}
-use Rattle.answer.specs.declared.Answer.TheVariants.{Given}
+use Rattle.answer.specs.Outcome.{given}
+use Rattle.memory.specs.Words.{zeros}
 use Rattle.rack.proofs.ValidRack.{valid_rack, rack_in, homes_in}
 use Rattle.rack.proofs.Results.{recovery_facts, recovery-refused, recovery-accepted}
 use Rattle.rack.proofs.recover_card.Goals as goal
 
-pub returns-then-refusal-ne0 : goal.returns-then-refusal-ne0
-returns-then-refusal-ne0 c =
+pub returns-in-Err : goal.returns-in-Err
+unfolding zeros
+returns-in-Err c =
     let a = c.args in
-    let reached = rw c.header-header.ensures at c.recovery-refusal.ensures in
-    let kept = c.refused_recovery.ensures in
-    rw (recovery-refused a.directory a.memory.now reached c.if-refusal-ne0.true)
-    record { answer = kept.answer; directory = kept.directory; desk = kept.desk; memory = refl }
+    let reached = rw (c.lend.ensures.header, c.lend.ensures.primary, c.lend.ensures.secondary) at c.recovery.ensures in
+    rw (recovery-refused a.directory a.memory.now reached c.in-Err.is)
+    record { answer = refl; directory = refl; desk = refl; memory = refl }
 
 pub recover_memory-recovered-requires : goal.recover_memory-recovered-requires
 recover_memory-recovered-requires c =
@@ -24,10 +25,10 @@ recover_memory-recovered-requires c =
     let marks : length d.live ≡ 8 = search rules in
     let primaries : length d.primary ≡ 64 = search rules in
     let secondaries : length d.secondary ≡ 64 = search rules in
-    let reached = rw c.header-header.ensures at c.recovery-refusal.ensures in
-    let passed = recovery_facts d m reached c.if-refusal-ne0.false in
+    let reached = rw (c.lend.ensures.header, c.lend.ensures.primary, c.lend.ensures.secondary) at c.recovery.ensures in
+    let passed = recovery_facts d m reached c.in-Ok.is in
     let fit = valid_rack passed.0 in
-    let failed = rw c.header-header.ensures at c.awaited_card-failed.ensures in
+    let failed = c.awaited_card-failed.ensures in
     let dead = rw (← failed) at (fit.awaited passed.1) in
     let below = dead.0 in
     let eight = fit.within.cards_most in
@@ -41,12 +42,12 @@ recover_memory-recovered-requires c =
       releases_in = record { good = fit.good };
     }
 
-pub returns : goal.returns
-returns c =
+pub returns-in-Ok : goal.returns-in-Ok
+returns-in-Ok c =
     let a = c.args in
     let d = c.args.directory in
-    let reached = rw c.header-header.ensures at c.recovery-refusal.ensures in
-    let failed = rw c.header-header.ensures at c.awaited_card-failed.ensures in
+    let reached = rw (c.lend.ensures.header, c.lend.ensures.primary, c.lend.ensures.secondary) at c.recovery.ensures in
+    let failed = c.awaited_card-failed.ensures in
     let done = rw failed at c.recover_memory-recovered.ensures in
-    rw (recovery-accepted d a.memory.now reached c.if-refusal-ne0.false)
-    record { answer = ap Given done.number; directory = done.directory; desk = done.desk; memory = done.memory }
+    rw (recovery-accepted d a.memory.now reached c.in-Ok.is)
+    record { answer = ap given done.number; directory = done.directory; desk = done.desk; memory = done.memory }

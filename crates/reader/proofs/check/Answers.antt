@@ -1,33 +1,33 @@
 -- `reader::check` meets its contract: it goes by what `read` finds, and refuses a list that is longer than that.
-use Prim.Native.Nat.{ℕ, ◌<◌, ◌≤◌}
 use mathlib.Core.Path.{◌≡◌, sym, ◌∙◌}
-use native.Mathlib.Omega.{arith}
 use borrow.Author.Tests.{lt-ltb, le-ltb}
-use Rattle.answer.specs.Outcome.{given, refused_at, faulty_list}
-use Rattle.diff.specs.declared.Verdict.TheVariants.{Good}
-use Rattle.diff.specs.Reading.{whole_diff, check_diff}
+use Rattle.std.specs.Prelude.{ℕ, Result, Ok, Err, IsErrAnd}
+use Rattle.answer.specs.declared.Refusal.{Refusal}
+use Rattle.answer.specs.declared.Refusal.TheVariants.{FaultyList}
+use Rattle.answer.specs.Outcome.{refused_at, faulty_list}
+use Rattle.answer.specs.Refusal.{outcome_of}
+use Rattle.diff.specs.Reading.{check_diff}
 use Rattle.reader.proofs.check.Goals as goal
 
-longer : (prices end words : ℕ) → end < words → whole_diff words (Good prices end) ≡ refused_at faulty_list end
-longer prices end words more = rw (lt-ltb end words more)
+told_as : (answer : Result ℕ Refusal) (place : ℕ) → IsErrAnd answer (λ e. e ≡ FaultyList place)
+    → outcome_of answer ≡ refused_at faulty_list place
+told_as (Ok value) place refused = absurd refused
+told_as (Err refusal) place refused = rw refused
 
-whole : (prices end words : ℕ) → words ≤ end → whole_diff words (Good prices end) ≡ given prices
-whole prices end words none = rw (le-ltb end words none)
-
-pub returns-then-words-list : goal.returns-then-words-list
+pub returns-in_err-extent : goal.returns-in_err-extent
 unfolding check_diff
-returns-then-words-list c =
-    let read = sym c.in-Good.is ∙ c.read.ensures in
-    rw (← read) (sym (longer _ _ _ (omega (arith, c.if-words-list.true))))
+returns-in_err-extent c =
+    let read = sym c.in_err-extent.was ∙ c.read.ensures in
+    rw (← read) (told_as c.from_residual.result _ c.from_residual.ensures.1)
 
-pub returns-else-words-list : goal.returns-else-words-list
+pub returns-then-extent-list : goal.returns-then-extent-list
 unfolding check_diff
-returns-else-words-list c =
-    let read = sym c.in-Good.is ∙ c.read.ensures in
-    rw (← read) (sym (whole _ _ _ c.if-words-list.false))
+returns-then-extent-list c =
+    let read = sym c.in_ok-extent.was ∙ c.read.ensures in
+    rw (← read) (simp (lt-ltb _ _ c.if-extent-list.true))
 
-pub returns-in-Faulty : goal.returns-in-Faulty
+pub returns : goal.returns
 unfolding check_diff
-returns-in-Faulty c =
-    let read = sym c.in-Faulty.is ∙ c.read.ensures in
-    rw (← read)
+returns c =
+    let read = sym c.in_ok-extent.was ∙ c.read.ensures in
+    rw (← read) (simp (le-ltb _ _ c.if-extent-list.false))

@@ -1,64 +1,45 @@
--- Rests on `Listing`: to write what is left of the prices writes what all of them write.
-use mathlib.Core.Path.{sym, ◌∙◌}
+-- `reader::list_prices` meets its contract.
+use mathlib.Core.Path.{ap, ◌∙◌}
 use native.Mathlib.Omega.{arith}
-use borrow.Author.Rules.{rules}
-use Rattle.diff.specs.Prices.{label_of}
-use Rattle.reader.specs.Listed.{price_of}
-use Rattle.reader.proofs.Walking.{reached_next, fewer_left}
-use Rattle.reader.proofs.Listing.{listing_first, listing_next, listing_end}
-use Rattle.reader.proofs.Listing.{count-first, count_next, count_end}
+use lib.ListN.{length, length-append}
+use Rattle.reader.specs.Left.{left}
+use Rattle.reader.proofs.Listing.{turn_of, all_had, listed_next, few_prices}
 use Rattle.reader.proofs.list_prices.Goals as goal
 
-pub loop-at-init : goal.loop-at-init
-loop-at-init c =
-    rw c.first_word-at.ensures
-    (omega arith, listing_first label_of _ _ _, listing_first price_of _ _ _, count-first _ _)
+pub bounds-prices-count : goal.bounds-prices-count
+bounds-prices-count c =
+    let new = ap left c.into_iter-price-iterator.ensures.into_iter_gives ∙ c.new-price-items.ensures in
+    let turn = turn_of _ _ _ new _ _ c.loop-price.yielded_by _ _ c.next.ensures.steps _ c.in-Some.is in
+    omega arith
 
-pub put_due-requires : goal.put_due-requires
-put_due-requires c =
-    let at = c.loop-at in
-    let reached = c.loop-at.invariant.0 in
-    let labels = c.loop-at.invariant.1.same_length in
-    let prices = c.loop-at.invariant.2.same_length in
+pub offset_bounds-prices-count : goal.offset_bounds-prices-count
+offset_bounds-prices-count c =
+    let new = ap left c.into_iter-price-iterator.ensures.into_iter_gives ∙ c.new-price-items.ensures in
+    let turn = turn_of _ _ _ new _ _ c.loop-price.yielded_by _ _ c.next.ensures.steps _ c.in-Some.is in
+    omega arith
+
+pub overflow_add-count : goal.overflow_add-count
+overflow_add-count c =
+    let new = ap left c.into_iter-price-iterator.ensures.into_iter_gives ∙ c.new-price-items.ensures in
+    let turn = turn_of _ _ _ new _ _ c.loop-price.yielded_by _ _ c.next.ensures.steps _ c.in-Some.is in
+    omega arith
+
+pub loop-price-preserved : goal.loop-price-preserved
+loop-price-preserved c =
+    let far = c.loop-price.invariant in
     record {
-      well_formed = record { within = omega arith; one = omega arith; few = omega arith; named = omega arith };
-      prices_in_bounds = (omega arith, omega arith);
-      next_bound = omega arith;
+      counted = simp length-append (omega arith);
+      listed = rw (far.counted, far.listed) (listed_next c.loop-price.yielded _ _);
     }
 
-pub next_word-at-requires : goal.next_word-at-requires
-next_word-at-requires c =
-    let at = c.loop-at in
-    let reached = c.loop-at.invariant.0 in
-    record {
-      well_formed = record { within = omega arith; one = omega arith; few = omega arith; named = omega arith };
-      index_in_bounds = search rules;
-    }
-
-pub loop-at-smaller : goal.loop-at-smaller
-loop-at-smaller c =
-    let at = c.loop-at in
-    let list = c.args.list.now in
-    rw c.next_word-at.ensures (fewer_left _ list at.at c.loop-at-test.true at.invariant.0)
-
-pub loop-at-preserved : goal.loop-at-preserved
-loop-at-preserved c =
-    let at = c.loop-at in
-    let inside = c.loop-at-test.true in
-    let stored = c.put_due.ensures in
-    rw c.next_word-at.ensures (
-      reached_next _ _ at.at inside at.invariant.0,
-      listing_next label_of _ _ _ at.invariant.1 inside stored.labels,
-      listing_next price_of _ _ _ at.invariant.2 inside stored.prices,
-      sym (count_next _ _ at.at inside) ∙ at.invariant.3,
-    )
+pub overflow_cast-result : goal.overflow_cast-result
+overflow_cast-result c =
+    let new = ap left c.into_iter-price-iterator.ensures.into_iter_gives ∙ c.new-price-items.ensures in
+    let all = all_had _ _ _ new _ _ c.loop-price.yielded_by _ _ c.next.ensures.steps c.in-None.is in
+    omega (arith, few_prices c.args.pages c.args.list.now, ap length all)
 
 pub returns : goal.returns
 returns c =
-    let at = c.loop-at in
-    let end = c.loop-at-test.false in
-    record {
-      count = sym (count_end _ _ at.at end) ∙ at.invariant.3;
-      labels = listing_end label_of _ _ _ at.invariant.1 end;
-      prices = listing_end price_of _ _ _ at.invariant.2 end;
-    }
+    let new = ap left c.into_iter-price-iterator.ensures.into_iter_gives ∙ c.new-price-items.ensures in
+    let all = all_had _ _ _ new _ _ c.loop-price.yielded_by _ _ c.next.ensures.steps c.in-None.is in
+    rw (← all) record { count = c.loop-price.invariant.counted; prices = c.loop-price.invariant.listed }

@@ -7,15 +7,10 @@ use Rattle.reader.proofs.Keeping.{word_passed, passed_well_formed, passed_idle}
 use Rattle.reader.proofs.Turns.{read_turn}
 use Rattle.reader.proofs.Runs.{read_run, read_run_cut, read_over}
 use Rattle.reader.proofs.read.Goals as goal
+use Rattle.reader.proofs.read.Goals.{else-loop-index-test, then-loop-index-test+in-Next+then-words-index}
 
 pub loop-index-init : goal.loop-index-init
-loop-index-init c = rw (c.words_read-words.ensures, c.cursor-s.ensures) (search rules)
-
-pub returns-then-words-index : goal.returns-then-words-index
-returns-then-words-index c =
-    let at = c.loop-index in
-    let does = sym c.in-Next.is ∙ c.read_word.ensures in
-    sym (read_run_cut _ _ _ _ at.invariant.2 _ does _ at.invariant.0 (omega arith) c.if-words-index.true) ∙ at.invariant.4
+loop-index-init c = rw (c.cursor-s.ensures) (search rules)
 
 pub run_read-s-requires : goal.run_read-s-requires
 run_read-s-requires c =
@@ -52,6 +47,13 @@ returns-in-Fault c =
 pub returns : goal.returns
 returns c =
     let at = c.loop-index in
-    let words = c.words_read-words.result in
-    let all : at.index ≡ words = omega arith in
-    rw (← all) (sym (read_over _ _ _ at.s (all ∙ at.invariant.0)) ∙ at.invariant.4)
+    let words = c.min-words.result in
+    elim c.loop-index-test.branch [
+      | else-loop-index-test w ↦
+          let all : at.index ≡ words = omega arith in
+          rw (← all) (sym (read_over _ _ _ at.s (all ∙ at.invariant.0)) ∙ at.invariant.4)
+      | then-loop-index-test+in-Next+then-words-index w ↦
+          let does = sym w.in-Next.is ∙ w.read_word.ensures in
+          sym (read_run_cut _ _ _ _ at.invariant.2 _ does _ at.invariant.0 (omega arith) w.if-words-index.true)
+          ∙ at.invariant.4
+    ]

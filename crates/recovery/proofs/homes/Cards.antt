@@ -6,8 +6,7 @@ use Rattle.directory.specs.Directory.{primary_of}
 use Rattle.protocol.specs.Release.{size_of}
 use Rattle.protocol.specs.Recovery.{kept_home}
 use Rattle.protocol.proofs.recovery.Homes.{Covered}
-use Rattle.release.specs.Stepping.{CardIn}
-use Rattle.recovery.specs.Rack.{HomesOf}
+use Rattle.release.specs.Stepping.{HomesOf, CardIn}
 
 module _ (d : Directory) (f page : ℕ) {words : ℕ} where
   pub kept_in : HomesOf d words → page < d.pages → CardIn d.live words (size_of d) (kept_home d f page)

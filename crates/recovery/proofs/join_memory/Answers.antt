@@ -10,7 +10,7 @@ write_own_records-requires c =
     let pre = c.requires in
     let d = c.args.directory in
     let x = c.args.joining in
-    let rack = rack_kept pre.rack_in (c.memory-2-1.given ∙ c.memory-1.given) in
+    let rack = rack_kept pre.rack_in (c.copy_dead_records.auto.memory ∙ c.reset_area.auto.memory) in
     rw c.mark_live-after.ensures
     record {
       rack_in = marked_rack d x rack;

@@ -26,12 +26,12 @@ under_way-forward-requires c =
 
 pub restore_pages-requires : goal.restore_pages-requires
 restore_pages-requires c =
-    rw c.header-header.ensures c.requires.homes_of
+    rw (c.lend.ensures.header, c.lend.ensures.primary, c.lend.ensures.secondary) c.requires.homes_of
 
 pub move_homes-moved-requires : goal.move_homes-moved-requires
 move_homes-moved-requires c =
     let pre = c.requires in
-    let same = c.memory-1.given in
+    let same = c.restore_pages.auto.memory in
     record {
       rack_in = rack_kept pre.rack_in same;
       homes_of = homes_kept pre.homes_of same;
@@ -42,26 +42,22 @@ move_homes-moved-requires c =
 pub write_records-requires : goal.write_records-requires
 write_records-requires c =
     let pre = c.requires in
-    let same = c.memory-2-1.given ∙ c.memory-1.given in
+    let same = c.move_homes-moved.auto.memory ∙ c.restore_pages.auto.memory in
     record {
       rack_in = rack_kept pre.rack_in same;
       some_live = some_live pre.other_live;
-      failed_bound = (pre.failed_in.0, c.desk-1.given ∙ pre.desk_len);
+      failed_bound = (pre.failed_in.0, c.load_record-number.auto.desk ∙ pre.desk_len);
     }
-
-pub shape_of-desk : goal.shape_of-desk
-shape_of-desk c =
-    c.desk-1.given
 
 pub returns : goal.returns
 unfolding recovered_closed recovered_directory
 returns c =
     let says = rw (c.area_size-size.ensures, c.next_live-holder.ensures) at c.load_record-number.ensures in
     let forward = rw (c.area_size-size.ensures, c.next_live-holder.ensures) at c.under_way-forward.ensures in
-    let pages = rw (forward, c.header-header.ensures) at c.restore_pages.ensures in
+    let pages = rw (forward, c.lend.ensures.header, c.lend.ensures.primary, c.lend.ensures.secondary) at c.restore_pages.ensures in
     let homes = rw pages at c.move_homes-moved.ensures.memory in
     record {
-      directory = rw c.move_homes-moved.ensures.homes at c.running-recovered.ensures;
+      directory = rw c.move_homes-moved.ensures.homes at c.with_status.ensures;
       number = says.number;
       desk = says.desk;
       memory = rw (homes, says.number, says.desk) at c.write_records.ensures;

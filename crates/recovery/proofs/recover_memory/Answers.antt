@@ -18,7 +18,7 @@ close_releases-requires c =
 
 pub recover_closed-requires : goal.recover_closed-requires
 recover_closed-requires c =
-    let same = c.memory-1.given in
+    let same = c.close_releases.auto.memory in
     let pre = c.requires in
     record {
       rack_in = rack_kept pre.rack_in same;

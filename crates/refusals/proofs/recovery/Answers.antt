@@ -1,12 +1,15 @@
 -- Rests on the order of checks: those of a rack that fits, then its status.
 use mathlib.Core.Path.{refl, sym, ◌∙◌}
-use Rattle.checks.proofs.Order.{refused-first, passed_first}
+use Rattle.std.proofs.lemmas.Result.{err_from_is_err_and}
+use Rattle.checks.proofs.Order.{refused_first, passed_first}
 use Rattle.refusals.proofs.recovery.Goals as goal
 
-pub returns-then-first-ne0 : goal.returns-then-first-ne0
-returns-then-first-ne0 c = sym (refused-first _ _ _ refl c.fitting_refusal-first.ensures c.if-first-ne0.true)
+pub returns-in_err-check_fitting : goal.returns-in_err-check_fitting
+returns-in_err-check_fitting c =
+    let p = err_from_is_err_and c.from_residual.result c.from_residual.ensures.1 in
+    rw (p.1, p.2) (refused_first _ _ _ refl c.check_fitting.ensures c.in_err-check_fitting.was)
 
 pub returns : goal.returns
 returns c =
     (rw c.awaits_recovery.ensures at c.last_check.ensures)
-    ∙ sym (passed_first _ _ _ refl c.fitting_refusal-first.ensures c.if-first-ne0.false)
+    ∙ sym (passed_first _ _ _ refl c.check_fitting.ensures c.in_ok-check_fitting.was)

@@ -3,10 +3,4 @@ use Rattle.bandsawpink.proofs.words.directory_in.Goals as goal
 
 pub returns : goal.returns
 returns c =
-    rw (
-      c.header_in-header.ensures,
-      c.copy_homes-primary.ensures,
-      c.primary_in.ensures.result_value,
-      c.copy_homes-secondary.ensures,
-      c.secondary_in.ensures.result_value,
-    )
+    rw (c.header_in-header.ensures, c.primary_in-primary.ensures.result_value, c.secondary_in-secondary.ensures.result_value)

@@ -1,5 +1,5 @@
 -- Rests on `Filled`: up to the card reached the marks are the table's.
-use Prim.Native.Nat.{◌+◌, ◌-◌}
+use Prim.Native.Nat.{◌+◌}
 use mathlib.Core.Bool.{false}
 use lib.Dec.{ltb}
 use lib.ListN.{get_or, replicate}
@@ -8,6 +8,3 @@ use Rattle.bandsawpink.proofs.words.marks_in.Given as goal
 
 abbrev pub invariant-loop-card : goal.invariant-loop-card
 invariant-loop-card l = Filled (λ at. ltb 0 (get_or l.words (3 + at) 0)) l.card (replicate 8 false) l.marks
-
-abbrev pub decreases-loop-card : goal.decreases-loop-card
-decreases-loop-card l = 8 - l.card

@@ -1,36 +1,31 @@
--- Rests on `Marking`, and on the count: the prices counted and those that are left are all the prices of the list.
-use mathlib.Core.Path.{refl, sym, ◌∙◌}
-use native.Mathlib.Nat.{add-zero}
+-- Rests on `marked_next`, and on where the prices of a list can be.
+use mathlib.Core.Path.{ap, ◌∙◌}
 use native.Mathlib.Omega.{arith}
-use Rattle.reader.proofs.Walking.{left_first, left_end, fewer_left}
-use Rattle.conflict.specs.Motion.{page_of}
-use Rattle.conflict.proofs.Marks.{marking_first, marking_next, marking_end}
-use Rattle.conflict.proofs.motion.Turns.{count_turn}
+use lib.ListN.{length-append}
+use Rattle.reader.specs.Left.{left}
+use Rattle.reader.proofs.Listing.{turn_of, all_had}
+use Rattle.conflict.proofs.Marks.{marked_next}
 use Rattle.conflict.proofs.motion.mark_pages.Goals as goal
 
-pub loop-at-init : goal.loop-at-init
-loop-at-init c = rw (c.first_word-at.ensures, left_first) (marking_first page_of _ _ _, omega arith)
+pub bounds-marks-price : goal.bounds-marks-price
+bounds-marks-price c =
+    let new = ap left c.into_iter-price-iterator.ensures.into_iter_gives ∙ c.new-price-items.ensures in
+    let turn = turn_of _ _ _ new _ _ c.loop-price.yielded_by _ _ c.next.ensures.steps _ c.in-Some.is in
+    omega arith
 
-pub loop-at-smaller : goal.loop-at-smaller
-loop-at-smaller c =
-    let at = c.loop-at in
-    let list = c.args.list.now in
-    rw c.next_word-at.ensures (fewer_left _ list at.at c.loop-at-test.true at.invariant.0.reached)
+pub overflow_add-prices : goal.overflow_add-prices
+overflow_add-prices c =
+    let new = ap left c.into_iter-price-iterator.ensures.into_iter_gives ∙ c.new-price-items.ensures in
+    let turn = turn_of _ _ _ new _ _ c.loop-price.yielded_by _ _ c.next.ensures.steps _ c.in-Some.is in
+    omega arith
 
-pub loop-at-preserved : goal.loop-at-preserved
-loop-at-preserved c =
-    let at = c.loop-at in
-    let marks = c.mark_page in
-    rw c.next_word-at.ensures (
-      marking_next at.invariant.0 c.loop-at-test.true (λ w. refl) marks.ensures marks.auto.marks,
-      sym (count_turn _ _ at.at c.loop-at-test.true) ∙ at.invariant.1,
-    )
+pub loop-price-preserved : goal.loop-price-preserved
+loop-price-preserved c =
+    let far = c.loop-price.invariant in
+    record { counted = simp length-append (omega arith); made = rw (← marked_next, ← far.made) }
 
 pub returns : goal.returns
 returns c =
-    let at = c.loop-at in
-    let a = c.args in
-    record {
-      prices = rw (left_end a.pages a.list.now at.at c.loop-at-test.false, add-zero) at at.invariant.1;
-      marks = marking_end at.invariant.0 c.loop-at-test.false;
-    }
+    let new = ap left c.into_iter-price-iterator.ensures.into_iter_gives ∙ c.new-price-items.ensures in
+    let all = all_had _ _ _ new _ _ c.loop-price.yielded_by _ _ c.next.ensures.steps c.in-None.is in
+    rw (← all) record { prices = c.loop-price.invariant.counted; marks = c.loop-price.invariant.made }

@@ -1,16 +1,12 @@
--- Rests on `Marking`, and on the count: the prices counted and those that are left are all the prices of the list.
-use Prim.Native.Nat.{◌+◌, ◌-◌}
+-- The loop's invariant: the pages of the prices so far are marked.
 use mathlib.Core.Path.{◌≡◌}
 use lib.ListN.{length}
-use Rattle.diff.specs.Prices.{prices_of}
-use Rattle.reader.proofs.Walking.{prices_left}
+use Rattle.conflict.specs.Marks.{marked}
 use Rattle.conflict.specs.Motion.{page_of}
-use Rattle.conflict.proofs.Marks.{Marking}
 use Rattle.conflict.proofs.motion.mark_pages.Given as goal
 
-abbrev pub invariant-loop-at : goal.invariant-loop-at
-invariant-loop-at l = Marking page_of l.pages l.list l.initial.marks l.marks l.at
-    × (l.at.cursor.prices + length (prices_left l.pages l.list l.at) ≡ length (prices_of l.pages l.list))
-
-abbrev pub decreases-loop-at : goal.decreases-loop-at
-decreases-loop-at l = length l.list - l.at.index
+abbrev pub invariant-loop-price : goal.invariant-loop-price
+invariant-loop-price l = record {
+  counted : l.prices ≡ length l.yielded;
+  made : l.marks ≡ marked page_of l.yielded l.fn.marks;
+}

@@ -1,34 +1,25 @@
--- Rests on the laws of a turn: the prices counted and those that are left are all the prices of the list.
-use mathlib.Core.Path.{refl, sym, ◌∙◌}
-use mathlib.Core.Bool.{or_assoc, or-false}
-use native.Mathlib.Nat.{add-zero}
+-- Rests on `page_next`, and on how many prices a list can have.
+use mathlib.Core.Path.{ap, ◌∙◌}
 use native.Mathlib.Omega.{arith}
-use Rattle.reader.proofs.Walking.{left_first, left_end, reached_next, fewer_left}
-use Rattle.conflict.proofs.motion.Turns.{page_turn, page_end, count_turn}
+use lib.ListN.{length-append}
+use Rattle.reader.specs.Left.{left}
+use Rattle.reader.proofs.Listing.{turn_of, all_had}
+use Rattle.conflict.proofs.motion.Turns.{page_next}
 use Rattle.conflict.proofs.motion.tally_prices.Goals as goal
 
-pub loop-at-init : goal.loop-at-init
-loop-at-init c = rw (c.first_word-at.ensures, left_first) (omega arith, omega arith, refl)
+pub overflow_add-prices : goal.overflow_add-prices
+overflow_add-prices c =
+    let new = ap left c.into_iter-price-iterator.ensures.into_iter_gives ∙ c.new-price-items.ensures in
+    let turn = turn_of _ _ _ new _ _ c.loop-price.yielded_by _ _ c.next.ensures.steps _ c.in-Some.is in
+    omega arith
 
-pub loop-at-smaller : goal.loop-at-smaller
-loop-at-smaller c =
-    let at = c.loop-at in
-    let list = c.args.list.now in
-    rw c.next_word-at.ensures (fewer_left _ list at.at c.loop-at-test.true at.invariant.0)
-
-pub loop-at-preserved : goal.loop-at-preserved
-loop-at-preserved c =
-    let at = c.loop-at in
-    rw c.next_word-at.ensures (
-      reached_next _ _ at.at c.loop-at-test.true at.invariant.0,
-      sym (count_turn _ _ at.at c.loop-at-test.true) ∙ at.invariant.1,
-      rw (c.on_page-named.ensures, or_assoc, ← page_turn _ _ at.at c.loop-at-test.true) at.invariant.2,
-    )
+pub loop-price-preserved : goal.loop-price-preserved
+loop-price-preserved c =
+    let far = c.loop-price.invariant in
+    record { counted = simp length-append (omega arith); found = rw (page_next, ← far.found) }
 
 pub returns : goal.returns
 returns c =
-    let at = c.loop-at in
-    let a = c.args in
-    let prices = rw (left_end a.pages a.list.now at.at c.loop-at-test.false, add-zero) at at.invariant.1 in
-    let named = rw (page_end a.pages a.list.now at.at c.loop-at-test.false a.page, or-false) at at.invariant.2 in
-    rw (prices, named)
+    let new = ap left c.into_iter-price-iterator.ensures.into_iter_gives ∙ c.new-price-items.ensures in
+    let all = all_had _ _ _ new _ _ c.loop-price.yielded_by _ _ c.next.ensures.steps c.in-None.is in
+    rw (← all, c.loop-price.invariant.counted, c.loop-price.invariant.found)

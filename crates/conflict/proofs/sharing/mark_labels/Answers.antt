@@ -1,25 +1,28 @@
--- Rests on `Marking`: to mark what is left of the prices marks what all of them mark.
-use mathlib.Core.Path.{refl}
-use Rattle.diff.specs.Prices.{label_of}
-use Rattle.reader.proofs.Walking.{fewer_left}
-use Rattle.conflict.proofs.Marks.{marking_first, marking_next, marking_end}
+-- Rests on `marked_next`, and on where the prices of a list can be.
+use mathlib.Core.Path.{ap, ◌∙◌}
+use native.Mathlib.Omega.{arith}
+use Rattle.reader.specs.Left.{left}
+use Rattle.reader.proofs.Listing.{turn_of, all_had}
+use Rattle.conflict.proofs.Marks.{marked_next}
 use Rattle.conflict.proofs.sharing.mark_labels.Goals as goal
 
-pub loop-at-init : goal.loop-at-init
-loop-at-init c = rw c.first_word-at.ensures (marking_first label_of _ _ _)
+pub label-requires : goal.label-requires
+label-requires c =
+    let new = ap left c.into_iter-price-iterator.ensures.into_iter_gives ∙ c.new-price-items.ensures in
+    let turn = turn_of _ _ _ new _ _ c.loop-price.yielded_by _ _ c.next.ensures.steps _ c.in-Some.is in
+    (omega arith, turn.in_page)
 
-pub loop-at-smaller : goal.loop-at-smaller
-loop-at-smaller c =
-    let at = c.loop-at in
-    let list = c.args.list.now in
-    rw c.next_word-at.ensures (fewer_left _ list at.at c.loop-at-test.true at.invariant.reached)
+pub bounds-marks-label : goal.bounds-marks-label
+bounds-marks-label c =
+    let new = ap left c.into_iter-price-iterator.ensures.into_iter_gives ∙ c.new-price-items.ensures in
+    let turn = turn_of _ _ _ new _ _ c.loop-price.yielded_by _ _ c.next.ensures.steps _ c.in-Some.is in
+    omega arith
 
-pub loop-at-preserved : goal.loop-at-preserved
-loop-at-preserved c =
-    let marks = c.mark_label in
-    rw c.next_word-at.ensures
-    (marking_next c.loop-at.invariant c.loop-at-test.true (λ w. refl) marks.ensures
-    marks.auto.marks)
+pub loop-price-preserved : goal.loop-price-preserved
+loop-price-preserved c = rw (← marked_next, ← c.loop-price.invariant, c.label.ensures)
 
 pub returns : goal.returns
-returns c = marking_end c.loop-at.invariant c.loop-at-test.false
+returns c =
+    let new = ap left c.into_iter-price-iterator.ensures.into_iter_gives ∙ c.new-price-items.ensures in
+    let all = all_had _ _ _ new _ _ c.loop-price.yielded_by _ _ c.next.ensures.steps c.in-None.is in
+    rw (← all) c.loop-price.invariant

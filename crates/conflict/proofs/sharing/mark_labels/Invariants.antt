@@ -1,12 +1,8 @@
--- Rests on `Marking`: to mark what is left of the prices marks what all of them mark.
-use Prim.Native.Nat.{◌-◌}
-use lib.ListN.{length}
+-- The loop's invariant: the labels of the prices so far are marked.
+use mathlib.Core.Path.{◌≡◌}
 use Rattle.diff.specs.Prices.{label_of}
-use Rattle.conflict.proofs.Marks.{Marking}
+use Rattle.conflict.specs.Marks.{marked}
 use Rattle.conflict.proofs.sharing.mark_labels.Given as goal
 
-abbrev pub invariant-loop-at : goal.invariant-loop-at
-invariant-loop-at l = Marking label_of l.pages l.list l.initial.marks l.marks l.at
-
-abbrev pub decreases-loop-at : goal.decreases-loop-at
-decreases-loop-at l = length l.list - l.at.index
+abbrev pub invariant-loop-price : goal.invariant-loop-price
+invariant-loop-price l = l.marks ≡ marked label_of l.yielded l.fn.marks

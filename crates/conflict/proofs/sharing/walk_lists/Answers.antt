@@ -1,76 +1,61 @@
 -- Rests on `Passed` over the cards, and over a card's list on the laws of a turn: what is left finds what all finds.
-use mathlib.Core.Path.{◌≡◌, refl, sym, ◌∙◌}
+use mathlib.Core.Path.{sym, ap, ◌∙◌}
 use native.Mathlib.Omega.{arith}
-use borrow.Author.Rules.{rules}
-use lib.ListN.{length}
-use Rattle.laws.proofs.Search.{passed_none, passed_more, lowest-found, lowest_none}
-use Rattle.memory.proofs.Index.{area_in}
-use Rattle.reader.proofs.Walking.{left_first, reached_next, fewer_left}
-use Rattle.conflict.proofs.sharing.Turns.{any_turn, any_end, marks-not, marks_list}
+use Rattle.laws.proofs.Search.{passed_more, lowest_below_found, lowest_below_none}
+use Rattle.reader.specs.Left.{left}
+use Rattle.reader.proofs.Listing.{turn_of}
+use Rattle.conflict.proofs.sharing.Turns.{any_hit, any_miss, any_none, marks_other, marks_not}
 use Rattle.conflict.proofs.sharing.walk_lists.Goals as goal
+use Rattle.conflict.proofs.sharing.walk_lists.Goals.{then-is_other+in-None, else-is_other}
 
-pub cards-init : goal.cards-init
-cards-init c = (passed_none, refl)
+pub label-requires : goal.label-requires
+label-requires c =
+    let new = ap left c.into_iter-price-iterator.ensures.into_iter_gives ∙ c.new-price-items.ensures in
+    let turn = turn_of _ _ _ new _ _ c.loop-price.yielded_by _ _ c.next.ensures.steps _ c.in-Some.is in
+    (omega arith, turn.in_page)
 
-pub is_other-requires : goal.is_other-requires
-is_other-requires c =
-    let size = c.area_size-size.ensures in
-    let marks : length c.args.header.live ≡ 8 = search rules in
-    let pre = c.requires.memory_of in
-    let below = c.cards-test.true in
-    let area = area_in _ below pre.2 in
-    record { pages_start_le_size = (omega arith, rw size area); other_in_bounds = omega (arith, pre.0) }
+pub bounds-named-label : goal.bounds-named-label
+bounds-named-label c =
+    let new = ap left c.into_iter-price-iterator.ensures.into_iter_gives ∙ c.new-price-items.ensures in
+    let turn = turn_of _ _ _ new _ _ c.loop-price.yielded_by _ _ c.next.ensures.steps _ c.in-Some.is in
+    omega arith
 
-pub open_list-list-requires : goal.open_list-list-requires
-open_list-list-requires c =
-    let size = c.area_size-size.ensures in
-    let area = area_in _ c.cards-test.true c.requires.memory_of.2 in
-    (omega arith, rw size area)
+pub loop-price-init : goal.loop-price-init
+loop-price-init c =
+    let all = ap left c.into_iter-price-iterator.ensures.into_iter_gives ∙ c.new-price-items.ensures in
+    (c.cards.invariant.0, rw (all, c.open_list-list.ensures.result_value))
 
-pub loop-at-init : goal.loop-at-init
-loop-at-init c = rw (c.first_word-at.ensures, left_first) (omega arith, refl, refl)
-
-pub loop-at-smaller : goal.loop-at-smaller
-loop-at-smaller c =
-    let at = c.loop-at in
-    let list = c.open_list-list.result.now in
-    rw c.next_word-at.ensures (fewer_left _ list at.at c.loop-at-test.true at.invariant.0)
-
-pub loop-at-preserved : goal.loop-at-preserved
-loop-at-preserved c =
-    let at = c.loop-at in
-    let miss = sym c.if-hits.false ∙ c.hits.ensures in
-    rw c.next_word-at.ensures (
-      reached_next _ _ at.at c.loop-at-test.true at.invariant.0,
-      at.invariant.1,
-      sym (any_turn _ _ at.at c.loop-at-test.true _ _ miss) ∙ at.invariant.2,
-    )
-
-pub cards-preserved-then-is_other : goal.cards-preserved-then-is_other
-cards-preserved-then-is_other c =
-    let at = c.loop-at in
-    let size = c.area_size-size.ensures in
-    let other = c.is_other.ensures in
-    let list = marks_list _ _ _ size _ _ _ other c.if-is_other.true c.open_list-list.ensures.result_value in
-    let miss = list ∙ sym at.invariant.2 ∙ any_end _ _ at.at c.loop-at-test.false _ in
-    let far = c.cards.invariant in
-    (passed_more far.0 c.cards-test.true miss, at.invariant.1 ∙ far.1)
+pub loop-price-preserved : goal.loop-price-preserved
+loop-price-preserved c =
+    let here = rw c.in-Some.is at c.next.ensures.steps in
+    let miss = rw c.label.ensures at c.if-named-label.false in
+    (c.loop-price.invariant.0, sym (any_miss here _ miss) ∙ c.loop-price.invariant.1)
 
 pub cards-preserved : goal.cards-preserved
 cards-preserved c =
-    let size = c.area_size-size.ensures in
-    let miss = marks-not _ _ _ size _ _ _ c.is_other.ensures c.if-is_other.false in
-    (passed_more c.cards.invariant.0 c.cards-test.true miss, c.cards.invariant.1)
+    let far = c.cards.invariant in
+    elim c.if-is_other.branch [
+      | then-is_other+in-None w ↦
+          let end = rw w.in-None.is at w.next.ensures.steps in
+          let miss =
+          marks_other _ _ _ _ _ _ (sym c.is_other.ensures ∙ w.if-is_other.true) ∙ sym w.loop-price.invariant.1
+          ∙ any_none end.0 _
+          in
+          (w.found-is ∙ w.loop-price.invariant.0, passed_more far.1 c.cards-test.true miss)
+      | else-is_other w ↦
+          let miss = marks_not _ _ _ _ _ _ (sym c.is_other.ensures ∙ w.if-is_other.false) in
+          (w.found-is ∙ far.0, passed_more far.1 c.cards-test.true miss)
+    ]
 
 pub returns-after-cards : goal.returns-after-cards
-returns-after-cards c = c.cards.invariant.1 ∙ lowest_none c.cards.invariant.0 c.cards-test.false
+returns-after-cards c = c.cards.invariant.0 ∙ lowest_below_none c.cards.invariant.1 c.cards-test.false
 
-pub returns-then-hits : goal.returns-then-hits
-returns-then-hits c =
-    let at = c.loop-at in
-    let size = c.area_size-size.ensures in
-    let other = c.is_other.ensures in
-    let list = marks_list _ _ _ size _ _ _ other c.if-is_other.true c.open_list-list.ensures.result_value in
-    let hit = sym c.if-hits.true ∙ c.hits.ensures in
-    let some = any_turn _ _ at.at c.loop-at-test.true _ _ hit in
-    lowest-found c.cards.invariant.0 c.cards-test.true (list ∙ sym at.invariant.2 ∙ some)
+pub returns-then-named-label : goal.returns-then-named-label
+returns-then-named-label c =
+    let here = rw c.in-Some.is at c.next.ensures.steps in
+    let hit = rw c.label.ensures at c.if-named-label.true in
+    let some =
+    marks_other _ _ _ _ _ _ (sym c.is_other.ensures ∙ c.if-is_other.true) ∙ sym c.loop-price.invariant.1
+    ∙ any_hit here _ hit
+    in
+    lowest_below_found c.cards.invariant.1 c.cards-test.true some

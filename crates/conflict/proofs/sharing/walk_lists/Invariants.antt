@@ -1,22 +1,15 @@
--- Rests on `Passed` over the cards, and over a card's list on the laws of a turn: what is left finds what all finds.
-use Prim.Native.Nat.{◌-◌}
-use mathlib.Core.Path.{◌≡◌}
-use lib.ListN.{length}
+-- Rests on `Passed` over the cards; over a card's list the prices that are left find what all of them find.
+use Rattle.std.proofs.Common.{None, ◌≡◌}
 use Rattle.laws.proofs.Search.{Passed}
-use Rattle.diff.specs.Prices.{prices_of}
-use Rattle.reader.proofs.Walking.{Reached, prices_left}
+use Rattle.protocol.specs.Release.{open_prices}
+use Rattle.reader.specs.Left.{left}
 use Rattle.conflict.specs.Sharing.{any_marked, marks_with}
 use Rattle.conflict.proofs.sharing.walk_lists.Given as goal
 
-abbrev pub invariant-loop-at : goal.invariant-loop-at
-invariant-loop-at l = Reached l.pages (length l.list) l.at × (l.found ≡ l.initial.found)
-    × (any_marked (prices_left l.pages l.list l.at) l.named ≡ any_marked (prices_of l.pages l.list) l.named)
-
-abbrev pub decreases-loop-at : goal.decreases-loop-at
-decreases-loop-at l = length l.list - l.at.index
+abbrev pub invariant-loop-price : goal.invariant-loop-price
+invariant-loop-price l = (l.found ≡ None)
+    × (any_marked (left l.price-iterator) l.named ≡ any_marked (open_prices l.header.pages l.memory l.other) l.named)
 
 abbrev pub invariant-cards : goal.invariant-cards
-invariant-cards l = Passed (marks_with l.live l.pages l.memory l.card l.named) l.cards l.other × (l.found ≡ l.cards)
-
-abbrev pub decreases-cards : goal.decreases-cards
-decreases-cards l = l.cards - l.other
+invariant-cards l = (l.found ≡ None)
+    × Passed (marks_with l.header.live l.header.pages l.memory l.card l.named) l.header.cards l.other

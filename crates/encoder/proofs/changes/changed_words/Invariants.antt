@@ -1,11 +1,7 @@
 -- `changes::changed_words` meets its contract. The loop's invariant: the marks are those of the words before `word`.
-use Prim.Native.Nat.{◌-◌, ◌≤◌}
-use mathlib.Core.Path.{◌≡◌}
+use Rattle.std.specs.Prelude.{◌≡◌}
 use Rattle.encoder.proofs.Changed.{changed_first}
 use Rattle.encoder.proofs.changes.changed_words.Given as goal
 
 abbrev pub invariant-loop-word : goal.invariant-loop-word
-invariant-loop-word l = (l.word ≤ 32) × (l.marks ≡ changed_first l.words l.twins l.word)
-
-abbrev pub decreases-loop-word : goal.decreases-loop-word
-decreases-loop-word l = 32 - l.word
+invariant-loop-word l = l.marks ≡ changed_first l.words l.twins l.word

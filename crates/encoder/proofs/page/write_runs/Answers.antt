@@ -14,16 +14,8 @@ pub run_word-requires : goal.run_word-requires
 run_word-requires c =
     omega (arith, run_on_page c.loop-left.invariant c.first_run-run.ensures)
 
-pub offset_bounds-list-at : goal.offset_bounds-list-at
-offset_bounds-list-at c =
-    omega (arith, run_in_list c.loop-left.invariant c.first_run-run.ensures)
-
 pub bounds-list-at : goal.bounds-list-at
 bounds-list-at c =
-    omega (arith, run_in_list c.loop-left.invariant c.first_run-run.ensures)
-
-pub overflow_add-at : goal.overflow_add-at
-overflow_add-at c =
     omega (arith, run_in_list c.loop-left.invariant c.first_run-run.ensures)
 
 pub slice_bounds-store_run_in-end : goal.slice_bounds-store_run_in-end
@@ -34,18 +26,6 @@ pub store_run_in-requires : goal.store_run_in-requires
 store_run_in-requires c =
     simp (length-set, length-take, length-drop)
     (omega (arith, run_in_list c.loop-left.invariant c.first_run-run.ensures))
-
-pub overflow_add-at-in-loop-left : goal.overflow_add-at-in-loop-left
-overflow_add-at-in-loop-left c =
-    omega (arith, run_in_list c.loop-left.invariant c.first_run-run.ensures)
-
-pub overflow_add-at-in-loop-left-2 : goal.overflow_add-at-in-loop-left-2
-overflow_add-at-in-loop-left-2 c =
-    omega (arith, run_in_list c.loop-left.invariant c.first_run-run.ensures)
-
-pub loop-left-smaller : goal.loop-left-smaller
-loop-left-smaller c =
-    omega (arith, run_on_page c.loop-left.invariant c.first_run-run.ensures)
 
 pub loop-left-preserved : goal.loop-left-preserved
 loop-left-preserved c =

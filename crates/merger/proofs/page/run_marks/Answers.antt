@@ -1,8 +1,7 @@
 -- `page::run_marks` meets its contract: the difference of two powers of two has the ones of the run.
 use Prim.Native.Nat.{◌+◌}
-use native.Mathlib.Omega.{arith}
 use borrow.Author.Rules.{rules}
-use Rattle.merger.proofs.page.Bits.{shifted, below_end, ones_fit, ones_set}
+use Rattle.merger.proofs.page.Bits.{shifted, below_end, ones_set}
 use Rattle.merger.proofs.page.run_marks.Goals as goal
 
 pub overflow_sub-result : goal.overflow_sub-result
@@ -10,12 +9,6 @@ overflow_sub-result c =
     let a = c.args in
     rw (shifted a.offset (search rules), shifted (a.offset + a.count) (search rules))
     (below_end a.offset a.count)
-
-pub overflow_cast-result : goal.overflow_cast-result
-overflow_cast-result c =
-    let a = c.args in
-    rw (shifted a.offset (search rules), shifted (a.offset + a.count) (search rules))
-    (omega (arith, ones_fit a.offset a.count (search rules)))
 
 pub returns : goal.returns
 returns c =

@@ -1,4 +1,5 @@
 -- Rests on what the word does to the reading, each case by itself.
+use native.Mathlib.Omega.{arith}
 use Rattle.reader.specs.Walking.{past_word}
 use Rattle.reader.proofs.walk.next_word.Goals as goal
 
@@ -8,8 +9,4 @@ returns-in-Next c = rw (← c.read_word.ensures, c.in-Next.is)
 
 pub returns-in-End : goal.returns-in-End
 unfolding past_word
-returns-in-End c = rw (← c.read_word.ensures, c.in-End.is)
-
-pub returns-in-Fault : goal.returns-in-Fault
-unfolding past_word
-returns-in-Fault c = rw (← c.read_word.ensures, c.in-Fault.is)
+returns-in-End c = grind arith

@@ -15,18 +15,18 @@ run_to_close-requires c =
     let same = c.loop-card.invariant.turned.same in
     let rack = rack_kept pre.rack_in same in
     let backup = backup_in a.directory a.failed c.loop-card.card rack pre.some_live pre.failed_bound in
-    rw (c.mark_live-before.ensures, c.header-header.ensures) record {
-      homes_in = homes_kept pre.homes_of same;
+    rw (c.mark_live-before.ensures, c.lend.ensures.header, c.lend.ensures.primary, c.lend.ensures.secondary) record {
+      homes_of = homes_kept pre.homes_of same;
       card_in = rack_card rack below;
-      card_in_2 = backup;
+      backup_in = backup;
       good_release = closed_good pre.releases_in far below;
     }
 
 pub loop-card-preserved : goal.loop-card-preserved
 loop-card-preserved c =
     let pre = c.requires in
-    closed_more pre.releases_in c.loop-card.invariant c.loop-card-test.true pre.rack_in c.memory-1.given
-    (rw (c.mark_live-before.ensures, c.header-header.ensures) at c.run_to_close.ensures)
+    closed_more pre.releases_in c.loop-card.invariant c.loop-card-test.true pre.rack_in c.run_to_close.auto.memory
+    (rw (c.mark_live-before.ensures, c.lend.ensures.header, c.lend.ensures.primary, c.lend.ensures.secondary) at c.run_to_close.ensures)
 
 pub returns : goal.returns
 unfolding close_releases
@@ -34,6 +34,3 @@ returns c = turn_all c.loop-card.invariant.turned c.loop-card-test.false
 
 pub loop-card-init : goal.loop-card-init
 loop-card-init c = closed_none
-
-pub shape_of-memory : goal.shape_of-memory
-shape_of-memory c = c.loop-card.invariant.turned.same

@@ -1,105 +1,45 @@
 -- Rests on `PricesMade`: the memory with its count is the one that single steps leave; the count is written at the end.
 use Prim.Native.Nat.{◌+◌, ◌/◌}
+use mathlib.Core.Path.{refl}
 use native.Mathlib.Omega.{arith}
-use Rattle.directory.specs.Directory.{directory_by}
-use Rattle.release.proofs.Callers.{homes_kept}
-use Rattle.release.proofs.Halves.{HalfFrom, next_price, half_bounds, half_same}
+use lib.ListN.{get_or}
+use Rattle.directory.specs.Lent.{lent}
+use Rattle.protocol.proofs.release.Writes.{no_price}
+use Rattle.release.proofs.Halves.{half_bounds}
 use Rattle.release.proofs.Prices.{price_at_lem}
 use Rattle.release.proofs.Counting.{prices_none, prices_one, prices_all}
 use Rattle.release.proofs.steps.store_prices.Goals as goal
 
-pub steps_made-steps-requires : goal.steps_made-steps-requires
-steps_made-steps-requires c =
-    let pre = c.requires in
-    rw c.area_size-size.ensures (omega arith, pre.card_in.area)
-
-pub half_next-half-requires : goal.half_next-half-requires
-half_next-half-requires c = c.requires.steps_left.few
-
-pub number_next-first-requires : goal.number_next-first-requires
-number_next-first-requires c =
-    let pre = c.requires in
-    let steps = rw c.area_size-size.ensures at c.steps_made-steps.ensures in
-    (pre.steps_left.few, rw steps (omega (arith, pre.count_nonzero.0, pre.count_nonzero.1)))
-
 pub loop-made-init : goal.loop-made-init
 loop-made-init c =
-    let some = c.requires.steps_left in
-    prices_none (rw some.prices at some) (rw c.area_size-size.ensures at c.steps_made-steps.ensures)
+    let run = c.requires.run_next in
+    let first = (half_bounds run.next.from).0 in
+    prices_none record { prices = refl; few = run.few; counts = omega (arith, run.next.is, run.within, first) }
+    (rw c.area_size-size.ensures at c.steps_made-steps.ensures)
 
-pub overflow_add-at : goal.overflow_add-at
-overflow_add-at c =
-    let pre = c.requires in
-    let some = c.requires.steps_left in
-    let due = rw c.area_size-size.ensures at c.steps_made-steps.ensures in
-    let more = rw (← due) at pre.count_nonzero.1 in
-    let steps = c.steps_made-steps.result in
-    let next = next_price c.args.asked.k steps (omega (arith, more, pre.count_nonzero.0)) in
-    omega (arith, next.rest, c.number_next-first.ensures, some.few, more)
-
-pub listed_price-p-requires : goal.listed_price-p-requires
-listed_price-p-requires c =
-    let pre = c.requires in
-    let some = c.requires.steps_left in
-    let listed = c.requires.listed in
-    let due = rw c.area_size-size.ensures at c.steps_made-steps.ensures in
-    let more = rw (← due) at pre.count_nonzero.1 in
-    let steps = c.steps_made-steps.result in
-    let next = next_price c.args.asked.k steps (omega (arith, more, pre.count_nonzero.0)) in
-    let number = c.number_next-first.ensures in (
-      omega (arith, next.rest, number, some.few, more, listed.labels_long),
-      omega (arith, next.rest, number, some.few, more, listed.prices_long),
-    )
-
-pub step_price-requires : goal.step_price-requires
-step_price-requires c =
+pub step_price-requires-clause-page_lt_pages : goal.step_price-requires-clause-page_lt_pages
+step_price-requires-clause-page_lt_pages c =
     let a = c.args in
-    let pre = c.requires in
-    let some = c.requires.steps_left in
-    let due = rw c.area_size-size.ensures at c.steps_made-steps.ensures in
-    let more = rw (← due) at pre.count_nonzero.1 in
-    let next = next_price a.asked.k c.steps_made-steps.result (omega (arith, more, pre.count_nonzero.0)) in
-    let bounds = half_bounds next.half in
-    let at = c.number_next-first.result + c.loop-made.made in
+    let run = c.requires.run_next in
+    let n = (a.first.at + c.loop-made.made) / 2 in
     let price =
-    price_at_lem a.header.pages a.memory.now a.asked.card (at / 2) c.listed_price-p.result
-    (omega (arith, next.rest, c.number_next-first.ensures, some.prices, more))
-    (rw c.listed_price-p.ensures (pre.listed.is (at / 2)))
+    price_at_lem a.directory.header.pages a.memory.now a.card n (get_or a.prices.now n no_price)
+    (omega (arith, run.within, c.loop-made-test.true)) (c.requires.listed.is n no_price)
     in
-    record {
-      homes_in = homes_kept pre.homes_in c.loop-made.invariant.same;
-      page_lt_pages = (price.is_on_page, price.in_page, omega (arith, bounds.1, c.half_next-half.ensures));
-    }
+    (price.is_on_page, price.in_page, (half_bounds run.next.from).1)
 
 pub loop-made-preserved : goal.loop-made-preserved
 loop-made-preserved c =
     let a = c.args in
-    let pre = c.requires in
     let card = c.requires.card_in in
-    let some = c.requires.steps_left in
-    let due = rw c.area_size-size.ensures at c.steps_made-steps.ensures in
-    let more = rw (← due) at pre.count_nonzero.1 in
-    let next = next_price a.asked.k c.steps_made-steps.result (omega (arith, more, pre.count_nonzero.0)) in
-    let number = c.number_next-first.ensures in
-    let at = c.number_next-first.result + c.loop-made.made in
-    let half : HalfFrom a.asked.k next.first c.half_next-half.result =
-    rw c.half_next-half.ensures next.half
-    in
-    prices_one (directory_by a.header a.primary.now a.secondary.now) {first = next.first}
-    {half = c.half_next-half.result} c.listed_price-p.result at card.eight card.area
-    c.loop-made.invariant c.loop-made-test.true (half_same some.prices half) (omega (arith, next.at, number))
-    (omega (arith, next.rest, number, some.prices, more))
-    (rw c.listed_price-p.ensures (pre.listed.is (at / 2))) c.step_price.ensures
-
-pub count_steps-requires : goal.count_steps-requires
-count_steps-requires c =
-    let pre = c.requires in
-    let some = c.requires.steps_left in
-    let due = rw c.area_size-size.ensures at c.steps_made-steps.ensures in
-    rw (c.area_size-size.ensures, c.loop-made.invariant.same)
-    (omega arith, pre.card_in.area, omega (arith, some.counts, some.few, due))
+    let run = c.requires.run_next in
+    let steps = rw c.area_size-size.ensures at c.steps_made-steps.ensures in
+    let at = a.first.at + c.loop-made.made in
+    prices_one (lent a.directory) {first = run.next.first} {half = a.first.half} (get_or a.prices.now (at / 2) no_price) at
+    card.eight card.area c.loop-made.invariant c.loop-made-test.true run.next.from (omega (arith, run.next.is, steps))
+    (omega (arith, run.within, c.loop-made-test.true)) (c.requires.listed.is (at / 2) no_price) c.step_price.ensures
 
 pub returns : goal.returns
-returns c =
+returns c backup =
     prices_all c.loop-made.invariant c.loop-made-test.false
-    (rw c.area_size-size.ensures at c.count_steps.ensures) _
+    (rw c.area_size-size.ensures at c.count_steps.ensures) backup

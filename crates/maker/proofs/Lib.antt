@@ -1,2 +1,0 @@
--- Laws that the list maker's functions cite.
-pub mod Lent

@@ -1,3 +1,0 @@
--- Laws on a page restored.
-pub mod Cases
-pub mod Homes

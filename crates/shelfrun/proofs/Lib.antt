@@ -1,0 +1,2 @@
+-- Laws that the program's proofs cite.
+pub mod Parts

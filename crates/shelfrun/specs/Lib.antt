@@ -1,0 +1,2 @@
+-- What the contracts of shelfrun cite.
+pub mod Answers
