@@ -1,11 +1,11 @@
 -- Inner contracts only. What recovery and join rely on, as a rack that passed its checks has it; and what they do on
 -- one card, as far as `protocol` has no name for it.
-use Rattle.std.specs.Prelude.{ℕ, ◌*◌, ◌<◌, ◌≤◌, ◌≡◌, List, Bool, true, false, cond, ◌&&◌, length, eqb}
+use Rattle.std.specs.Prelude.{ℕ, ◌+◌, ◌*◌, ◌<◌, ◌≤◌, ◌≡◌, List, Bool, true, false, cond, ◌&&◌, length, eqb}
 use Rattle.directory.specs.declared.Directory.{Directory}
 use Rattle.directory.specs.declared.Header.{Header}
 use Rattle.directory.specs.Directory.{live_at, is_live, backup_of}
 use Rattle.directory.specs.NewHome.{Another}
-use Rattle.area.specs.Prelude.{store_run, area_size, record_at}
+use Rattle.area.specs.Prelude.{copy_run, store_run, area_size, record_at, page_size, page_at}
 use Rattle.protocol.specs.Release.{size_of}
 
 -- marks of at most 8 cards, and a memory of one area for each card
@@ -28,6 +28,13 @@ OtherLive d = (c : ℕ) → Another d c
 -- a card that failed: it is dead
 abbrev pub FailedIn : Directory → ℕ → Type 0
 FailedIn d f = (f < 8) × (is_live d f ≡ false)
+
+-- at a home that is live, one half of a page copied to the other; a half is named by its place in the page
+unfoldable pub copy_at_home : Header → ℕ → ℕ → ℕ → ℕ → List ℕ → List ℕ
+copy_at_home h home page from to m =
+    cond (live_at h.live home)
+    (copy_run (area_size h.pages) m home (page_at page + from) home (page_at page + to) page_size)
+    m
 
 -- the record of a failed card, given by its words, stored on a card if that is live
 abbrev pub store_failed : Header → ℕ → List ℕ → ℕ → List ℕ → List ℕ

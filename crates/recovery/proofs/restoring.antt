@@ -1,0 +1,3 @@
+-- Laws on a page restored.
+pub mod Cases
+pub mod Homes
