@@ -96,6 +96,7 @@ impl Directory {
         requires counts_right { CountsRight self counts }
         ensures { result ≡ even_home self kept }
     {
-        fewest_home(&self.live, &counts, self.cards, kept).unwrap_or(self.cards)
+        let live = self.live;
+        fewest_home(&live, &counts, self.cards, kept).unwrap_or(self.cards)
     }
 }

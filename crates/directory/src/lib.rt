@@ -64,11 +64,13 @@ fn first_live(marks: &[bool; 8], from: u32, cards: u32) -> Option<u32>
 }
 
 impl Header {
-    // Whether a card is live; none past the marks is.
+    // Whether a card is live; none past the marks is. The marks are copied apart, so that the header
+    // itself need not stand in memory for the search.
     pub fn is_live(self, card: u32) -> bool
         ensures { result ≡ live_at self.live card }
     {
-        self.live.get(card as usize).copied().unwrap_or(false)
+        let live = self.live;
+        live.get(card as usize).copied().unwrap_or(false)
     }
 
     // The next live card after it, or the number of cards if none is live.

@@ -175,12 +175,19 @@ pub fn fail_card(memory: &[u32], directory: Directory, card: u32) -> Reply
             directory,
             answer: Err(refusal),
         },
-        Ok(()) => Reply {
-            directory: directory
-                .mark_dead(card)
-                .with_status(Status::Awaiting(card)),
-            answer: Ok(0),
-        },
+        Ok(()) => {
+            let live = directory.mark_dead(card).live;
+            let status = Status::Awaiting(card);
+            let failed = Directory {
+                live,
+                status,
+                ..directory
+            };
+            Reply {
+                directory: failed,
+                answer: Ok(0),
+            }
+        }
     }
 }
 
