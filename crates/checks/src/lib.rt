@@ -6,7 +6,7 @@
 ghost use Rattle.std.specs.Prelude.{◌≡◌, ◌*◌, ◌<◌, ◌≤◌, [], ◌∷◌, not, ◌||◌, length, leb};
 ghost use Rattle.laws.specs.Search.{any_below, count_below};
 ghost use Rattle.answer.specs.Refusal.{checked, number_of, place_of};
-ghost use Rattle.directory.specs.Directory.{live_at, awaits_card};
+ghost use Rattle.directory.specs.Directory.{live_at, awaits_card, directory_by};
 ghost use Rattle.directory.specs.Lent.{lent};
 ghost use Rattle.area.specs.Prelude.{area_size, AreaIn, MemoryOf};
 ghost use Rattle.protocol.specs.Checks.{outside_limits, bad_home, bad_page, bad_status, bad_release};
@@ -60,22 +60,27 @@ fn bad_home(header: Header, home: u32) -> bool
 }
 
 #[tactic(auto, unfolding(protocol::specs::Checks::bad_page))]
-pub fn bad_page(directory: LentDirectory<'_>, page: u32) -> bool
-    requires { page < 64 }
-    ensures { result ≡ bad_page (lent directory.entry) page }
+pub fn bad_page(header: Header, primary: &[u32], secondary: &[u32], page: u32) -> bool
+    requires { (page < length primary.now) × (page < length secondary.now) }
+    ensures { result ≡ bad_page (directory_by header primary.now secondary.now) page }
 {
-    let primary = directory.primary[page as usize];
-    let secondary = directory.secondary[page as usize];
-    primary == secondary
-        || bad_home(directory.header, primary)
-        || bad_home(directory.header, secondary)
+    let primary = primary[page as usize];
+    let secondary = secondary[page as usize];
+    primary == secondary || bad_home(header, primary) || bad_home(header, secondary)
 }
 
 fn bad_pages(directory: LentDirectory<'_>) -> bool
     requires { directory.header.pages ≤ 64 }
     ensures { result ≡ any_below (bad_page (lent directory.entry)) directory.entry.header.pages }
 {
-    numbers::any_below(directory.header.pages, |page| bad_page(directory, page))
+    numbers::any_below(directory.header.pages, |page| {
+        bad_page(
+            directory.header,
+            directory.primary,
+            directory.secondary,
+            page,
+        )
+    })
 }
 
 // Whether the homes of a page are the same, or one of them is no card of the rack.

@@ -45,7 +45,9 @@ pub fn unfit_at(memory: &[u32], at: Places, directory: LentDirectory<'_>) -> boo
 {
     let header = directory.header;
     checks::count_live(header) < 2
-        || numbers::any_below(header.pages, |page| checks::bad_page(directory, page))
+        || numbers::any_below(header.pages, |page| {
+            checks::bad_page(header, directory.primary, directory.secondary, page)
+        })
         || checks::bad_status(header)
         || numbers::any_below(header.cards, |card| bad_card(memory, at, header, card))
 }
