@@ -4,11 +4,12 @@ use Rattle.laws.proofs.Prelude.{refl, sym, ◌∙◌, ne_eqb, eq-eqb, not-true}
 use Rattle.laws.proofs.Bools.{and_first, and_second}
 use Rattle.answer.specs.declared.Refusal.{Refusal}
 use Rattle.answer.specs.Outcome.{given, refused_at}
-use Rattle.answer.specs.Refusal.{checked, told}
+use Rattle.answer.specs.Refusal.{checked, told, number_of, place_of}
 use Rattle.answer.proofs.Refusals.{passed_zero, refused_told}
 use Rattle.answer.proofs.Refusals.{numbered as refusal_numbered}
-use Rattle.protocol.specs.Checks.{Check, check_at, first_refusal}
+use Rattle.protocol.specs.Checks.{Check, check, check_at, first_refusal}
 use Rattle.protocol.proofs.checks.Outcome.{numbered}
+use Rattle.checks.specs.Numbers.{checked_by_number}
 
 -- ---- one check before others, and none
 
@@ -31,6 +32,22 @@ module _ (refuses : Bool) (number place : ℕ) where
       → first_refusal (check_at refuses number place ∷ []) value ≡ given value
   unfolding first_refusal
   last_passes value miss = rw miss
+
+-- the last check, of a refusal
+pub last_checked : (refuses : Bool) (refusal : Refusal) {result : Result (Unit {0}) Refusal}
+    → result ≡ cond refuses (Err refusal) (Ok tt)
+    → checked result ≡ first_refusal (check_at refuses (number_of refusal) (place_of refusal) ∷ []) 0
+unfolding first_refusal
+last_checked true refusal is = rw is refl
+last_checked false refusal is = rw is refl
+
+-- and of a number alone
+pub last_numbered : (refuses : Bool) (number : ℕ) {result : Result (Unit {0}) ℕ}
+    → result ≡ cond refuses (Err number) (Ok tt)
+    → checked_by_number result ≡ first_refusal (check refuses number ∷ []) 0
+unfolding first_refusal
+last_numbered true number is = rw is refl
+last_numbered false number is = rw is refl
 
 -- ---- checks that come to an outcome, before others
 

@@ -1,2 +1,3 @@
 -- What the contracts of the checks cite beside the definitions of `protocol`.
 pub mod Homes
+pub mod Numbers

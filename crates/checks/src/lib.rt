@@ -3,14 +3,14 @@
 // one that begins with `check_` makes several checks in order, and answers the first refusal.
 #![tactic(auto)]
 
-ghost use Rattle.std.specs.Prelude.{◌≡◌, ◌*◌, ◌<◌, ◌≤◌, [], ◌∷◌, not, ◌||◌, length, leb};
+ghost use Rattle.std.specs.Prelude.{◌≡◌, ◌*◌, ◌<◌, ◌≤◌, cond, not, ◌||◌, length, leb, Ok, Err};
 ghost use Rattle.laws.specs.Search.{any_below, count_below};
-ghost use Rattle.answer.specs.Refusal.{checked, number_of, place_of};
+ghost use Rattle.answer.specs.Refusal.{checked};
 ghost use Rattle.directory.specs.Directory.{live_at, awaits_card, directory_by};
 ghost use Rattle.directory.specs.Lent.{lent};
 ghost use Rattle.area.specs.Prelude.{area_size, AreaIn, MemoryOf};
 ghost use Rattle.protocol.specs.Checks.{outside_limits, bad_home, bad_page, bad_status, bad_release};
-ghost use Rattle.protocol.specs.Checks.{bad_card, unfit_rack, check_at, first_refusal, fitting_checks};
+ghost use Rattle.protocol.specs.Checks.{bad_card, unfit_rack, first_refusal, fitting_checks};
 ghost use Rattle.protocol.specs.Checks.{awaits_recovery, running_checks, card_checks, live_card_checks};
 ghost use Rattle.checks.specs.Homes.{misplaced, misplaced_page};
 
@@ -19,6 +19,9 @@ use diff::{Extent, ReadError};
 use directory::lent::LentDirectory;
 use directory::{Header, Status};
 use laws::numbers;
+
+#[cfg(test)]
+mod tests;
 
 // 1: cards or pages outside their limits, or a memory not of the stated length.
 #[tactic(auto, unfolding(protocol::specs::Checks::outside_limits))]
@@ -186,11 +189,9 @@ fn unfit_rack(memory: &[u32], directory: LentDirectory<'_>) -> bool
 
 // ---- the checks in order
 
-// A check after which none follows.
-#[tactic(auto, unfolding(protocol::specs::Checks::first_refusal))]
-pub fn last_check(refuses: bool, refusal: Refusal) -> Result<(), Refusal>
-    ensures { checked result
-        ≡ first_refusal (check_at refuses (number_of refusal) (place_of refusal) ∷ []) 0 }
+// A check after which none follows, by whatever its caller has for a refusal: a `Refusal`, or a number.
+pub fn last_check<E: Drop>(refuses: bool, refusal: E) -> Result<(), E>
+    ensures { result ≡ cond refuses (Err refusal) (Ok tt) }
 {
     if refuses { Err(refusal) } else { Ok(()) }
 }

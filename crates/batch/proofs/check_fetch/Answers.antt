@@ -1,7 +1,7 @@
 -- Rests on the order of checks: those of a running rack, then the length of the buffer.
 use mathlib.Core.Path.{refl, sym, ◌∙◌}
 use Rattle.std.proofs.lemmas.Result.{err_from_is_err_and}
-use Rattle.checks.proofs.Order.{refused_first, passed_first}
+use Rattle.checks.proofs.Order.{refused_first, passed_first, last_checked}
 use Rattle.batch.proofs.check_fetch.Goals as goal
 
 pub returns-in_err-check_running : goal.returns-in_err-check_running
@@ -10,4 +10,4 @@ returns-in_err-check_running c =
     rw (p.1, p.2) (refused_first _ _ _ refl c.check_running.ensures c.in_err-check_running.was)
 
 pub returns : goal.returns
-returns c = c.last_check.ensures ∙ sym (passed_first _ _ _ refl c.check_running.ensures c.in_ok-check_running.was)
+returns c = last_checked _ _ c.last_check.ensures ∙ sym (passed_first _ _ _ refl c.check_running.ensures c.in_ok-check_running.was)

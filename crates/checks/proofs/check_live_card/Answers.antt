@@ -1,7 +1,7 @@
 -- Rests on the order of checks: those of a running rack, then the number of cards and the mark.
 use mathlib.Core.Path.{refl, sym, ◌∙◌}
 use Rattle.std.proofs.lemmas.Result.{err_from_is_err_and}
-use Rattle.checks.proofs.Order.{refused_first, passed_first}
+use Rattle.checks.proofs.Order.{refused_first, passed_first, last_checked}
 use Rattle.checks.proofs.check_live_card.Goals as goal
 
 pub returns-in_err-check_running : goal.returns-in_err-check_running
@@ -11,5 +11,5 @@ returns-in_err-check_running c =
 
 pub returns : goal.returns
 returns c =
-    (rw c.no_live_card.ensures at c.last_check.ensures)
+    (rw c.no_live_card.ensures at (last_checked _ _ c.last_check.ensures))
     ∙ sym (passed_first _ _ _ refl c.check_running.ensures c.in_ok-check_running.was)

@@ -1,7 +1,7 @@
 -- Rests on the order of checks: those of the page, then that of the buffer.
 use mathlib.Core.Path.{refl, sym, ◌∙◌}
 use Rattle.std.proofs.lemmas.Result.{err_from_is_err_and}
-use Rattle.checks.proofs.Order.{refused_first, passed_first}
+use Rattle.checks.proofs.Order.{refused_first, passed_first, last_checked}
 use Rattle.refusals.proofs.fetch.Goals as goal
 
 pub returns-in_err-check_page : goal.returns-in_err-check_page
@@ -11,5 +11,5 @@ returns-in_err-check_page c =
 
 pub returns : goal.returns
 returns c =
-    c.last_check.ensures
+    last_checked _ _ c.last_check.ensures
     ∙ sym (passed_first _ _ _ refl c.check_page.ensures c.in_ok-check_page.was)

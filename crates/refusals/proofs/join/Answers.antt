@@ -2,7 +2,7 @@
 use mathlib.Core.Path.{refl, sym, ◌∙◌}
 use Rattle.directory.specs.Lent.{lent}
 use Rattle.std.proofs.lemmas.Result.{err_from_is_err_and}
-use Rattle.checks.proofs.Order.{refused_first, passed_first, first_refuses, first_passes}
+use Rattle.checks.proofs.Order.{refused_first, passed_first, first_refuses, first_passes, last_checked}
 use Rattle.checks.proofs.Passing.{memory_of, card_within}
 use Rattle.refusals.proofs.join.Goals as goal
 
@@ -24,6 +24,6 @@ any_open-requires c =
 
 pub returns : goal.returns
 returns c =
-    (rw c.any_open.ensures at c.last_check.ensures)
+    (rw c.any_open.ensures at (last_checked _ _ c.last_check.ensures))
     ∙ sym (passed_first _ _ _ refl c.check_card.ensures c.in_ok-check_card.was
     ∙ first_passes _ _ _ _ _ (sym c.is_live.ensures ∙ c.if-is_live.false))

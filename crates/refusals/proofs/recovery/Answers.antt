@@ -1,7 +1,7 @@
 -- Rests on the order of checks: those of a rack that fits, then its status.
 use mathlib.Core.Path.{refl, sym, ◌∙◌}
 use Rattle.std.proofs.lemmas.Result.{err_from_is_err_and}
-use Rattle.checks.proofs.Order.{refused_first, passed_first}
+use Rattle.checks.proofs.Order.{refused_first, passed_first, last_checked}
 use Rattle.refusals.proofs.recovery.Goals as goal
 
 pub returns-in_err-check_fitting : goal.returns-in_err-check_fitting
@@ -11,5 +11,5 @@ returns-in_err-check_fitting c =
 
 pub returns : goal.returns
 returns c =
-    (rw c.awaits_recovery.ensures at c.last_check.ensures)
+    (rw c.awaits_recovery.ensures at (last_checked _ _ c.last_check.ensures))
     ∙ sym (passed_first _ _ _ refl c.check_fitting.ensures c.in_ok-check_fitting.was)

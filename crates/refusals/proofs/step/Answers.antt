@@ -2,7 +2,7 @@
 use mathlib.Core.Path.{refl, sym, ◌∙◌}
 use Rattle.directory.specs.Lent.{lent}
 use Rattle.std.proofs.lemmas.Result.{err_from_is_err_and}
-use Rattle.checks.proofs.Order.{refused_first, passed_first}
+use Rattle.checks.proofs.Order.{refused_first, passed_first, last_checked}
 use Rattle.checks.proofs.Passing.{memory_of, live_card_within}
 use Rattle.refusals.proofs.step.Goals as goal
 
@@ -20,5 +20,5 @@ is_open_on-requires c =
 
 pub returns : goal.returns
 returns c =
-    (rw c.is_open_on.ensures at c.last_check.ensures)
+    (rw c.is_open_on.ensures at (last_checked _ _ c.last_check.ensures))
     ∙ sym (passed_first _ _ _ refl c.check_live_card.ensures c.in_ok-check_live_card.was)
