@@ -5,3 +5,4 @@ pub mod Counting
 pub mod Runs
 pub mod Writing
 pub mod Pages
+pub mod Room

@@ -2,19 +2,22 @@
 // their prices; how many words it has, and what becomes of it by the room that there is for it.
 #![tactic(auto)]
 
-ghost use Rattle.std.specs.Prelude.{◌≡◌, ◌*◌, ◌<◌, ◌≤◌, List, ℕ, length, Err};
+ghost use Rattle.std.specs.Prelude.{◌≡◌, ◌*◌, ◌≤◌, List, ℕ, length};
 ghost use Rattle.std.proofs.lemmas.List.Edits.{sets};
 ghost use Rattle.answer.specs.Outcome.{wrong_buffer};
-ghost use Rattle.answer.specs.Refusal.{number_of, place_of, outcome_of};
-ghost use Rattle.diff.specs.Format.{most_words};
+ghost use Rattle.answer.specs.Refusal.{outcome_of};
+ghost use Rattle.answer.specs.declared.Refusal.TheVariants.{WrongBuffer};
 ghost use Rattle.diff.specs.Room.{room_for, written_by};
 ghost use Rattle.diff.specs.Making.{made_diff};
+ghost use Rattle.encoder.specs.Room.{room_answer};
 
 use answer::Refusal;
 use diff::format::{END_WORD, MOST_WORDS, PAGE_WORDS};
 
 pub mod changes;
 pub mod page;
+#[cfg(test)]
+mod tests;
 
 // How many words the diff of the marked words has.
 pub fn diff_words(marks: &[u32]) -> usize
@@ -58,26 +61,48 @@ pub fn write_diff(prices: &[u32], marks: &[u32], words: usize, list: &mut [u32])
     list[end] = END_WORD + end as u32;
 }
 
+// What a caller has for a refusal: a `Refusal`, or its number alone; and which one is that of a wrong
+// buffer.
+pub trait BufferRefusal: Drop {
+    ghost of_buffer: { Self };
+
+    fn of_buffer() -> Self
+        ensures { result ≡ of_buffer };
+}
+
+impl BufferRefusal for Refusal {
+    ghost of_buffer = { WrongBuffer };
+
+    fn of_buffer() -> Refusal {
+        Refusal::WrongBuffer
+    }
+}
+
+impl BufferRefusal for u32 {
+    ghost of_buffer = { wrong_buffer };
+
+    fn of_buffer() -> u32 {
+        Refusal::WrongBuffer.number()
+    }
+}
+
 // What becomes of a diff of so many words by the room that a buffer has for it: its length, or a
 // refusal: the one that the caller has for a list over 512 words, else that of a wrong buffer.
-pub fn room_for(too_long: Refusal, words: usize, room: usize) -> Result<u64, Refusal>
-    ensures outcome { place_of too_long ≡ 0
-        → outcome_of result ≡ room_for (number_of too_long) words room }
-    ensures fits { words ≤ most_words
-        → outcome_of result ≡ room_for (number_of too_long) words room }
-    ensures long { most_words < words → result ≡ Err too_long }
+pub fn room_for<E: BufferRefusal>(too_long: E, words: usize, room: usize) -> Result<u64, E>
+    ensures { result ≡ room_answer too_long E.of_buffer words room }
 {
     if MOST_WORDS < words {
         return Err(too_long);
     }
     if room < words {
-        return Err(Refusal::WrongBuffer);
+        return Err(E::of_buffer());
     }
     Ok(words as u64)
 }
 
 // Writes the diff of the marked words to the front of a buffer: gives its length, or refusal 17.
 // The diff is sized before a word is written, so that a refusal changes none.
+#[tactic(auto, using(crate::proofs::Room::room_told))]
 pub fn write_marked(prices: &[u32], marks: &[u32], buffer: &mut [u32]) -> Result<u64, Refusal>
     requires marks_len_bound { length marks.now ≤ 64 }
     requires prices_len { length prices.now ≡ 32 * length marks.now }

@@ -57,7 +57,7 @@ fn merge_pages(first: &[u32], second: &[u32], list: &mut [u32; MOST_WORDS]) -> O
 // Makes one diff of two, which does what the first and then the second do: gives its length, or
 // refusal 7, 19 or 17. The words of the buffer past the diff are kept, and all of them if it is
 // refused.
-#[tactic(auto, using(std::proofs::lemmas::Grind::common_steps, laws::proofs::Lists::sets_front), unfolding(diff::specs::Merging::merge_diffs))]
+#[tactic(auto, using(std::proofs::lemmas::Grind::common_steps, laws::proofs::Lists::sets_front, encoder::proofs::Room::room_told), unfolding(diff::specs::Merging::merge_diffs))]
 pub fn merge(first: &[u32], second: &[u32], buffer: &mut [u32]) -> Result<u64, Refusal>
     ensures answer { outcome_of result
         ≡ merge_diffs first.now second.now (length buffer.old) }
