@@ -211,7 +211,9 @@ pub fn read_part(line: Option<Line>, input: &[u8], from: usize) -> Part
             let at = from + read;
             return Part { line, at };
         }
-        line = line.and_then(|line| line.read_byte(*b));
+        if let Some(open) = line {
+            line = open.read_byte(*b);
+        }
     }
     let at = from + rest.len();
     Part { line, at }
