@@ -55,9 +55,16 @@ module _ (place : Price → ℕ) (places pages : ℕ)
       marks_more ps (unmarked places) (length-replicate places false) on
       ∙ rw (get_or_unmarked places at) (or-false (any_at place ps at))
 
--- one price more
+-- to mark some prices and then the others is to mark all: what the walks over a list rest on, of which each marks by
+-- another place
+pub marked_in_two : (place : Price → ℕ) (had left : List Price) (marks : List Bool)
+    → marked place (had ++ left) marks ≡ marked place left (marked place had marks)
+unfolding marked
+marked_in_two place [] left marks = refl
+marked_in_two place (p ∷ had) left marks = marked_in_two place had left (set marks (place p) true)
+
+-- so one price more
 pub marked_next : (place : Price → ℕ) (ps : List Price) (p : Price) (marks : List Bool)
     → set (marked place ps marks) (place p) true ≡ marked place (ps ++ p ∷ []) marks
 unfolding marked
-marked_next place [] p marks = refl
-marked_next place (q ∷ ps) p marks = marked_next place ps p (set marks (place q) true)
+marked_next place ps p marks = sym (marked_in_two place ps (p ∷ []) marks)

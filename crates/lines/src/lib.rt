@@ -55,11 +55,11 @@ const LAST_WORD: u32 = 31;
 #[derive(Clone, Copy)]
 pub struct Line {
     // The fields that have ended: the letter, then numbers.
-    fields: [u32; FIELDS],
-    count: usize,
+    pub fields: [u32; FIELDS],
+    pub count: usize,
     // The field that is being read: its bytes so far, and the letter or the number that they make.
-    bytes: u32,
-    value: u32,
+    pub bytes: u32,
+    pub value: u32,
 }
 
 impl Line {
