@@ -2,10 +2,10 @@
 // would; inside, the rack is checked once.
 #![tactic(auto)]
 
-ghost use Rattle.std.specs.Prelude.{◌≡◌, false, not, ◌*◌, ◌<◌, length, get_or, min};
+ghost use Rattle.std.specs.Prelude.{◌≡◌, ℕ, List, false, not, ◌*◌, ◌<◌, length, get_or, min};
 ghost use Rattle.laws.specs.Search.{in_turn};
 ghost use Rattle.answer.specs.Refusal.{checked, outcome_of};
-ghost use Rattle.directory.specs.Directory.{backup_of, header_of};
+ghost use Rattle.directory.specs.Directory.{backup_of, directory_by, header_of};
 ghost use Rattle.directory.specs.Lent.{lent};
 ghost use Rattle.area.specs.Prelude.{page_size, MemoryOf};
 ghost use Rattle.protocol.specs.Checks.{first_refusal};
@@ -18,8 +18,8 @@ ghost use Rattle.batch.specs.Demand1.{BatchedDemand1};
 
 use answer::Refusal;
 use area::layout;
-use directory::Directory;
 use directory::lent::LentDirectory;
+use directory::{Directory, Header};
 
 // ---- steps
 
@@ -103,28 +103,31 @@ fn check_fetch(memory: &[u32], directory: LentDirectory<'_>, room: usize) -> Res
     checks::last_check(room != whole, Refusal::WrongBuffer)
 }
 
-// Copies a page into its part of the buffer, unless it is in motion: whether it is shown.
+// Copies a page into its part of the buffer, unless it is in motion: whether it is shown. It looks at
+// no secondary home.
 fn fetch_next(
     memory: &[u32],
-    directory: LentDirectory<'_>,
+    header: Header,
+    primary: &[u32],
     moving: &[bool; 64],
     page: u32,
     buffer: &mut [u32],
 ) -> bool
-    requires memory_of { MemoryOf directory.header (length memory.now) }
-    requires page_lt_pages { page < directory.header.pages }
-    requires home_lt_cards { get_or directory.primary.now page 0 < directory.header.cards }
-    requires buffer_len { length buffer.old ≡ page_size * directory.header.pages }
+    requires memory_of { MemoryOf header (length memory.now) }
+    requires page_bound { (page < header.pages) × (page < length primary.now) }
+    requires home_lt_cards { get_or primary.now page 0 < header.cards }
+    requires buffer_len { length buffer.old ≡ page_size * header.pages }
     ensures shown { result ≡ not (get_or moving.now page false) }
-    ensures buffer { buffer.new
-        ≡ words_after moving.now (lent directory.entry) memory.now page buffer.old }
+    ensures buffer { (secondary : List ℕ) → buffer.new
+        ≡ words_after moving.now (directory_by header primary.now secondary)
+        memory.now page buffer.old }
 {
     let at = page as usize;
     if moving[at] {
         return false;
     }
-    let size = layout::area_size(directory.header.pages);
-    let home = directory.primary[at] as usize;
+    let size = layout::area_size(header.pages);
+    let home = primary[at] as usize;
     let from = layout::PAGE_SIZE * at;
     let end = from + layout::PAGE_SIZE;
     area::pages::load_committed(memory, size, home, at, &mut buffer[from..end]);
@@ -148,8 +151,9 @@ fn fetch_pages(
         (show_next moving.now (lent directory.entry) memory.now)
         directory.entry.header.pages (fetched_pages buffer.old shown.old) }
 {
-    for page in 0..directory.header.pages {
-        shown[page as usize] = fetch_next(memory, directory, moving, page, buffer);
+    let header = directory.header;
+    for page in 0..header.pages {
+        shown[page as usize] = fetch_next(memory, header, directory.primary, moving, page, buffer);
     }
 }
 

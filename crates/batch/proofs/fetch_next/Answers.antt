@@ -10,7 +10,7 @@ use Rattle.protocol.specs.Fetch.{committed_page}
 use Rattle.batch.proofs.fetch_next.Goals as goal
 
 pub returns-then-moving-at : goal.returns-then-moving-at
-returns-then-moving-at c = record { shown = rw c.if-moving-at.true; buffer = rw c.if-moving-at.true }
+returns-then-moving-at c = record { shown = rw c.if-moving-at.true; buffer = λ secondary. rw c.if-moving-at.true }
 
 pub load_committed-requires : goal.load_committed-requires
 load_committed-requires c =
@@ -30,12 +30,12 @@ returns c =
     let pre = c.requires in
     let still = c.if-moving-at.false in
     let words = rw c.area_size-size.ensures at c.load_committed.ensures in
-    let size = area_size a.directory.header.pages in
+    let size = area_size a.header.pages in
     let area = area_in size pre.home_lt_cards pre.memory_of.2 in
     let run =
-    length-load_run size a.memory.now (get_or a.directory.primary.now a.page 0) (committed a.page) page_size area
+    length-load_run size a.memory.now (get_or a.primary.now a.page 0) (committed a.page) page_size area
     (omega arith) in
     record {
       shown = rw still;
-      buffer = rw still (sets_all_part a.buffer.now (page_size * a.page) page_size _ words run (omega arith));
+      buffer = λ secondary. rw still (sets_all_part a.buffer.now (page_size * a.page) page_size _ words run (omega arith));
     }

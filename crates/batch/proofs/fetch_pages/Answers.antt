@@ -14,7 +14,7 @@ fetch_next-requires c =
     let pre = c.requires in
     record {
       memory_of = pre.memory_of;
-      page_lt_pages = below;
+      page_bound = (below, omega arith);
       home_lt_cards = pre.primaries_in.below _ below;
       buffer_len = c.loop-page.invariant.0 ∙ pre.buffer_len;
     }
@@ -23,7 +23,7 @@ pub loop-page-preserved : goal.loop-page-preserved
 loop-page-preserved c =
     let next = c.fetch_next in
     let at = c.loop-page in
-    (search rules, rw (in_turn_more, ← at.invariant.1, next.ensures.shown, next.ensures.buffer))
+    (search rules, rw (in_turn_more, ← at.invariant.1, next.ensures.shown, next.ensures.buffer c.args.directory.secondary.now))
 
 pub returns : goal.returns
 returns c =
