@@ -43,7 +43,13 @@ fn make_steps(memory: &mut [u32], directory: Directory, card: u32, count: u32) -
         ≡ step_times directory (backup_of directory card) card result memory.old }
 {
     let backup = directory.backup(card) as usize;
-    release::make_steps(memory, directory.lend(), backup, card as usize, count)
+    let LentDirectory {
+        header,
+        primary,
+        secondary,
+    } = directory.lend();
+    let at = card as usize;
+    release::make_steps(memory, header, primary, secondary, backup, at, count)
 }
 
 // All steps asked for are made, or no release is open for the next one.

@@ -113,7 +113,12 @@ pub fn step_lent(
 {
     refusals::step(memory, directory, card)?;
     let backup = directory.header.backup(card) as usize;
-    release::step_release(memory, directory, backup, card as usize);
+    let LentDirectory {
+        header,
+        primary,
+        secondary,
+    } = directory;
+    release::step_release(memory, header, primary, secondary, backup, card as usize);
     Ok(0)
 }
 

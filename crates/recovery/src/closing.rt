@@ -26,12 +26,17 @@ fn run_to_close(memory: &mut [u32], directory: LentDirectory<'_>, before: Direct
     ensures { memory.new
         ≡ close_with (lent directory.entry) (backup_of before card) card memory.old }
 {
+    let LentDirectory {
+        header,
+        primary,
+        secondary,
+    } = directory;
     let at = card as usize;
-    let live = directory.header.live;
-    let size = area::layout::area_size(directory.header.pages);
+    let live = header.live;
+    let size = area::layout::area_size(header.pages);
     if area::releases::is_open(memory, size, &live, at) {
         let backup = before.backup(card) as usize;
-        release::make_steps(memory, directory, backup, at, ALL_STEPS);
+        release::make_steps(memory, header, primary, secondary, backup, at, ALL_STEPS);
     }
 }
 

@@ -4,12 +4,13 @@ use Rattle.std.specs.Prelude.{ℕ, ◌*◌, ◌+◌, ◌-◌, ◌%◌, ◌<◌, 
 use Rattle.std.specs.Prelude.{eqb}
 use Rattle.directory.specs.declared.Directory.{Directory}
 use Rattle.directory.specs.declared.Header.{Header}
-use Rattle.directory.specs.Directory.{primary_of, secondary_of}
+use Rattle.directory.specs.Directory.{directory_by, primary_of, secondary_of}
 use Rattle.area.specs.Prelude.{AreaIn, area_size}
 use Rattle.area.specs.Prelude.{list_size, open_release, open_list, steps_of}
 use Rattle.diff.specs.declared.Price.{Price}
 use Rattle.diff.specs.Reading.{read_well, read_diff}
 use Rattle.protocol.specs.Release.{size_of, open_prices, steps_in, Write, no_write, release_writes, make_write}
+use Rattle.release.specs.declared.view.DirectoryView.{DirectoryView}
 
 -- a card with a mark, and with an area in a memory of so many words
 pub record CardIn (live : List Bool) (words size card : ℕ) : Type 0 where
@@ -70,6 +71,10 @@ NumberedPrice pages m card n p = get_or (open_prices pages m card) n p ≡ p
 -- a table of the prices of the release open on a card
 pub record Listed (pages : ℕ) (m : List ℕ) (card : ℕ) (prices : List Price) : Type 0 where
   pub is : (n : ℕ) (p : Price) → NumberedPrice pages m card n (get_or prices n p)
+
+-- the directory that is viewed
+abbrev pub viewed : DirectoryView → Directory
+viewed v = directory_by v.header v.primary.now v.secondary.now
 
 -- the home of a page that the store of this number goes to, among those of one half: secondary if even, else primary
 abbrev pub home_at : Directory → ℕ → ℕ → ℕ

@@ -4,23 +4,24 @@
 
 ghost use Rattle.std.specs.Prelude.{◌≡◌, List, ℕ, ◌+◌, ◌<◌, ◌≤◌, length};
 ghost use Rattle.directory.specs.Directory.{directory_by};
-ghost use Rattle.directory.specs.Lent.{lent};
 ghost use Rattle.area.specs.Prelude.{AreaIn, store, area_size, steps_made, desk_size, list_size, page_size};
 ghost use Rattle.area.specs.Prelude.{pages_start, release_of, open_release, steps_of};
 ghost use Rattle.protocol.specs.Release.{open_prices, make_write, close, step_memory, steps_in};
 ghost use Rattle.protocol.specs.Opening.{open_memory};
-ghost use Rattle.release.specs.Stepping.{CardOf, HomesOf, GoodRelease, home_at, NumberedPrice};
+ghost use Rattle.release.specs.Stepping.{CardOf, HomesIn, HomesOf, GoodRelease, NumberedPrice};
+ghost use Rattle.release.specs.Stepping.{viewed, home_at};
 ghost use Rattle.release.specs.Phases.{NextRecord, InDesk, store_of, record_write};
 
 mod phase;
 mod steps;
+mod view;
 
 use area::{layout, numbers};
 use diff::Price;
 use directory::Header;
-use directory::lent::LentDirectory;
 use phase::{Phase, PriceStore, RecordStore};
 pub use steps::make_steps;
+use view::DirectoryView;
 
 // Copies list, desk and number to the card's own area and sets steps to 0.
 pub fn open_release(
@@ -62,9 +63,9 @@ pub fn close_release(memory: &mut [u32], size: usize, card: usize)
 // ---- the stores of a step
 
 // The home of a page that the store numbered `at` of one half goes to.
-fn home_at(directory: LentDirectory<'_>, page: usize, at: u32) -> u32
-    requires { page < 64 }
-    ensures { result ≡ home_at (lent directory.entry) at page }
+fn home_at(directory: DirectoryView<'_>, page: usize, at: u32) -> u32
+    requires { (page < length directory.primary.now) × (page < length directory.secondary.now) }
+    ensures { result ≡ home_at (viewed directory.entry) at page }
 {
     if at % 2 == 0 {
         directory.secondary[page]
@@ -74,14 +75,14 @@ fn home_at(directory: LentDirectory<'_>, page: usize, at: u32) -> u32
 }
 
 // One of the stores that write a half of the pages, dropped if the home is dead.
-fn step_price(memory: &mut [u32], directory: LentDirectory<'_>, p: Price, store: PriceStore)
-    requires homes_of { HomesOf (lent directory) (length memory.old) }
+fn step_price(memory: &mut [u32], directory: DirectoryView<'_>, p: Price, store: PriceStore)
+    requires homes_of { HomesOf (viewed directory) (length memory.old) }
     requires page_lt_pages { (p.page < directory.header.pages) × (p.word < page_size)
         × (store.half ≤ page_size) }
     ensures { memory.new
         ≡ make_write directory.entry.header.live (area_size directory.entry.header.pages)
         memory.old
-        (store_of (lent directory.entry) store.at store.half p) }
+        (store_of (viewed directory.entry) store.at store.half p) }
 {
     let header = directory.header;
     let page = p.page as usize;
@@ -175,21 +176,34 @@ fn find_price(memory: &[u32], size: usize, pages: u32, card: usize, n: u32) -> P
 }
 
 // Makes one step of the release that is open on a card.
-pub fn step_release(memory: &mut [u32], directory: LentDirectory<'_>, backup: usize, card: usize)
-    requires homes_of { HomesOf (lent directory) (length memory.old) }
-    requires card_in { CardOf directory.header (length memory.old) card }
-    requires backup_in { CardOf directory.header (length memory.old) backup }
-    requires good_release { GoodRelease directory.header.pages memory.old card }
+pub fn step_release(
+    memory: &mut [u32],
+    header: Header,
+    primary: &[u32],
+    secondary: &[u32],
+    backup: usize,
+    card: usize,
+)
+    requires homes_in { HomesIn header.live header.pages primary.now secondary.now
+        (length memory.old) }
+    requires card_in { CardOf header (length memory.old) card }
+    requires backup_in { CardOf header (length memory.old) backup }
+    requires good_release { GoodRelease header.pages memory.old card }
     ensures { memory.new
-        ≡ step_memory (lent directory.entry) backup memory.old card }
+        ≡ step_memory (directory_by header primary.now secondary.now) backup
+        memory.old card }
 {
-    let header = directory.header;
     let size = layout::area_size(header.pages);
     let k = steps::count_prices(memory, size, header.pages, card);
     let steps = area::releases::steps_made(memory, size, card);
     match phase::next_phase(k, steps) {
         Phase::StorePrice(store) => {
             let p = find_price(memory, size, header.pages, card, store.at / 2);
+            let directory = DirectoryView {
+                header,
+                primary,
+                secondary,
+            };
             step_price(memory, directory, p, store);
             count_steps(memory, size, card, steps, 1);
         }

@@ -1,18 +1,19 @@
 // Several steps of a release.
 ghost use Rattle.std.specs.Prelude.{◌≡◌, ℕ, ◌-◌, ◌<◌, ◌≤◌, length, min};
-ghost use Rattle.directory.specs.Lent.{lent};
+ghost use Rattle.directory.specs.Directory.{directory_by};
 ghost use Rattle.area.specs.Prelude.{AreaIn, area_size, pages_start, list_size, steps_of};
 ghost use Rattle.protocol.specs.Release.{steps_in};
 ghost use Rattle.protocol.specs.Recovery.{step_times};
-ghost use Rattle.release.specs.Stepping.{CardOf, HomesOf, GoodRelease, Counted, StepsLeft};
-ghost use Rattle.release.specs.Stepping.{Listed, left_of};
+ghost use Rattle.release.specs.Stepping.{CardOf, HomesIn, HomesOf, GoodRelease, Counted};
+ghost use Rattle.release.specs.Stepping.{StepsLeft, Listed, left_of, viewed};
 ghost use Rattle.release.specs.Phases.{RunNext};
 
 use crate::phase;
 use crate::phase::{Phase, PriceStore};
+use crate::view::DirectoryView;
 use area::layout;
 use diff::Price;
-use directory::lent::LentDirectory;
+use directory::Header;
 
 // How many prices the release open on a card has.
 pub(crate) fn count_prices(memory: &[u32], size: usize, pages: u32, card: usize) -> u32
@@ -40,18 +41,18 @@ fn steps_left(memory: &[u32], size: usize, card: usize, k: u32) -> u32
 // ends.
 fn store_prices(
     memory: &mut [u32],
-    directory: LentDirectory<'_>,
+    directory: DirectoryView<'_>,
     card: usize,
     first: PriceStore,
     count: u32,
     prices: &[Price; layout::LIST_SIZE],
 )
-    requires homes_of { HomesOf (lent directory) (length memory.old) }
+    requires homes_of { HomesOf (viewed directory) (length memory.old) }
     requires card_in { CardOf directory.header (length memory.old) card }
     requires run_next { RunNext directory.header.pages memory.old card first count }
     requires listed { Listed directory.header.pages memory.old card prices.now }
     ensures { (backup : ℕ) → memory.new
-        ≡ step_times (lent directory.entry) backup card count memory.old }
+        ≡ step_times (viewed directory.entry) backup card count memory.old }
 {
     let size = layout::area_size(directory.header.pages);
     let steps = area::releases::steps_made(memory, size, card);
@@ -74,18 +75,18 @@ struct OpenRelease {
 // Makes so many steps of a release, no more than it has left; its prices are listed.
 fn make_listed(
     memory: &mut [u32],
-    directory: LentDirectory<'_>,
+    directory: DirectoryView<'_>,
     release: OpenRelease,
     count: u32,
     prices: &[Price; layout::LIST_SIZE],
 )
-    requires homes_of { HomesOf (lent directory) (length memory.old) }
+    requires homes_of { HomesOf (viewed directory) (length memory.old) }
     requires card_in { CardOf directory.header (length memory.old) release.card }
     requires backup_in { CardOf directory.header (length memory.old) release.backup }
     requires steps_left { StepsLeft directory.header.pages memory.old release.card release.k count }
     requires listed { Listed directory.header.pages memory.old release.card prices.now }
     ensures { memory.new
-        ≡ step_times (lent directory.entry) release.backup release.card count memory.old }
+        ≡ step_times (viewed directory.entry) release.backup release.card count memory.old }
 {
     let header = directory.header;
     let size = layout::area_size(header.pages);
@@ -116,21 +117,24 @@ fn make_listed(
 // answers how many. Reads the list once.
 pub fn make_steps(
     memory: &mut [u32],
-    directory: LentDirectory<'_>,
+    header: Header,
+    primary: &[u32],
+    secondary: &[u32],
     backup: usize,
     card: usize,
     count: u32,
 ) -> u32
-    requires homes_of { HomesOf (lent directory) (length memory.old) }
-    requires card_in { CardOf directory.header (length memory.old) card }
-    requires backup_in { CardOf directory.header (length memory.old) backup }
-    requires good_release { GoodRelease directory.header.pages memory.old card }
-    ensures made { result ≡ min count (left_of directory.entry.header.pages memory.old card) }
+    requires homes_in { HomesIn header.live header.pages primary.now secondary.now
+        (length memory.old) }
+    requires card_in { CardOf header (length memory.old) card }
+    requires backup_in { CardOf header (length memory.old) backup }
+    requires good_release { GoodRelease header.pages memory.old card }
+    ensures made { result ≡ min count (left_of header.pages memory.old card) }
     ensures memory { memory.new
-        ≡ step_times (lent directory.entry) backup
+        ≡ step_times (directory_by header primary.now secondary.now) backup
         card result memory.old }
 {
-    let pages = directory.header.pages;
+    let pages = header.pages;
     let size = layout::area_size(pages);
     let none = Price {
         page: 0,
@@ -141,6 +145,11 @@ pub fn make_steps(
     let list = area::releases::open_list(memory, size, card);
     let k = reader::list_prices(list, pages, &mut prices);
     let steps = count.min(steps_left(memory, size, card, k));
+    let directory = DirectoryView {
+        header,
+        primary,
+        secondary,
+    };
     let release = OpenRelease { card, backup, k };
     make_listed(memory, directory, release, steps, &prices);
     steps

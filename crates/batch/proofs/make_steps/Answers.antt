@@ -7,7 +7,7 @@ make_steps-requires c =
     let lent = c.lend.ensures in
     rw (lent.header, lent.primary, lent.secondary)
     record {
-      homes_of = pre.homes_of;
+      homes_in = pre.homes_of;
       card_in = pre.card_in;
       backup_in = rw c.backup-backup.ensures pre.backup_in;
       good_release = pre.good_release;

@@ -34,7 +34,7 @@ step_release-requires c =
     let full = a.directory.homes_full in
     let homes = homes_in d m fit marks full.0 full.1 in
     record {
-      homes_of = homes;
+      homes_in = homes;
       card_in = own;
       backup_in = backup;
       good_release = fit.good a.card passed.below passed.is_open;

@@ -3,7 +3,7 @@
 use Prim.Native.Nat.{◌/◌}
 use mathlib.Core.Path.{sym, ◌∙◌}
 use native.Mathlib.Omega.{arith}
-use Rattle.directory.specs.Lent.{lent}
+use Rattle.directory.specs.Directory.{directory_by}
 use Rattle.release.proofs.Halves.{half_bounds}
 use Rattle.release.proofs.Prices.{price_at_lem}
 use Rattle.release.proofs.Stores.{price_due_lem, step_counted, step-closed}
@@ -15,7 +15,7 @@ step_price-requires-clause-page_lt_pages c =
     let store = c.in-StorePrice.store in
     let next = c.in-StorePrice.ensures in
     let price =
-    price_at_lem a.directory.header.pages a.memory.now a.card (store.at / 2) c.find_price-p.result
+    price_at_lem a.header.pages a.memory.now a.card (store.at / 2) c.find_price-p.result
     (omega (arith, next.within, c.count_prices-k.ensures.prices)) c.find_price-p.ensures
     in
     (price.is_on_page, price.in_page, (half_bounds next.from).1)
@@ -33,10 +33,10 @@ returns-in-StorePrice c =
     let next = c.in-StorePrice.ensures in
     let p = c.find_price-p.result in
     let price =
-    price_at_lem a.directory.header.pages m a.card (store.at / 2) p (omega (arith, next.within, counted.prices))
+    price_at_lem a.header.pages m a.card (store.at / 2) p (omega (arith, next.within, counted.prices))
     c.find_price-p.ensures
     in
-    let d = lent a.directory in
+    let d = directory_by a.header a.primary.now a.secondary.now in
     let due =
     price_due_lem d a.backup m a.card steps p store.at {first = next.first} {half = store.half} area counted.prices
     next.from next.is next.within price
@@ -52,5 +52,5 @@ returns-in-Close c =
     let made = rw size at c.steps_made-steps.ensures in
     (rw size at c.close_release.ensures)
     ∙ sym
-    (step-closed (lent a.directory) a.backup a.memory.now a.card c.steps_made-steps.result c.requires.card_in.area made
+    (step-closed (directory_by a.header a.primary.now a.secondary.now) a.backup a.memory.now a.card c.steps_made-steps.result c.requires.card_in.area made
     (omega (arith, c.in-Close.ensures, c.count_prices-k.ensures.prices)))

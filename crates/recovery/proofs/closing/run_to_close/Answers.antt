@@ -17,7 +17,7 @@ make_steps-requires c =
     let pre = c.requires in
     let opened = (rw c.area_size-size.ensures at (sym c.is_open.ensures)) ∙ c.if-is_open.true in
     record {
-      homes_of = pre.homes_of;
+      homes_in = pre.homes_of;
       card_in = pre.card_in;
       backup_in = rw c.backup-backup.ensures pre.backup_in;
       good_release = pre.good_release opened;

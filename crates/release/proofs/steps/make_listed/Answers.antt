@@ -1,7 +1,7 @@
 -- Rests on `StepsMade`: what is left of the steps gives what all of them give; the list stays, and so does its table.
 use mathlib.Core.Path.{sym, ◌∙◌}
 use native.Mathlib.Omega.{arith}
-use Rattle.directory.specs.Lent.{lent}
+use Rattle.release.specs.Stepping.{viewed}
 use Rattle.release.proofs.Callers.{card_kept}
 use Rattle.release.proofs.Stores.{step-closed}
 use Rattle.release.proofs.Left.{steps-one, steps_run, steps_all}
@@ -27,7 +27,7 @@ loop-left-preserved c =
     let size = c.area_size-size.ensures in
     let made = rw size at c.steps_made-steps.ensures in
     let some = far.some c.loop-left-test.true in
-    let closed = step-closed (lent a.directory) a.release.backup c.loop-left.memory a.release.card c.steps_made-steps.result
+    let closed = step-closed (viewed a.directory) a.release.backup c.loop-left.memory a.release.card c.steps_made-steps.result
     here.area made (omega (arith, c.in-Close.ensures, some.prices)) in
     steps-one card.eight card.area far c.loop-left-test.true ((rw size at c.close_release.ensures) ∙ sym closed)
 

@@ -18,7 +18,7 @@ steps_left-requires c =
     let pre = c.requires in
     let size = c.area_size-size.ensures in
     let count = rw c.open_list-list.ensures.result_value at c.list_prices-k.ensures.count in
-    let counted = listed_counts a.directory.header.pages _ a.memory.now a.card size pre.good_release count in
+    let counted = listed_counts a.header.pages _ a.memory.now a.card size pre.good_release count in
     rw size record {
       pages_start_le_size = (omega arith, pre.card_in.area);
       card_bound = (omega (arith, counted.under), counted.few);
@@ -30,16 +30,16 @@ make_listed-requires c =
     let pre = c.requires in
     let size = c.area_size-size.ensures in
     let stored = rw c.open_list-list.ensures.result_value at c.list_prices-k.ensures in
-    let counted = listed_counts a.directory.header.pages _ a.memory.now a.card size pre.good_release stored.count in
+    let counted = listed_counts a.header.pages _ a.memory.now a.card size pre.good_release stored.count in
     let left = rw size at c.steps_left.ensures in
     let least = c.min-steps.ensures in
     let table =
-    listed a.directory.header.pages _ a.memory.now a.card size (replicate list_size no_price) (search rules)
+    listed a.header.pages _ a.memory.now a.card size (replicate list_size no_price) (search rules)
     stored.prices (rw size pre.card_in.area) (omega arith)
     in
     let some = all_left {left = c.min-steps.result} counted (omega (arith, least, left, counted.prices)) in
     record {
-      homes_of = pre.homes_of;
+      homes_of = pre.homes_in;
       card_in = pre.card_in;
       backup_in = pre.backup_in;
       steps_left = some;
@@ -51,6 +51,6 @@ returns c =
     let a = c.args in
     let size = c.area_size-size.ensures in
     let count = rw c.open_list-list.ensures.result_value at c.list_prices-k.ensures.count in
-    let counted = listed_counts a.directory.header.pages _ a.memory.now a.card size c.requires.good_release count in
+    let counted = listed_counts a.header.pages _ a.memory.now a.card size c.requires.good_release count in
     let left = rw (size, counted.prices) at c.steps_left.ensures in
     record { made = rw left at c.min-steps.ensures; memory = c.make_listed.ensures }

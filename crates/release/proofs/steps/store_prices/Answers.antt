@@ -3,7 +3,7 @@ use Prim.Native.Nat.{◌+◌, ◌/◌}
 use mathlib.Core.Path.{refl}
 use native.Mathlib.Omega.{arith}
 use lib.ListN.{get_or}
-use Rattle.directory.specs.Lent.{lent}
+use Rattle.release.specs.Stepping.{viewed}
 use Rattle.protocol.proofs.release.Writes.{no_price}
 use Rattle.release.proofs.Halves.{half_bounds}
 use Rattle.release.proofs.Prices.{price_at_lem}
@@ -35,7 +35,7 @@ loop-made-preserved c =
     let run = c.requires.run_next in
     let steps = rw c.area_size-size.ensures at c.steps_made-steps.ensures in
     let at = a.first.at + c.loop-made.made in
-    prices_one (lent a.directory) {first = run.next.first} {half = a.first.half} (get_or a.prices.now (at / 2) no_price) at
+    prices_one (viewed a.directory) {first = run.next.first} {half = a.first.half} (get_or a.prices.now (at / 2) no_price) at
     card.eight card.area c.loop-made.invariant c.loop-made-test.true run.next.from (omega (arith, run.next.is, steps))
     (omega (arith, run.within, c.loop-made-test.true)) (c.requires.listed.is (at / 2) no_price) c.step_price.ensures
 
