@@ -6,10 +6,10 @@ use lib.Seq.{drop-cons}
 use Rattle.diff.specs.declared.Cursor.{Cursor}
 use Rattle.diff.specs.declared.Step.{Step}
 use Rattle.diff.specs.declared.Step.TheVariants.{Next, End, Fault}
-use Rattle.diff.specs.Reading.{word_step}
+use Rattle.diff.specs.Reading.{past_price, word_step}
 use Rattle.diff.specs.Prices.{priced_word, prices_after, prices_from, prices_of}
 use Rattle.diff.proofs.Reading.{WordCase, a_price, a_page, a_run, an_end, a_fault, word_case}
-use Rattle.diff.proofs.Derivation.{prices_word}
+use Rattle.diff.proofs.Derivation.{prices_word, step_price}
 use Rattle.reader.specs.Walking.{Walk, at_first, after_word, past_word, price_due, past_run, Reached, prices_left}
 use Rattle.reader.specs.Runs.{past_prices}
 use Rattle.reader.proofs.Turns.{prices_end}
@@ -82,6 +82,11 @@ module _ (pages : ℕ) (list : List ℕ) (at : Walk) (inside : at.index < length
       rw (drop-cons list at.index 0 inside, ← add-one at.index)
       (prices_word pages s at.index w (drop (at.index + 1) list) step refl
       ∙ ap (λ ps. price_due s w ++ ps) (after step))
+
+  -- a price only moves the walk on
+  pub past_due : 0 < s.due → past_word pages list at ≡ record { cursor = past_price s; index = at.index + 1 }
+  unfolding past_word
+  past_due due = rw (step_price pages s at.index w due)
 
   -- the word is a price, or none
   pub left_due : 0 < s.due → prices_left pages list at ≡ priced_word s w ∷ prices_left pages list (past_word pages list at)

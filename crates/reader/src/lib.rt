@@ -35,7 +35,7 @@ pub(crate) fn cursor() -> Cursor
 }
 
 // Past a price of a run.
-fn price_read(s: Cursor) -> Cursor
+pub(crate) fn price_read(s: Cursor) -> Cursor
     requires well_formed { WellFormed s }
     requires due_nonzero { 0 < s.due }
     ensures { result ≡ past_price s }

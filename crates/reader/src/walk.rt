@@ -100,18 +100,22 @@ impl<'a> Iterator for Prices<'a> {
 
     ghost remaining = { item_count left };
 
+    // A price that is due needs no reading, so it is given before the next word is read.
     fn next(&mut self) -> Option<Price> {
         while self.at.index < self.list.len() {
             let Walk { cursor, index } = self.at;
-            let price = self.list[index];
-            self.at = next_word(self.list, self.at, self.pages);
             if 0 < cursor.due {
+                self.at = Walk {
+                    cursor: crate::price_read(cursor),
+                    index: index + 1,
+                };
                 return Some(Price {
                     page: cursor.next - 1,
                     word: cursor.word,
-                    price,
+                    price: self.list[index],
                 });
             }
+            self.at = next_word(self.list, self.at, self.pages);
         }
         None
     }
