@@ -11,7 +11,7 @@ ghost use Rattle.diff.specs.Prices.{prices_of};
 ghost use Rattle.reader.specs.WellFormed.{WellFormed};
 ghost use Rattle.reader.specs.Runs.{past_prices, nth_due};
 
-mod walk;
+pub mod walk;
 
 use answer::Refusal;
 use diff::format::{END, KIND, MOST_WORDS, OFFSET, OFFSETS, PAGE, PAGE_WORDS, RUN};

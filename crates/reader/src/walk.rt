@@ -15,7 +15,7 @@ pub struct Walk {
 }
 
 // Before the first word.
-pub(crate) fn first_word() -> Walk
+pub fn first_word() -> Walk
     ensures { result ≡ at_first }
 {
     let cursor = crate::cursor();
@@ -23,7 +23,7 @@ pub(crate) fn first_word() -> Walk
 }
 
 // Past the next word of the list: at its end if the word ends the list or breaks a rule.
-fn next_word(list: &[u32], at: Walk, pages: u32) -> Walk
+pub fn next_word(list: &[u32], at: Walk, pages: u32) -> Walk
     requires well_formed { WellFormed at.cursor }
     requires index_in_bounds { at.index < length list.now }
     ensures { result ≡ past_word pages list.now at }
@@ -43,7 +43,7 @@ fn next_word(list: &[u32], at: Walk, pages: u32) -> Walk
 }
 
 // Past the prices that are due, and the next word: the prices are not looked at.
-pub(crate) fn next_run(list: &[u32], at: Walk, pages: u32) -> Walk
+pub fn next_run(list: &[u32], at: Walk, pages: u32) -> Walk
     requires well_formed { WellFormed at.cursor }
     requires index_in_bounds { (at.index < length list.now) × (length list.now ≤ 512) }
     requires prices_le_index { at.cursor.prices ≤ at.index }
