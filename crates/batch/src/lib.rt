@@ -157,9 +157,13 @@ fn fetch_pages(
         (show_next moving.now (lent directory.entry) memory.now)
         directory.entry.header.pages (fetched_pages buffer.old shown.old) }
 {
-    let header = directory.header;
+    let LentDirectory {
+        header,
+        primary,
+        secondary: _,
+    } = directory;
     for page in 0..header.pages {
-        shown[page as usize] = fetch_next(memory, header, directory.primary, moving, page, buffer);
+        shown[page as usize] = fetch_next(memory, header, primary, moving, page, buffer);
     }
 }
 

@@ -189,7 +189,8 @@ fn unfit_rack(memory: &[u32], directory: LentDirectory<'_>) -> bool
 
 // ---- the checks in order
 
-// A check after which none follows, by whatever its caller has for a refusal: a `Refusal`, or a number.
+// A check after which none follows, by whatever its caller has for a refusal: a `Refusal`, or its
+// number alone.
 pub fn last_check<E: Drop>(refuses: bool, refusal: E) -> Result<(), E>
     ensures { result ≡ cond refuses (Err refusal) (Ok tt) }
 {

@@ -61,8 +61,8 @@ pub fn write_diff(prices: &[u32], marks: &[u32], words: usize, list: &mut [u32])
     list[end] = END_WORD + end as u32;
 }
 
-// What a caller has for a refusal: a `Refusal`, or its number alone; and which one is that of a wrong
-// buffer.
+// What a caller has for a refusal, a `Refusal` or its number alone, and which of them is that of a
+// wrong buffer.
 pub trait BufferRefusal: Drop {
     ghost of_buffer: { Self };
 
