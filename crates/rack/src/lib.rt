@@ -253,8 +253,10 @@ pub fn join_card(memory: &mut [u32], directory: Directory, card: u32) -> Reply
         },
         Ok(()) => {
             recovery::join_memory(memory, directory, card);
+            let live = directory.mark_live(card).live;
+            let joined = Directory { live, ..directory };
             Reply {
-                directory: directory.mark_live(card),
+                directory: joined,
                 answer: Ok(0),
             }
         }
