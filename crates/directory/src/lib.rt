@@ -64,15 +64,13 @@ fn first_live(marks: &[bool; 8], from: u32, cards: u32) -> Option<u32>
 }
 
 impl Header {
-    // Whether a card is live; none past the marks is. The marks are copied apart, so that the header
-    // itself need not stand in memory, and tested by `&&`: by `get` each page of a rack with a dead
-    // card costs two tests more.
+    // Whether a card is live; none past the marks is. The marks are copied apart: of a header that is
+    // searched in place all of it would be stored at each call.
     pub fn is_live(self, card: u32) -> bool
         ensures { result ≡ live_at self.live card }
     {
         let live = self.live;
-        let at = card as usize;
-        at < live.len() && live[at]
+        live.get(card as usize).copied().unwrap_or(false)
     }
 
     // The next live card after it, or the number of cards if none is live.
