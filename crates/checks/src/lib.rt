@@ -76,14 +76,12 @@ fn bad_pages(directory: LentDirectory<'_>) -> bool
     requires { directory.header.pages ≤ 64 }
     ensures { result ≡ any_below (bad_page (lent directory.entry)) directory.entry.header.pages }
 {
-    numbers::any_below(directory.header.pages, |page| {
-        bad_page(
-            directory.header,
-            directory.primary,
-            directory.secondary,
-            page,
-        )
-    })
+    let LentDirectory {
+        header,
+        primary,
+        secondary,
+    } = directory;
+    numbers::any_below(header.pages, |page| bad_page(header, primary, secondary, page))
 }
 
 // Whether the homes of a page are the same, or one of them is no card of the rack.
