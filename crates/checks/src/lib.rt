@@ -81,7 +81,10 @@ fn bad_pages(directory: LentDirectory<'_>) -> bool
         primary,
         secondary,
     } = directory;
-    numbers::any_below(header.pages, |page| bad_page(header, primary, secondary, page))
+    numbers::any_below(
+        header.pages,
+        |page| bad_page(header, primary, secondary, page),
+    )
 }
 
 // Whether the homes of a page are the same, or one of them is no card of the rack.

@@ -31,7 +31,7 @@ fn copy_at_home(memory: &mut [u32], header: Header, home: u32, page: usize, from
 // consistency", makes the two copies of a page equal again in one of two cases (its second
 // paragraph): these are the two, in its order. There each home has one copy, here each has both.
 // `forward` says that the stamp and the done mark of the failed card's record differ.
-#[tactic(auto, using(crate::proofs::restoring::Cases::rolled_forward_lem, crate::proofs::restoring::Cases::rolled_back_lem))]
+#[tactic(auto, using(crate::proofs::restoring::Cases::rolled_forward_lem, crate::proofs::restoring::Cases::rolled_back_lem, crate::proofs::restoring::Homes::primary_card, crate::proofs::restoring::Homes::secondary_card))]
 fn restore_page(memory: &mut [u32], directory: LentDirectory<'_>, forward: bool, page: usize)
     requires homes_of { HomesOf (lent directory) (length memory.old) }
     requires page_lt_pages { page < directory.header.pages }
