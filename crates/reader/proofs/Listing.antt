@@ -1,6 +1,6 @@
 -- The prices of a list written out, one number for each: what is left to write, written from here on, gives the whole.
 use Rattle.std.specs.Prelude.{ℕ, zero, suc, ◌+◌, ◌≤◌, ◌<◌, ◌≡◌, List, [], ◌∷◌, ◌++◌, Bool, true, false, cond, length, get_or}
-use Rattle.std.specs.Prelude.{ltb, set}
+use Rattle.std.specs.Prelude.{ltb, set, map}
 use Rattle.laws.proofs.Prelude.{refl, ◌∙◌, arith}
 use native.Mathlib.Nat.{add-zero, zero-add}
 use lib.ListN.{length-append, length-set}
@@ -13,35 +13,39 @@ use Rattle.diff.specs.Reading.{start, word_step}
 use Rattle.diff.specs.Prices.{priced_word, prices_after, prices_from, prices_of}
 use Rattle.std.specs.Prelude.{Option, Some, None}
 use Rattle.std.specs.Iterator.{YieldsFirst, Yields}
-use Rattle.std.proofs.lemmas.List.{map-id}
+use Rattle.std.proofs.lemmas.List.{map-append, length-map, get_or-map, map-id}
 use Rattle.std.proofs.lemmas.Iterator.{YieldsList}
 use Rattle.std.proofs.lemmas.Iterator.Consumers.{YieldsList-from_first, YieldsList-turn, YieldsList-end}
 use Rattle.diff.proofs.Stored.{prices_on_pages, price_on_page}
 use Rattle.reader.specs.Left.{left}
+use Rattle.reader.specs.declared.table.LabeledPrice.{LabeledPrice}
+use Rattle.reader.specs.Labels.{labeled}
 use Rattle.reader.specs.declared.walk.Prices.{Prices}
 
 -- ---- written out
 
--- prices stored in order, and the next one behind them
-stored_next : (ps : List Price) (p : Price) (out : List Price) (i : ℕ)
+-- entries stored in order, and the next one behind them
+stored_next : {E : Type 0} (ps : List E) (p : E) (out : List E) (i : ℕ)
     → set (sets out i ps) (i + length ps) p ≡ sets out i (ps ++ p ∷ [])
 stored_next [] p out i = rw add-zero
 stored_next (q ∷ ps) p out i =
     let e : i + suc (length ps) ≡ suc i + length ps = omega arith in
     rw e (stored_next ps p (set out i q) (suc i))
 
-pub listed_next : (ps : List Price) (p : Price) (out : List Price)
-    → set (sets out 0 ps) (length ps) p ≡ sets out 0 (ps ++ p ∷ [])
-listed_next ps p out = rw zero-add at (stored_next ps p out 0)
+pub listed_next : (ps : List Price) (p : Price) (out : List LabeledPrice)
+    → set (sets out 0 (map labeled ps)) (length ps) (labeled p) ≡ sets out 0 (map labeled (ps ++ p ∷ []))
+listed_next ps p out =
+    let at_end = rw zero-add at (stored_next (map labeled ps) (labeled p) out 0) in
+    rw map-append (rw length-map at at_end)
 
 -- ---- what a caller finds in the list
 
-kept : (ps out : List Price) (i j : ℕ) (d : Price) → j < i → get_or (sets out i ps) j d ≡ get_or out j d
+kept : {E : Type 0} (ps out : List E) (i j : ℕ) (d : E) → j < i → get_or (sets out i ps) j d ≡ get_or out j d
 kept [] out i j d before = refl
 kept (p ∷ ps) out i j d before =
     kept ps (set out i p) (suc i) j d (omega arith) ∙ get_or-set_other out i j p d (λ same. omega arith)
 
-stored_at : (ps out : List Price) (i j : ℕ) (d : Price) → i + length ps ≤ length out → j < length ps
+stored_at : {E : Type 0} (ps out : List E) (i j : ℕ) (d : E) → i + length ps ≤ length out → j < length ps
     → get_or (sets out i ps) (i + j) d ≡ get_or ps j d
 stored_at [] out i j d fits within = absurd (omega arith)
 stored_at (p ∷ ps) out i zero d fits within =
@@ -51,9 +55,12 @@ stored_at (p ∷ ps) out i (suc j) d fits within =
     rw e (stored_at ps (set out i p) (suc i) j d (simp length-set (omega arith)) (omega arith))
 
 -- number j of the prices
-pub listed_at : (ps out : List Price) (j : ℕ) (d : Price) → length ps ≤ length out → j < length ps
-    → get_or (sets out 0 ps) j d ≡ get_or ps j d
-listed_at ps out j d fits within = rw zero-add at (stored_at ps out 0 j d (omega arith) within)
+pub listed_at : (ps : List Price) (out : List LabeledPrice) (j : ℕ) (p : Price) (d : LabeledPrice)
+    → length ps ≤ length out → j < length ps → get_or (sets out 0 (map labeled ps)) j d ≡ labeled (get_or ps j p)
+listed_at ps out j p d fits within =
+    let fits' : 0 + length (map labeled ps) ≤ length out = omega (arith, length-map ps labeled) in
+    (rw zero-add at (stored_at (map labeled ps) out 0 j d fits' (rw length-map within)))
+    ∙ get_or-map labeled ps j p d within
 
 -- there are no more prices than words
 few_from : (pages : ℕ) (ws : List ℕ) (index : ℕ) (s : Cursor) → length (prices_from pages ws index s) ≤ length ws

@@ -3,3 +3,4 @@ pub mod WellFormed
 pub mod Runs
 pub mod Walking
 pub mod Left
+pub mod Labels

@@ -2,7 +2,7 @@
 // area: the whole of it, one price, and its prices as a table.
 #![tactic(auto)]
 
-ghost use Rattle.std.specs.Prelude.{◌≡◌, ◌<◌, ◌≤◌, length, slice_get};
+ghost use Rattle.std.specs.Prelude.{◌≡◌, ◌<◌, ◌≤◌, length, map, slice_get};
 ghost use Rattle.std.proofs.lemmas.List.Edits.{sets};
 ghost use Rattle.answer.specs.Refusal.{outcome_of};
 ghost use Rattle.diff.specs.Reading.{start, past_price, page_step, run_step, end_step, word_step};
@@ -10,12 +10,15 @@ ghost use Rattle.diff.specs.Reading.{read_diff, check_diff};
 ghost use Rattle.diff.specs.Prices.{prices_of};
 ghost use Rattle.reader.specs.WellFormed.{WellFormed};
 ghost use Rattle.reader.specs.Runs.{past_prices, nth_due};
+ghost use Rattle.reader.specs.Labels.{labeled};
 
+pub mod table;
 pub mod walk;
 
 use answer::Refusal;
 use diff::format::{END, KIND, MOST_WORDS, OFFSET, OFFSETS, PAGE, PAGE_WORDS, RUN};
 use diff::{Cursor, Extent, Price, ReadError, Step};
+pub use table::LabeledPrice;
 pub use walk::Prices;
 
 // Where a page ends.
@@ -206,16 +209,17 @@ pub fn nth_price(list: &[u32], pages: u32, n: u32) -> Option<Price>
     None
 }
 
-// Lists the prices of a diff, from 0 on, and answers how many they are. What stands after the last
-// one is kept.
-pub fn list_prices(list: &[u32], pages: u32, prices: &mut [Price; 512]) -> u32
+// Lists the prices of a diff with their labels, from 0 on, and answers how many they are. What stands
+// after the last one is kept.
+pub fn list_prices(list: &[u32], pages: u32, prices: &mut [LabeledPrice; 512]) -> u32
     requires { length list.now ≤ 512 }
     ensures count { result ≡ length (prices_of pages list.now) }
-    ensures prices { prices.new ≡ sets prices.old 0 (prices_of pages list.now) }
+    ensures prices { prices.new
+        ≡ sets prices.old 0 (map labeled (prices_of pages list.now)) }
 {
     let mut count: usize = 0;
     for price in Prices::new(list, pages) {
-        prices[count] = price;
+        prices[count] = LabeledPrice::new(price);
         count += 1;
     }
     count as u32

@@ -12,8 +12,8 @@ use crate::phase;
 use crate::phase::{Phase, PriceStore};
 use crate::view::DirectoryView;
 use area::layout;
-use diff::Price;
 use directory::Header;
+use reader::LabeledPrice;
 
 // How many prices the release open on a card has.
 pub(crate) fn count_prices(memory: &[u32], size: usize, pages: u32, card: usize) -> u32
@@ -45,7 +45,7 @@ fn store_prices(
     card: usize,
     first: PriceStore,
     count: u32,
-    prices: &[Price; layout::LIST_SIZE],
+    prices: &[LabeledPrice; layout::LIST_SIZE],
 )
     requires homes_of { HomesOf (viewed directory) (length memory.old) }
     requires card_in { CardOf directory.header (length memory.old) card }
@@ -58,7 +58,7 @@ fn store_prices(
     let steps = area::releases::steps_made(memory, size, card);
     for made in 0..count {
         let at = first.at + made;
-        let p = prices[(at / 2) as usize];
+        let p = prices[(at / 2) as usize].unlabeled();
         crate::step_price(memory, directory, p, PriceStore { at, ..first });
     }
     crate::count_steps(memory, size, card, steps, count);
@@ -78,7 +78,7 @@ fn make_listed(
     directory: DirectoryView<'_>,
     release: OpenRelease,
     count: u32,
-    prices: &[Price; layout::LIST_SIZE],
+    prices: &[LabeledPrice; layout::LIST_SIZE],
 )
     requires homes_of { HomesOf (viewed directory) (length memory.old) }
     requires card_in { CardOf directory.header (length memory.old) release.card }
@@ -136,11 +136,7 @@ pub fn make_steps(
 {
     let pages = header.pages;
     let size = layout::area_size(pages);
-    let none = Price {
-        page: 0,
-        word: 0,
-        price: 0,
-    };
+    let none = LabeledPrice { label: 0, price: 0 };
     let mut prices = [none; layout::LIST_SIZE];
     let list = area::releases::open_list(memory, size, card);
     let k = reader::list_prices(list, pages, &mut prices);

@@ -4,6 +4,7 @@ use native.Mathlib.Omega.{arith}
 use lib.ListN.{replicate}
 use Rattle.area.specs.Layout.{list_size}
 use Rattle.protocol.proofs.release.Writes.{no_price}
+use Rattle.reader.specs.Labels.{labeled}
 use Rattle.release.proofs.Left.{listed_counts, all_left}
 use Rattle.release.proofs.Prices.{listed}
 use Rattle.release.proofs.steps.make_steps.Goals as goal
@@ -34,8 +35,8 @@ make_listed-requires c =
     let left = rw size at c.steps_left.ensures in
     let least = c.min-steps.ensures in
     let table =
-    listed a.header.pages _ a.memory.now a.card size (replicate list_size no_price) (search rules)
-    stored.prices (rw size pre.card_in.area) (omega arith)
+    listed a.header.pages _ a.memory.now a.card size pre.homes_in.few (replicate list_size (labeled no_price))
+    (search rules) stored.prices (rw size pre.card_in.area) (omega arith)
     in
     let some = all_left {left = c.min-steps.result} counted (omega (arith, least, left, counted.prices)) in
     record {

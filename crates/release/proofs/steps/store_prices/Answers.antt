@@ -5,6 +5,7 @@ use native.Mathlib.Omega.{arith}
 use lib.ListN.{get_or}
 use Rattle.release.specs.Stepping.{viewed}
 use Rattle.protocol.proofs.release.Writes.{no_price}
+use Rattle.reader.specs.Labels.{labeled, unlabeled}
 use Rattle.release.proofs.Halves.{half_bounds}
 use Rattle.release.proofs.Prices.{price_at_lem}
 use Rattle.release.proofs.Counting.{prices_none, prices_one, prices_all}
@@ -22,11 +23,13 @@ step_price-requires-clause-page_lt_pages c =
     let a = c.args in
     let run = c.requires.run_next in
     let n = (a.first.at + c.loop-made.made) / 2 in
+    let e = labeled no_price in
     let price =
-    price_at_lem a.directory.header.pages a.memory.now a.card n (get_or a.prices.now n no_price)
-    (omega (arith, run.within, c.loop-made-test.true)) (c.requires.listed.is n no_price)
+    price_at_lem a.directory.header.pages a.memory.now a.card n (unlabeled (get_or a.prices.now n e))
+    (omega (arith, run.within, c.loop-made-test.true))
+    (c.requires.listed.is n e (omega (arith, run.within, c.loop-made-test.true)))
     in
-    (price.is_on_page, price.in_page, (half_bounds run.next.from).1)
+    rw c.unlabeled-p.ensures (price.is_on_page, price.in_page, (half_bounds run.next.from).1)
 
 pub loop-made-preserved : goal.loop-made-preserved
 loop-made-preserved c =
@@ -35,9 +38,13 @@ loop-made-preserved c =
     let run = c.requires.run_next in
     let steps = rw c.area_size-size.ensures at c.steps_made-steps.ensures in
     let at = a.first.at + c.loop-made.made in
-    prices_one (viewed a.directory) {first = run.next.first} {half = a.first.half} (get_or a.prices.now (at / 2) no_price) at
-    card.eight card.area c.loop-made.invariant c.loop-made-test.true run.next.from (omega (arith, run.next.is, steps))
-    (omega (arith, run.within, c.loop-made-test.true)) (c.requires.listed.is (at / 2) no_price) c.step_price.ensures
+    let e = labeled no_price in
+    let p = unlabeled (get_or a.prices.now (at / 2) e) in
+    prices_one (viewed a.directory) {first = run.next.first} {half = a.first.half} p at card.eight card.area
+    c.loop-made.invariant c.loop-made-test.true run.next.from (omega (arith, run.next.is, steps))
+    (omega (arith, run.within, c.loop-made-test.true))
+    (c.requires.listed.is (at / 2) e (omega (arith, run.within, c.loop-made-test.true)))
+    (rw c.unlabeled-p.ensures at c.step_price.ensures)
 
 pub returns : goal.returns
 returns c backup =
