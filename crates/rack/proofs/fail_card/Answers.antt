@@ -15,4 +15,4 @@ returns-in-Ok c =
     let a = c.args in
     let reached = rw (c.lend.ensures.header, c.lend.ensures.primary, c.lend.ensures.secondary) at c.failure.ensures in
     rw (failure-accepted a.directory a.memory.now a.card reached c.in-Ok.is)
-    record { answer = refl; directory = rw c.mark_dead.ensures }
+    record { answer = refl; directory = rw c.mark_dead.ensures refl }

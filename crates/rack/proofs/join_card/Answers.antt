@@ -36,6 +36,6 @@ returns-in-Ok c =
     rw (join-accepted a.directory a.memory.now a.card reached c.in-Ok.is)
     record {
       answer = refl;
-      directory = rw c.mark_live.ensures;
+      directory = rw c.mark_live.ensures refl;
       memory = c.join_memory.ensures;
     }
