@@ -18,19 +18,19 @@ pub bounds-list-at : goal.bounds-list-at
 bounds-list-at c =
     omega (arith, run_in_list c.loop-left.invariant c.first_run-run.ensures)
 
-pub slice_bounds-store_run_in-end : goal.slice_bounds-store_run_in-end
-slice_bounds-store_run_in-end c =
+pub slice_bounds-store_prices-end : goal.slice_bounds-store_prices-end
+slice_bounds-store_prices-end c =
     omega (arith, run_on_page c.loop-left.invariant c.first_run-run.ensures)
 
-pub store_run_in-requires : goal.store_run_in-requires
-store_run_in-requires c =
+pub store_prices-requires : goal.store_prices-requires
+store_prices-requires c =
     simp (length-set, length-take, length-drop)
     (omega (arith, run_in_list c.loop-left.invariant c.first_run-run.ensures))
 
 pub loop-left-preserved : goal.loop-left-preserved
 loop-left-preserved c =
     run_written c.loop-left.invariant c.first_run-run.ensures c.run_word.ensures
-    c.store_run_in.ensures c.marks_behind-left.ensures
+    c.store_prices.ensures c.marks_behind-left.ensures
 
 pub returns : goal.returns
 returns c =
