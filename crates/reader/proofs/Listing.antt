@@ -32,9 +32,14 @@ stored_next (q ∷ ps) p out i =
     let e : i + suc (length ps) ≡ suc i + length ps = omega arith in
     rw e (stored_next ps p (set out i q) (suc i))
 
-pub listed_next : (ps : List Price) (p : Price) (out : List LabeledPrice)
+pub listed_next : (ps : List Price) (p : Price) (out : List Price)
+    → set (sets out 0 ps) (length ps) p ≡ sets out 0 (ps ++ p ∷ [])
+listed_next ps p out = rw zero-add at (stored_next ps p out 0)
+
+-- and beside its label
+pub labeled_next : (ps : List Price) (p : Price) (out : List LabeledPrice)
     → set (sets out 0 (map labeled ps)) (length ps) (labeled p) ≡ sets out 0 (map labeled (ps ++ p ∷ []))
-listed_next ps p out =
+labeled_next ps p out =
     let at_end = rw zero-add at (stored_next (map labeled ps) (labeled p) out 0) in
     rw map-append (rw length-map at at_end)
 
@@ -55,9 +60,14 @@ stored_at (p ∷ ps) out i (suc j) d fits within =
     rw e (stored_at ps (set out i p) (suc i) j d (simp length-set (omega arith)) (omega arith))
 
 -- number j of the prices
-pub listed_at : (ps : List Price) (out : List LabeledPrice) (j : ℕ) (p : Price) (d : LabeledPrice)
+pub listed_at : (ps out : List Price) (j : ℕ) (d : Price) → length ps ≤ length out → j < length ps
+    → get_or (sets out 0 ps) j d ≡ get_or ps j d
+listed_at ps out j d fits within = rw zero-add at (stored_at ps out 0 j d (omega arith) within)
+
+-- and of those with labels
+pub labeled_at : (ps : List Price) (out : List LabeledPrice) (j : ℕ) (p : Price) (d : LabeledPrice)
     → length ps ≤ length out → j < length ps → get_or (sets out 0 (map labeled ps)) j d ≡ labeled (get_or ps j p)
-listed_at ps out j p d fits within =
+labeled_at ps out j p d fits within =
     let fits' : 0 + length (map labeled ps) ≤ length out = omega (arith, length-map ps labeled) in
     (rw zero-add at (stored_at (map labeled ps) out 0 j d fits' (rw length-map within)))
     ∙ get_or-map labeled ps j p d within

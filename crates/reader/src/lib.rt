@@ -13,6 +13,8 @@ ghost use Rattle.reader.specs.Runs.{past_prices, nth_due};
 ghost use Rattle.reader.specs.Labels.{labeled};
 
 pub mod table;
+#[cfg(test)]
+mod tests;
 pub mod walk;
 
 use answer::Refusal;
@@ -209,9 +211,24 @@ pub fn nth_price(list: &[u32], pages: u32, n: u32) -> Option<Price>
     None
 }
 
-// Lists the prices of a diff with their labels, from 0 on, and answers how many they are. What stands
-// after the last one is kept.
-pub fn list_prices(list: &[u32], pages: u32, prices: &mut [LabeledPrice; 512]) -> u32
+// Lists the prices of a diff, from 0 on, and answers how many they are. What stands after the last
+// one is kept.
+pub fn list_prices(list: &[u32], pages: u32, prices: &mut [Price; 512]) -> u32
+    requires { length list.now ≤ 512 }
+    ensures count { result ≡ length (prices_of pages list.now) }
+    ensures prices { prices.new ≡ sets prices.old 0 (prices_of pages list.now) }
+{
+    let mut count: usize = 0;
+    for price in Prices::new(list, pages) {
+        prices[count] = price;
+        count += 1;
+    }
+    count as u32
+}
+
+// The same with their labels, which takes 8 bytes a price in place of 12. A label has 32 bits: of a page
+// from 2^27 on, which no rack has, it loses the number.
+pub fn list_labeled_prices(list: &[u32], pages: u32, prices: &mut [LabeledPrice; 512]) -> u32
     requires { length list.now ≤ 512 }
     ensures count { result ≡ length (prices_of pages list.now) }
     ensures prices { prices.new

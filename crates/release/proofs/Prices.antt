@@ -1,7 +1,9 @@
 -- The prices of an open release: how many there are, the one that is found by its number, and a table of them.
-use Rattle.std.specs.Prelude.{ℕ, zero, suc, ◌/◌, ◌%◌, ◌<◌, ◌≤◌, ◌≡◌, List, [], ◌∷◌, length, get_or, map}
-use Rattle.std.specs.Prelude.{Ok, Err, slice_get}
-use Rattle.laws.proofs.Prelude.{refl, sym, ap, ◌∙◌, arith}
+use Rattle.std.specs.Prelude.{ℕ, zero, suc, ◌/◌, ◌%◌, ◌<◌, ◌≤◌, ◌≡◌, List, [], ◌∷◌, Bool, true, false, length, get_or}
+use Rattle.std.specs.Prelude.{ltb, set, map, Ok, Err, slice_get}
+use Rattle.std.proofs.lemmas.List.{map-set, length-map}
+use Rattle.laws.proofs.Prelude.{refl, sym, ap, ◌∙◌, arith, ltb-true, ltb-false}
+use lib.ListN.{get_or-eq_default, get_or-map}
 use lib.Seq.{sets}
 use Rattle.laws.proofs.Lists.{get_or_within}
 use Rattle.area.specs.Prelude.{AreaIn, area_size, list_start, list_size, pages_start, page_size, open_list}
@@ -12,7 +14,7 @@ use Rattle.diff.specs.declared.ReadError.{ReadError}
 use Rattle.diff.specs.Reading.{Verdict, read_well, start, read_diff}
 use Rattle.diff.specs.Prices.{label_of, prices_of}
 use Rattle.diff.proofs.Derivation.{not_good, good_prices}
-use Rattle.diff.proofs.Stored.{good_counts, good_few, prices_on_pages, price_on_page}
+use Rattle.diff.proofs.Stored.{good_counts, good_few, OnPages, prices_on_pages, price_on_page}
 use Rattle.protocol.specs.Release.{open_prices}
 use Rattle.protocol.proofs.release.Writes.{no_price}
 use Rattle.reader.specs.declared.table.LabeledPrice.{LabeledPrice}
@@ -82,6 +84,34 @@ module _ (pages : ℕ) (m : List ℕ) (card : ℕ) where
 
 -- ---- a table of prices
 
+module _ (pages size : ℕ) (m : List ℕ) (card : ℕ) (sized : size ≡ area_size pages) (out : List Price)
+    (long : length out ≡ list_size) {prices : List Price}
+    (is : prices ≡ sets out 0 (prices_of pages (open_list size m card))) where
+  abbrev ps : List Price
+  ps = open_prices pages m card
+
+  listed_price : AreaIn (length m) size card → pages_start ≤ size → (n : ℕ) (p : Price) (below : Bool)
+      → ltb n (length ps) ≡ below → NumberedPrice pages m card n (get_or prices n p)
+  unfolding open_list
+  listed_price area big n p true test =
+      let within = ltb-true n (length ps) test in
+      let run = length-load_run size m card list_start list_size area (omega arith) in
+      let most = few_prices pages (open_list (area_size pages) m card) in
+      let few : length ps ≤ list_size = omega (arith, rw sized at run, most) in
+      let same = ap (λ (xs : List Price). get_or xs n p) (rw sized at is) ∙ listed_at ps out n p (omega arith) within in
+      rw same (get_or_within ps n (get_or ps n p) p within)
+  listed_price area big n p false test = get_or-eq_default ps _ (ltb-false n (length ps) test)
+
+  pub listed : AreaIn (length m) size card → pages_start ≤ size → Listed pages m card prices
+  listed area big = record { is = λ n p. listed_price area big n p (ltb n (length ps)) refl }
+
+-- a list that stays keeps its table
+pub listed_kept : {pages c : ℕ} {m m' : List ℕ} {prices : List Price} → Listed pages m c prices
+    → open_list (area_size pages) m' c ≡ open_list (area_size pages) m c → Listed pages m' c prices
+listed_kept table same = record { is = λ n p. rw same (table.is n p) }
+
+-- ---- a table of prices beside their labels
+
 -- the label of a price gives its page and word back
 label_back : (p : Price) → p.page < 64 → p.word < page_size → unlabeled (labeled p) ≡ p
 label_back p on_page in_page =
@@ -89,32 +119,31 @@ label_back p on_page in_page =
     let word : label_of p % 0x100000000 % 32 ≡ p.word = omega arith in
     rw (page, word)
 
+-- and so do the labels of prices
+labels_back : (pages : ℕ) (ps : List Price) → pages ≤ 64 → OnPages pages ps → map unlabeled (map labeled ps) ≡ ps
+labels_back pages [] few on = refl
+labels_back pages (p ∷ ps) few on = rw (label_back p (omega (arith, on.0)) on.1, labels_back pages ps few on.2)
+
+-- labels stored in order stand for prices stored in order
+unlabeled_sets : (out es : List LabeledPrice) (i : ℕ)
+    → map unlabeled (sets out i es) ≡ sets (map unlabeled out) i (map unlabeled es)
+unlabeled_sets out [] i = refl
+unlabeled_sets out (e ∷ es) i = unlabeled_sets (set out i e) es (suc i) ∙ rw (map-set unlabeled out i e)
+
 module _ (pages size : ℕ) (m : List ℕ) (card : ℕ) (sized : size ≡ area_size pages) (few : pages ≤ 64)
     (out : List LabeledPrice) (long : length out ≡ list_size) {prices : List LabeledPrice}
     (is : prices ≡ sets out 0 (map labeled (prices_of pages (open_list size m card)))) where
-  abbrev ps : List Price
-  ps = open_prices pages m card
+  -- it is a table of the prices that its labels stand for
+  pub labels_listed : AreaIn (length m) size card → pages_start ≤ size → Listed pages m card (map unlabeled prices)
+  labels_listed =
+      let list = open_list size m card in
+      let table : map unlabeled prices ≡ sets (map unlabeled out) 0 (prices_of pages list) =
+      rw is (unlabeled_sets out (map labeled (prices_of pages list)) 0
+      ∙ rw (labels_back pages (prices_of pages list) few (prices_on_pages pages list))) in
+      listed pages size m card sized (map unlabeled out) (length-map out unlabeled ∙ long) table
 
-  listed_price : AreaIn (length m) size card → pages_start ≤ size → (n : ℕ) (e : LabeledPrice) → n < length ps
-      → NumberedPrice pages m card n (unlabeled (get_or prices n e))
-  unfolding open_list
-  listed_price area big n e within =
-      let run = length-load_run size m card list_start list_size area (omega arith) in
-      let most = few_prices pages (open_list (area_size pages) m card) in
-      let fits : length ps ≤ list_size = omega (arith, rw sized at run, most) in
-      let p = get_or ps n no_price in
-      let on = price_on_page pages ps n no_price (prices_on_pages pages (open_list (area_size pages) m card)) within in
-      let entry =
-      ap (λ (xs : List LabeledPrice). get_or xs n e) (rw sized at is)
-      ∙ listed_at ps out n no_price e (omega arith) within
-      in
-      let same = ap unlabeled entry ∙ label_back p (omega (arith, on.0)) on.1 in
-      rw same (get_or_within ps n p no_price within)
-
-  pub listed : AreaIn (length m) size card → pages_start ≤ size → Listed pages m card prices
-  listed area big = record { is = λ n e. listed_price area big n e }
-
--- a list that stays keeps its table
-pub listed_kept : {pages c : ℕ} {m m' : List ℕ} {prices : List LabeledPrice} → Listed pages m c prices
-    → open_list (area_size pages) m' c ≡ open_list (area_size pages) m c → Listed pages m' c prices
-listed_kept table same = record { is = λ n e within. rw same (table.is n e (rw same at within)) }
+-- an entry of such a table is a price of the release
+pub entry_listed : {pages card : ℕ} {m : List ℕ} (prices : List LabeledPrice)
+    → Listed pages m card (map unlabeled prices) → (n : ℕ) (e : LabeledPrice)
+    → NumberedPrice pages m card n (unlabeled (get_or prices n e))
+entry_listed prices table n e = rw (get_or-map unlabeled prices n e) at (table.is n (unlabeled e))

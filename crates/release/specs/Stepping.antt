@@ -10,8 +10,6 @@ use Rattle.area.specs.Prelude.{list_size, open_release, open_list, steps_of}
 use Rattle.diff.specs.declared.Price.{Price}
 use Rattle.diff.specs.Reading.{read_well, read_diff}
 use Rattle.protocol.specs.Release.{size_of, open_prices, steps_in, Write, no_write, release_writes, make_write}
-use Rattle.reader.specs.declared.table.LabeledPrice.{LabeledPrice}
-use Rattle.reader.specs.Labels.{unlabeled}
 use Rattle.release.specs.declared.view.DirectoryView.{DirectoryView}
 
 -- a card with a mark, and with an area in a memory of so many words
@@ -71,9 +69,8 @@ abbrev pub NumberedPrice : ℕ → List ℕ → ℕ → ℕ → Price → Type 0
 NumberedPrice pages m card n p = get_or (open_prices pages m card) n p ≡ p
 
 -- a table of the prices of the release open on a card
-pub record Listed (pages : ℕ) (m : List ℕ) (card : ℕ) (prices : List LabeledPrice) : Type 0 where
-  pub is : (n : ℕ) (e : LabeledPrice) → n < length (open_prices pages m card)
-      → NumberedPrice pages m card n (unlabeled (get_or prices n e))
+pub record Listed (pages : ℕ) (m : List ℕ) (card : ℕ) (prices : List Price) : Type 0 where
+  pub is : (n : ℕ) (p : Price) → NumberedPrice pages m card n (get_or prices n p)
 
 -- the directory that is viewed
 abbrev pub viewed : DirectoryView → Directory

@@ -1,9 +1,10 @@
 // Several steps of a release.
-ghost use Rattle.std.specs.Prelude.{◌≡◌, ℕ, ◌-◌, ◌<◌, ◌≤◌, length, min};
+ghost use Rattle.std.specs.Prelude.{◌≡◌, ℕ, ◌-◌, ◌<◌, ◌≤◌, length, map, min};
 ghost use Rattle.directory.specs.Directory.{directory_by};
 ghost use Rattle.area.specs.Prelude.{AreaIn, area_size, pages_start, list_size, steps_of};
 ghost use Rattle.protocol.specs.Release.{steps_in};
 ghost use Rattle.protocol.specs.Recovery.{step_times};
+ghost use Rattle.reader.specs.Labels.{unlabeled};
 ghost use Rattle.release.specs.Stepping.{CardOf, HomesIn, HomesOf, GoodRelease, Counted};
 ghost use Rattle.release.specs.Stepping.{StepsLeft, Listed, left_of, viewed};
 ghost use Rattle.release.specs.Phases.{RunNext};
@@ -50,7 +51,8 @@ fn store_prices(
     requires homes_of { HomesOf (viewed directory) (length memory.old) }
     requires card_in { CardOf directory.header (length memory.old) card }
     requires run_next { RunNext directory.header.pages memory.old card first count }
-    requires listed { Listed directory.header.pages memory.old card prices.now }
+    requires listed { Listed directory.header.pages memory.old card
+        (map unlabeled prices.now) }
     ensures { (backup : ℕ) → memory.new
         ≡ step_times (viewed directory.entry) backup card count memory.old }
 {
@@ -84,7 +86,8 @@ fn make_listed(
     requires card_in { CardOf directory.header (length memory.old) release.card }
     requires backup_in { CardOf directory.header (length memory.old) release.backup }
     requires steps_left { StepsLeft directory.header.pages memory.old release.card release.k count }
-    requires listed { Listed directory.header.pages memory.old release.card prices.now }
+    requires listed { Listed directory.header.pages memory.old release.card
+        (map unlabeled prices.now) }
     ensures { memory.new
         ≡ step_times (viewed directory.entry) release.backup release.card count memory.old }
 {
@@ -139,7 +142,7 @@ pub fn make_steps(
     let none = LabeledPrice { label: 0, price: 0 };
     let mut prices = [none; layout::LIST_SIZE];
     let list = area::releases::open_list(memory, size, card);
-    let k = reader::list_prices(list, pages, &mut prices);
+    let k = reader::list_labeled_prices(list, pages, &mut prices);
     let steps = count.min(steps_left(memory, size, card, k));
     let directory = DirectoryView {
         header,

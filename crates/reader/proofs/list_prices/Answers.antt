@@ -29,7 +29,7 @@ loop-price-preserved c =
     let far = c.loop-price.invariant in
     record {
       counted = simp length-append (omega arith);
-      listed = rw (far.counted, far.listed, c.new.ensures) (listed_next c.loop-price.yielded _ _);
+      listed = rw (far.counted, far.listed) (listed_next c.loop-price.yielded _ _);
     }
 
 pub overflow_cast-result : goal.overflow_cast-result

@@ -7,7 +7,7 @@ use Rattle.release.specs.Stepping.{viewed}
 use Rattle.protocol.proofs.release.Writes.{no_price}
 use Rattle.reader.specs.Labels.{labeled, unlabeled}
 use Rattle.release.proofs.Halves.{half_bounds}
-use Rattle.release.proofs.Prices.{price_at_lem}
+use Rattle.release.proofs.Prices.{price_at_lem, entry_listed}
 use Rattle.release.proofs.Counting.{prices_none, prices_one, prices_all}
 use Rattle.release.proofs.steps.store_prices.Goals as goal
 
@@ -27,7 +27,7 @@ step_price-requires-clause-page_lt_pages c =
     let price =
     price_at_lem a.directory.header.pages a.memory.now a.card n (unlabeled (get_or a.prices.now n e))
     (omega (arith, run.within, c.loop-made-test.true))
-    (c.requires.listed.is n e (omega (arith, run.within, c.loop-made-test.true)))
+    (entry_listed _ c.requires.listed n e)
     in
     rw c.unlabeled-p.ensures (price.is_on_page, price.in_page, (half_bounds run.next.from).1)
 
@@ -43,7 +43,7 @@ loop-made-preserved c =
     prices_one (viewed a.directory) {first = run.next.first} {half = a.first.half} p at card.eight card.area
     c.loop-made.invariant c.loop-made-test.true run.next.from (omega (arith, run.next.is, steps))
     (omega (arith, run.within, c.loop-made-test.true))
-    (c.requires.listed.is (at / 2) e (omega (arith, run.within, c.loop-made-test.true)))
+    (entry_listed _ c.requires.listed (at / 2) e)
     (rw c.unlabeled-p.ensures at c.step_price.ensures)
 
 pub returns : goal.returns
